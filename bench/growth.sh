@@ -1,0 +1,46 @@
+#!/bin/sh
+# What a direct voucher costs over a short and a long history, on the built program: microseconds a voucher and a look
+# after 1,000 and after 100,000 accepted entries, vouchers a second, and bytes of memory an entry.
+top=$(cd "$(dirname "$0")/.." && pwd)
+"$top/cityfund" > /dev/null 2>&1 # builds it where it is out of date
+scratch=$(mktemp -d) || exit 1
+trap 'rm -rf "$scratch"' EXIT
+cp "$top/examples/rivertown/chart.toml" "$scratch/chart.toml"
+cd "$scratch" && python3 - "$top/crates/cityfund/out/cityfund" <<'PY'
+import subprocess, sys, threading, time
+
+ADOPT = ('{"call":"adopt","desk":1,"key":"b","on":"2025-07-01","fund":1,"year":2026,'
+         '"lines":[{"line":3,"amount":1000000000}],"estimates":[]}\n')
+LOOK = '{"call":"line","line":3,"year":2026}\n'
+BATCH = 20_000
+
+def vouchers(first, count):
+    return [('{"call":"voucher","desk":4,"key":"v%d","on":"2025-07-05","vendor":77,'
+             '"items":[{"fund":1,"dept":20,"object":510,"amount":1}]}\n' % number) for number in range(first, first + count)]
+
+def talk(desk, lines):
+    text = "".join(lines).encode()
+    start = time.time()
+    writer = threading.Thread(target=lambda: (desk.stdin.write(text), desk.stdin.flush()))
+    writer.start()
+    replies = [desk.stdout.readline() for _ in lines]
+    writer.join()
+    return time.time() - start, sum(b'"ok"' in reply for reply in replies)
+
+def resident(desk):
+    with open(f"/proc/{desk.pid}/statm") as pages:
+        return int(pages.read().split()[1]) * 4096
+
+for entries in (1_000, 100_000):
+    desk = subprocess.Popen([sys.argv[1], "desk"], stdin=subprocess.PIPE, stdout=subprocess.PIPE)
+    talk(desk, [ADOPT])
+    before = resident(desk)
+    talk(desk, vouchers(0, entries - 1))
+    grown = (resident(desk) - before) / entries
+    seconds, accepted = talk(desk, vouchers(entries, BATCH))
+    look, _ = talk(desk, [LOOK] * BATCH)
+    desk.stdin.close()
+    status = desk.wait()
+    print(f"after {entries:,} entries: a voucher {seconds / BATCH * 1e6:.1f} us ({BATCH / seconds:,.0f} a second, {accepted:,} accepted), "
+          f"a look {look / BATCH * 1e6:.1f} us, {grown:,.0f} bytes an entry, status {status}")
+PY

@@ -1,0 +1,5 @@
+pub mod Calendar
+pub mod Causes
+pub mod Memory
+pub mod Money
+pub mod Sinks

@@ -1,0 +1,6 @@
+-- Amounts of money, in cents.
+use Rattle.std.specs.Prelude.{ℕ, Bool, ◌&&◌, nat_le}
+
+-- an amount that a call may have: from 1 to 10^13 cents (own rule)
+abbrev pub is_amount : ℕ → Bool
+is_amount n = nat_le 1 n && nat_le n 10000000000000

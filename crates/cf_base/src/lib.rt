@@ -1,0 +1,16 @@
+//! What every crate of the office stands on: amounts, civil days and months, and the outside as traits.
+#![tactic(auto)]
+
+mod calendar;
+mod memory;
+mod money;
+mod outside;
+mod standard;
+mod statement;
+
+pub use calendar::{Day, Month, day_text, fiscal_year, month_of, month_text, read_day, read_month};
+pub use memory::{MemSink, MemSource};
+pub use money::{Cents, MOST_CENTS};
+pub use outside::{Failed, Sink, Source};
+pub use standard::{FileSource, StdSink, StdSource};
+pub use statement::Kind;

@@ -1,0 +1,98 @@
+-- Readings of an act: what the rules and sums ask of it, without going through its kinds.
+use Rattle.std.specs.Prelude.{ℕ, ◌+◌, Bool, true, false, if◌then◌else◌, ◌==◌, ◌||◌, ◌&&◌, List, [], ◌∷◌, Option, Some, None, ℤ, pos}
+use Rattle.cf_base.specs.declared.calendar.Month.{Month}
+use Rattle.cf_calls.specs.declared.acts.Act.{Act}
+use Rattle.cf_calls.specs.declared.acts.Act.TheVariants.{Adopt, Amend, Transfer, Requisition, Withdraw, Order, ChangeOrder, CancelOrder, Voucher, VoidVoucher, Pay, Bill, Collect, Receive, WriteOff, Asset, Issue, PayDue, Leave, Interfund, Close}
+use Rattle.cf_calls.specs.declared.acts.Adoption.{Adoption}
+use Rattle.cf_calls.specs.declared.acts.Amendment.{Amendment}
+use Rattle.cf_calls.specs.declared.acts.LineTransfer.{LineTransfer}
+use Rattle.cf_calls.specs.declared.acts.Period.{Period}
+use Rattle.cf_calls.specs.declared.acts.Period.TheVariants as period
+use Rattle.cf_calls.specs.declared.items.LineAmount.{LineAmount}
+use Rattle.cf_calls.specs.declared.items.SourceAmount.{SourceAmount}
+use Rattle.cf_calls.specs.declared.items.AccountItem.{AccountItem}
+use Rattle.cf_calls.specs.declared.items.VoucherItem.{VoucherItem}
+use Rattle.cf_calls.specs.declared.role.Role.{Role}
+use Rattle.cf_calls.specs.declared.role.Role.TheVariants as role
+
+-- the role that an act needs
+abbrev pub role_of : Act → Role
+role_of (Adopt a) = role.Council
+role_of (Amend a) = role.Council
+role_of (Transfer a) = role.Council
+role_of (Requisition a) = role.Dept
+role_of (Withdraw a) = role.Dept
+role_of (Order a) = role.Purchasing
+role_of (ChangeOrder a) = role.Purchasing
+role_of (CancelOrder a) = role.Purchasing
+role_of (Voucher a) = role.Payables
+role_of (VoidVoucher a) = role.Payables
+role_of (Pay a) = role.Treasury
+role_of (Bill a) = role.Revenue
+role_of (Collect a) = role.Treasury
+role_of (Receive a) = role.Treasury
+role_of (WriteOff a) = role.Revenue
+role_of (Asset a) = role.Assets
+role_of (Issue a) = role.Treasury
+role_of (PayDue a) = role.Treasury
+role_of (Leave a) = role.Payroll
+role_of (Interfund a) = role.Treasury
+role_of (Close a) = role.Controller
+
+-- the adoption, the amendment or the transfer that an act is
+abbrev pub adoption_of : Act → Option Adoption
+adoption_of (Adopt a) = Some a
+adoption_of _ = None
+
+abbrev pub amendment_of : Act → Option Amendment
+amendment_of (Amend a) = Some a
+amendment_of _ = None
+
+abbrev pub transfer_of : Act → Option LineTransfer
+transfer_of (Transfer t) = Some t
+transfer_of _ = None
+
+-- the lines and the estimates of an adoption, and none of another act
+abbrev pub adopted_lines : Act → List LineAmount
+adopted_lines (Adopt a) = a.lines
+adopted_lines _ = []
+
+abbrev pub adopted_sources : Act → List SourceAmount
+adopted_sources (Adopt a) = a.estimates
+adopted_sources _ = []
+
+-- the items of a requisition, of an order, of a voucher, and none of another act
+abbrev pub requisition_items : Act → List AccountItem
+requisition_items (Requisition r) = r.items
+requisition_items _ = []
+
+abbrev pub order_items : Act → List AccountItem
+order_items (Order o) = o.items
+order_items _ = []
+
+abbrev pub voucher_items : Act → List VoucherItem
+voucher_items (Voucher v) = v.items
+voucher_items _ = []
+
+-- whether an act is an adoption of this fund and year
+abbrev pub adopts : ℕ → ℕ → Act → Bool
+adopts fund year (Adopt a) = (a.fund == fund) && (a.year == year)
+adopts fund year _ = false
+
+-- whether an act is a voucher, and of the fiscal year before that of its day
+abbrev pub is_voucher : Act → Bool
+is_voucher (Voucher v) = true
+is_voucher _ = false
+
+abbrev pub is_back : Act → Bool
+is_back (Voucher v) = v.back
+is_back _ = false
+
+-- whether an act closes this month, or this year
+abbrev pub closes_month : Month → Act → Bool
+closes_month m (Close (period.Month n)) = (m.year == n.year) && (m.month == n.month)
+closes_month m _ = false
+
+abbrev pub closes_year : ℕ → Act → Bool
+closes_year y (Close (period.Year n)) = y == n
+closes_year y _ = false

@@ -1,0 +1,5 @@
+pub mod Acts
+pub mod Form
+pub mod Refusals
+pub mod Roles
+pub mod Same

@@ -1,0 +1,31 @@
+-- The place of each refusal in the order of the rules.
+use Rattle.std.specs.Prelude.{ℕ}
+use Rattle.cf_calls.specs.declared.refusal.Refusal.{Refusal}
+use Rattle.cf_calls.specs.declared.refusal.Refusal.TheVariants as refusal
+
+abbrev pub number_of : Refusal → ℕ
+number_of (refusal.DeskUnknown d) = 1
+number_of (refusal.Ahead a l) = 2
+number_of (refusal.KeyReused w) = 3
+number_of (refusal.NotThisDesk r) = 4
+number_of (refusal.HistoryFull l) = 5
+number_of (refusal.AmountRange a) = 6
+number_of (refusal.UnknownName k i) = 7
+number_of (refusal.PeriodClosed m) = 8
+number_of (refusal.YearNotOpen y) = 9
+number_of (refusal.YearClosed y) = 10
+number_of (refusal.Adopted w) = 11
+number_of (refusal.NotAdopted f y) = 12
+number_of (refusal.DocState k n s) = 13
+number_of (refusal.SameHand d) = 14
+number_of (refusal.NotOnOrder o i) = 15
+number_of (refusal.OverOpen o) = 16
+number_of (refusal.OverReceivable l) = 17
+number_of (refusal.AssetState a s) = 18
+number_of (refusal.NotDue d) = 19
+number_of (refusal.LeaveShort l) = 20
+number_of (refusal.MonthOrder m) = 21
+number_of (refusal.DebtDue b d) = 22
+number_of (refusal.WindowOpen m) = 23
+number_of (refusal.Exceeds l a r) = 24
+number_of (refusal.CashShort f c a) = 25

@@ -1,0 +1,306 @@
+//! What a changing call does: one variant for each of the 21 calls.
+
+ghost use Rattle.std.specs.Prelude.{◌≡◌};
+ghost use Rattle.std.specs.Option.{option_copied};
+ghost use Rattle.cf_calls.specs.Acts.{adoption_of, amendment_of, transfer_of, adopted_lines, adopted_sources, voucher_items, is_back, is_voucher};
+
+use crate::items::{
+    AccountItems, LineAmount, LineAmounts, Numbers, Principals, SourceAmount, SourceAmounts,
+    VoucherItem, VoucherItems,
+};
+use cf_base::Month;
+
+/// The budget of a fund and fiscal year (GASB Codification 1700: the annual budget is adopted).
+#[derive(Debug, Drop)]
+pub struct Adoption {
+    pub fund: u16,
+    pub year: u16,
+    /// The original amounts. A line that isn't named has 0.
+    pub lines: LineAmounts,
+    pub estimates: SourceAmounts,
+}
+
+/// A change of an appropriation.
+#[derive(Clone, Copy, Debug, PartialEq, Eq)]
+pub struct Amendment {
+    pub fund: u16,
+    pub year: u16,
+    pub line: u16,
+    /// In cents; never 0 in an entry.
+    pub by: i64,
+}
+
+/// A transfer of an appropriation between two lines of a fund.
+#[derive(Clone, Copy, Debug, PartialEq, Eq)]
+pub struct LineTransfer {
+    pub fund: u16,
+    pub year: u16,
+    pub from: u16,
+    pub to: u16,
+    pub amount: u64,
+}
+
+/// A purchase requisition, which holds its amounts.
+#[derive(Debug, Drop)]
+pub struct Request {
+    pub items: AccountItems,
+}
+
+/// A purchase order, which encumbers its amounts (GFOA Blue Book).
+#[derive(Debug, Drop)]
+pub struct Purchase {
+    pub vendor: u32,
+    /// The requisition that the order takes up.
+    pub requisition: Option<u32>,
+    pub items: AccountItems,
+}
+
+/// A change of an order item's open amount.
+#[derive(Clone, Copy, Debug, PartialEq, Eq)]
+pub struct OrderChange {
+    pub order: u32,
+    /// Counted from 1.
+    pub item: u16,
+    pub fund: u16,
+    pub dept: u16,
+    pub object: u16,
+    /// In cents; never 0 in an entry.
+    pub by: i64,
+}
+
+/// A vendor's claim, which is an expenditure.
+#[derive(Debug, Drop)]
+pub struct Invoice {
+    pub vendor: u32,
+    /// Whether it is an expenditure of the fiscal year before that of its day.
+    pub back: bool,
+    pub items: VoucherItems,
+}
+
+/// The payment of vouchers.
+#[derive(Debug, Drop)]
+pub struct Payment {
+    pub vouchers: Numbers,
+}
+
+/// A bill of a levy or a charge, which is a receivable.
+#[derive(Clone, Copy, Debug, PartialEq, Eq)]
+pub struct Levy {
+    pub source: u16,
+    pub levy_year: u16,
+    pub payer: u32,
+    pub amount: u64,
+}
+
+/// An amount of a bill, collected or written off.
+#[derive(Clone, Copy, Debug, PartialEq, Eq)]
+pub struct BillAmount {
+    pub bill: u32,
+    pub amount: u64,
+}
+
+/// A donated capital asset.
+#[derive(Clone, Copy, Debug, PartialEq, Eq)]
+pub struct Donation {
+    pub dept: u16,
+    pub object: u16,
+    pub amount: u64,
+}
+
+/// The disposal of a capital asset. The proceeds, which may be 0, go to a fund's cash.
+#[derive(Clone, Copy, Debug, PartialEq, Eq)]
+pub struct Disposal {
+    pub asset: u32,
+    pub fund: u16,
+    pub proceeds: u64,
+}
+
+/// What is done with a capital asset.
+#[derive(Clone, Copy, Debug, PartialEq, Eq)]
+pub enum AssetAct {
+    Donate(Donation),
+    Dispose(Disposal),
+}
+
+/// The issue of a bond.
+#[derive(Debug, Drop)]
+pub struct BondIssue {
+    pub fund: u16,
+    pub amount: u64,
+    /// The yearly rate, in basis points, at most 10,000.
+    pub rate_bp: u16,
+    /// The months between payments: 1, 2, 3, 4, 6 or 12.
+    pub every: u16,
+    /// The principal of each payment, in order. Each may be 0.
+    pub principals: Principals,
+}
+
+/// The payment of a bond's next due payment. The last two are objects of expenditure.
+#[derive(Clone, Copy, Debug, PartialEq, Eq)]
+pub struct DebtPayment {
+    pub bond: u32,
+    pub fund: u16,
+    pub dept: u16,
+    pub principal: u16,
+    pub interest: u16,
+}
+
+/// An amount of leave of a fund's department.
+#[derive(Clone, Copy, Debug, PartialEq, Eq)]
+pub struct LeaveAmount {
+    pub fund: u16,
+    pub dept: u16,
+    pub amount: u64,
+}
+
+/// Leave that is paid out, as an expenditure on an object.
+#[derive(Clone, Copy, Debug, PartialEq, Eq)]
+pub struct LeaveMaturity {
+    pub fund: u16,
+    pub dept: u16,
+    pub object: u16,
+    pub amount: u64,
+}
+
+/// What is done with compensated absences.
+#[derive(Clone, Copy, Debug, PartialEq, Eq)]
+pub enum LeaveAct {
+    Earn(LeaveAmount),
+    Use(LeaveAmount),
+    Mature(LeaveMaturity),
+}
+
+/// How cash moves between two funds.
+#[derive(Clone, Copy, Debug, PartialEq, Eq)]
+pub enum FundMoveKind {
+    Transfer,
+    Loan,
+    Repay,
+}
+
+/// A movement of cash between two funds.
+#[derive(Clone, Copy, Debug, PartialEq, Eq)]
+pub struct FundMove {
+    pub what: FundMoveKind,
+    pub from: u16,
+    pub to: u16,
+    pub amount: u64,
+}
+
+/// What is closed.
+#[derive(Clone, Copy, Debug, PartialEq, Eq)]
+pub enum Period {
+    Month(Month),
+    Year(u16),
+}
+
+/// What a changing call does. Amounts are in cents.
+#[derive(Debug, Drop)]
+pub enum Act {
+    Adopt(Adoption),
+    Amend(Amendment),
+    Transfer(LineTransfer),
+    Requisition(Request),
+    /// The number of a requisition.
+    Withdraw(u32),
+    Order(Purchase),
+    ChangeOrder(OrderChange),
+    /// The number of an order.
+    CancelOrder(u32),
+    Voucher(Invoice),
+    /// The number of a voucher.
+    VoidVoucher(u32),
+    Pay(Payment),
+    Bill(Levy),
+    Collect(BillAmount),
+    Receive(SourceAmount),
+    WriteOff(BillAmount),
+    Asset(AssetAct),
+    Issue(BondIssue),
+    PayDue(DebtPayment),
+    Leave(LeaveAct),
+    Interfund(FundMove),
+    Close(Period),
+}
+
+impl Act {
+    /// The adoption that the act is.
+    pub fn adoption(&self) -> Option<&Adoption>
+        ensures { option_copied result ≡ adoption_of self.now }
+    {
+        match self {
+            Act::Adopt(adoption) => Some(adoption),
+            _ => None,
+        }
+    }
+
+    /// The amendment that the act is.
+    pub fn amendment(&self) -> Option<&Amendment>
+        ensures { option_copied result ≡ amendment_of self.now }
+    {
+        match self {
+            Act::Amend(amendment) => Some(amendment),
+            _ => None,
+        }
+    }
+
+    /// The transfer between lines that the act is.
+    pub fn line_transfer(&self) -> Option<&LineTransfer>
+        ensures { option_copied result ≡ transfer_of self.now }
+    {
+        match self {
+            Act::Transfer(transfer) => Some(transfer),
+            _ => None,
+        }
+    }
+
+    /// The lines of an adoption, and none of another act.
+    pub fn adopted_lines(&self) -> &[LineAmount]
+        ensures { result.now ≡ adopted_lines self.now }
+    {
+        match self {
+            Act::Adopt(adoption) => adoption.lines.as_slice(),
+            _ => &[],
+        }
+    }
+
+    /// The estimates of an adoption, and none of another act.
+    pub fn adopted_sources(&self) -> &[SourceAmount]
+        ensures { result.now ≡ adopted_sources self.now }
+    {
+        match self {
+            Act::Adopt(adoption) => adoption.estimates.as_slice(),
+            _ => &[],
+        }
+    }
+
+    /// The items of a voucher, and none of another act.
+    pub fn voucher_items(&self) -> &[VoucherItem]
+        ensures { result.now ≡ voucher_items self.now }
+    {
+        match self {
+            Act::Voucher(invoice) => invoice.items.as_slice(),
+            _ => &[],
+        }
+    }
+
+    /// Whether the act is a voucher.
+    pub fn is_voucher(&self) -> bool
+        ensures { result ≡ is_voucher self.now }
+    {
+        match self {
+            Act::Voucher(_) => true,
+            _ => false,
+        }
+    }
+
+    /// Whether the act is a voucher of the fiscal year before that of its day.
+    pub fn is_back(&self) -> bool
+        ensures { result ≡ is_back self.now }
+    {
+        match self {
+            Act::Voucher(invoice) => invoice.back,
+            _ => false,
+        }
+    }
+}

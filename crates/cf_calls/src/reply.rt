@@ -1,0 +1,103 @@
+//! What is answered to a call.
+
+use crate::entry::Drawn;
+use crate::list::List;
+use crate::refusal::Refusal;
+use crate::shown::Shown;
+use crate::text::Label;
+use cf_base::{Day, Month};
+
+/// What an accepted change made.
+#[derive(Clone, Copy, Debug, PartialEq, Eq)]
+pub enum Made {
+    Nothing,
+    Requisition {
+        number: u32,
+    },
+    Order {
+        number: u32,
+    },
+    /// A voucher, with the first of its assets and how many follow one another.
+    Voucher {
+        number: u32,
+        first_asset: u32,
+        assets: u16,
+    },
+    Bill {
+        number: u32,
+    },
+    /// The fiscal year that a collection is recognised in.
+    Year {
+        year: u16,
+    },
+    Asset {
+        number: u32,
+    },
+    Bond {
+        number: u32,
+    },
+    /// What a debt payment paid, in cents.
+    Paid {
+        interest: u64,
+        principal: u64,
+    },
+}
+
+pub type Amounts = List<i128>;
+
+/// A row of a statement.
+#[derive(Debug, Drop)]
+pub struct Row {
+    pub label: Label,
+    /// In cents.
+    pub amounts: Amounts,
+}
+
+/// What a reply says.
+#[derive(Debug, Drop)]
+pub enum Body {
+    /// The change was accepted now, or before as the entry at `was`.
+    Done { made: Made, was: Option<u64> },
+    Refused(Refusal),
+    Shown(Shown),
+}
+
+/// A reply: what it says, and the length of the history after the call.
+#[derive(Debug, Drop)]
+pub struct Reply {
+    pub at: u64,
+    pub body: Body,
+}
+
+/// What is given for a call: a reply, or why there is none.
+#[derive(Debug, Drop)]
+pub enum Posted {
+    Reply(Reply),
+    /// The disk failed while the call was handled.
+    Disk,
+    /// There was no memory for the call.
+    NoMemory,
+}
+
+/// What the rules say of a change.
+#[derive(Clone, Copy, Debug, PartialEq, Eq)]
+pub enum Verdict {
+    /// The change is accepted, and draws these numbers.
+    Accept(Drawn),
+    /// The same call was accepted as the entry at this place.
+    Repeat { was: u64 },
+    Refuse(Refusal),
+    /// The office doesn't know this kind of change yet.
+    Unbuilt,
+}
+
+/// What the rules of the registers need of a call's moment.
+#[derive(Clone, Copy, Debug, PartialEq, Eq)]
+pub struct Now {
+    pub on: Day,
+    pub desk: u16,
+    /// The first month that isn't closed.
+    pub next_month: Month,
+    /// The first fiscal year that isn't closed.
+    pub open_year: u16,
+}

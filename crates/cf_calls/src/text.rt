@@ -1,0 +1,50 @@
+//! The text inside a call, an entry or a reply.
+
+ghost use Rattle.std.specs.Prelude.{◌≡◌, IfOk, List};
+
+use std::alloc::{AllocError, Global};
+use std::marker::Model;
+
+/// A text that contracts see as its bytes.
+#[derive(Debug, Drop)]
+pub struct Text {
+    text: String,
+}
+
+impl Model for Text {
+    ghost use Rattle.std.specs.Prelude.{ℕ, List, string_bytes};
+
+    ghost Value = { List ℕ };
+
+    ghost view = { λ t. string_bytes t.text };
+}
+
+impl Text {
+    /// The text of these characters.
+    pub fn new(alloc: Global, text: &str) -> Result<Text, AllocError>
+        ensures { IfOk result (λ t. t ≡ text.now) }
+    {
+        Ok(Text {
+            text: String::from_str(alloc, text)?,
+        })
+    }
+
+    pub fn as_str(&self) -> &str
+        ensures { result.now ≡ self.now }
+    {
+        self.text.as_str()
+    }
+
+    /// A text of the same characters.
+    pub fn copy(&self, alloc: Global) -> Result<Text, AllocError>
+        ensures { IfOk result (λ t. t ≡ self.now) }
+    {
+        Text::new(alloc, self.as_str())
+    }
+}
+
+/// What a desk names a change by: 1 to 40 bytes from 0x21 to 0x7E. A desk uses a key once.
+pub type Key = Text;
+
+/// A name or a heading that is shown.
+pub type Label = Text;

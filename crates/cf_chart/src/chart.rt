@@ -1,0 +1,225 @@
+//! The chart and its readers.
+
+ghost use Rattle.std.specs.Prelude.{◌≡◌, ◌<◌, ◌≤◌, ℕ, true, length, IfSome, option_map, position};
+ghost use Rattle.std.specs.Option.{option_copied};
+ghost use Rattle.cf_chart.specs.Index.{has_key, key_at};
+ghost use Rattle.cf_chart.specs.Plan as spec;
+
+use crate::index::{LineKey, number_at};
+use crate::lines::LineId;
+use crate::rows::{Department, Desk, Function, Fund, Line, Object, RevenueSource};
+use crate::search::by_id;
+use cf_calls::{Label, List};
+use std::collections::BTreeMap;
+use std::marker::Model;
+
+/// A chart. Each table is by rising id, and the control lines by number.
+#[derive(Debug, Drop)]
+pub struct Chart {
+    pub(crate) city: Label,
+    pub(crate) first_year: u16,
+    pub(crate) first_month: u8,
+    pub(crate) functions: List<Function>,
+    pub(crate) funds: List<Fund>,
+    pub(crate) departments: List<Department>,
+    pub(crate) objects: List<Object>,
+    pub(crate) sources: List<RevenueSource>,
+    pub(crate) lines: List<Line>,
+    pub(crate) numbers: BTreeMap<LineKey, u16>,
+    pub(crate) desks: List<Desk>,
+}
+
+impl Model for Chart {
+    ghost use Rattle.cf_chart.specs.Plan.{Plan};
+
+    ghost Value = { Plan };
+
+    ghost use Rattle.cf_chart.specs.ChartView.{plan_of, IsChart};
+
+    ghost view = { plan_of };
+
+    ghost invariant = { IsChart };
+}
+
+impl Chart {
+    /// The first fiscal year that the office keeps, 1971 to 2150.
+    pub fn first_year(&self) -> u16
+        ensures value { result ≡ self.now.first_year }
+        ensures from { 1971 ≤ result }
+        ensures to { result ≤ 2150 }
+    {
+        self.first_year
+    }
+
+    /// The month that fiscal years begin with, 1 to 12.
+    pub fn first_month(&self) -> u8
+        ensures value { result ≡ self.now.first_month }
+        ensures from { 1 ≤ result }
+        ensures to { result ≤ 12 }
+    {
+        self.first_month
+    }
+
+    /// The city's name.
+    pub fn city(&self) -> &str
+        ensures { result.now ≡ self.now.city }
+    {
+        self.city.as_str()
+    }
+
+    pub fn functions(&self) -> &[Function]
+        ensures { result.now ≡ self.now.functions }
+    {
+        self.functions.as_slice()
+    }
+
+    pub fn funds(&self) -> &[Fund]
+        ensures { result.now ≡ self.now.funds }
+    {
+        self.funds.as_slice()
+    }
+
+    pub fn depts(&self) -> &[Department]
+        ensures { result.now ≡ self.now.departments }
+    {
+        self.departments.as_slice()
+    }
+
+    pub fn objects(&self) -> &[Object]
+        ensures { result.now ≡ self.now.objects }
+    {
+        self.objects.as_slice()
+    }
+
+    pub fn sources(&self) -> &[RevenueSource]
+        ensures { result.now ≡ self.now.sources }
+    {
+        self.sources.as_slice()
+    }
+
+    /// The control lines by number, at most 4096.
+    pub fn lines(&self) -> &[Line]
+        ensures value { result.now ≡ self.now.lines }
+        ensures few { length result.now ≤ 4096 }
+    {
+        self.lines.as_slice()
+    }
+
+    pub fn desks(&self) -> &[Desk]
+        ensures { result.now ≡ self.now.desks }
+    {
+        self.desks.as_slice()
+    }
+
+    /// The function of this id.
+    pub fn function(&self, id: u16) -> Option<&Function>
+        ensures { option_copied result ≡ spec.function_at self.now id }
+    {
+        by_id(self.functions.as_slice(), id)
+    }
+
+    /// The fund of this id.
+    pub fn fund(&self, id: u16) -> Option<&Fund>
+        ensures { option_copied result ≡ spec.fund_at self.now id }
+    {
+        by_id(self.funds.as_slice(), id)
+    }
+
+    /// The department of this id.
+    pub fn dept(&self, id: u16) -> Option<&Department>
+        ensures { option_copied result ≡ spec.department_at self.now id }
+    {
+        by_id(self.departments.as_slice(), id)
+    }
+
+    /// The object of expenditure of this id.
+    pub fn object(&self, id: u16) -> Option<&Object>
+        ensures { option_copied result ≡ spec.object_at self.now id }
+    {
+        by_id(self.objects.as_slice(), id)
+    }
+
+    /// The revenue source of this id.
+    pub fn source(&self, id: u16) -> Option<&RevenueSource>
+        ensures { option_copied result ≡ spec.source_at self.now id }
+    {
+        by_id(self.sources.as_slice(), id)
+    }
+
+    /// The control line of this number.
+    pub fn line(&self, number: u16) -> Option<&Line>
+        ensures { option_copied result ≡ spec.line_at self.now number }
+    {
+        self.lines.as_slice().get(number as usize)
+    }
+
+    /// The desk of this id.
+    pub fn desk(&self, id: u16) -> Option<&Desk>
+        ensures { option_copied result ≡ spec.desk_at self.now id }
+    {
+        by_id(self.desks.as_slice(), id)
+    }
+
+    /// The control line of an account: `None` exactly where it has none. No other line has the account.
+    pub fn line_of(&self, fund: u16, dept: u16, object: u16) -> Option<LineId>
+        ensures value { option_map (λ l. l.number) result ≡ spec.line_of self.now fund dept object }
+        ensures within { IfSome result (λ l. l.number < length self.now.lines) }
+        ensures alone { (n : ℕ) → spec.has_account self.now fund dept object n ≡ true → option_map (λ l. l.number) result ≡ Some n }
+    {
+        let _ = &self.lines;
+        match self.number_of(fund, dept, object) {
+            Some(number) => Some(LineId { number }),
+            None => None,
+        }
+    }
+
+    fn number_of(&self, fund: u16, dept: u16, object: u16) -> Option<u16>
+        ensures { result ≡ spec.line_of self.now fund dept object }
+    {
+        match self.object(object) {
+            Some(object) => self.number_at(fund, dept, object),
+            None => None,
+        }
+    }
+
+    fn number_at(&self, fund: u16, dept: u16, object: &Object) -> Option<u16>
+        ensures { result ≡ position (spec.covers fund dept object.now) self.now.lines }
+    {
+        match by_id(self.funds.as_slice(), fund) {
+            Some(fund) => self.number_in(fund, dept, object),
+            None => None,
+        }
+    }
+
+    fn number_in(&self, fund: &Fund, dept: u16, object: &Object) -> Option<u16>
+        ensures { result ≡ position (has_key (key_at fund.now dept object.now)) self.now.lines }
+    {
+        let key = LineKey {
+            fund: fund.id,
+            dept,
+            part: number_at(fund.level, object),
+        };
+        match self.numbers.get(&key) {
+            Some(number) => Some(*number),
+            None => None,
+        }
+    }
+
+    /// The longest availability period of the revenue sources, in days; 0 where there are none.
+    pub fn longest_window(&self) -> u16
+        ensures value { result ≡ spec.longest_window self.now.sources }
+        ensures most { result ≤ 365 }
+    {
+        longest_window(self.sources.as_slice())
+    }
+}
+
+fn longest_window(sources: &[RevenueSource]) -> u16
+    ensures { result ≡ spec.longest_window sources.now }
+{
+    let mut longest = 0;
+    for source in sources {
+        longest = source.window.max(longest);
+    }
+    longest
+}

@@ -1,0 +1,4 @@
+pub mod Talking
+pub mod Feeding
+pub mod Reading
+pub mod Keeping

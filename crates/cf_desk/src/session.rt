@@ -1,0 +1,100 @@
+//! Bytes are taken piece by piece, and the lines that end in them are answered.
+
+ghost use Rattle.std.specs.Prelude.{◌≡◌, ◌+◌, ◌≤◌, ◌∷◌, [], vec_len, vec_capacity, OnOk, OnErr};
+ghost use Rattle.cf_base.specs.Causes.{HasCause};
+ghost use Rattle.cf_desk.specs.Run.{moment_of};
+ghost use Rattle.cf_desk.specs.State.{Feeds, Breaks, state_of};
+
+use crate::line::{Line, newline_in};
+use crate::office::Office;
+use crate::output::{flush, make_room};
+use crate::reply::put_reply;
+use cf_base::{Failed, Sink};
+
+// Takes a newline, and answers the line.
+fn end_line<O: Office, K: Sink>(
+    office: &mut O,
+    sink: &mut K,
+    line: &mut Line,
+    pending: &mut Vec<u8>,
+) -> Result<(), Failed>
+    requires { 1024 ≤ vec_capacity pending.old }
+    ensures ok { OnOk result (Feeds O.answers
+        (state_of (O.state office.old) (K.held sink.old) line.old pending.old.items)
+        (state_of (O.state office.new) (K.held sink.new) line.new pending.new.items) (10 ∷ [])) }
+    ensures err { OnErr result (Breaks O.answers
+        (state_of (O.state office.old) (K.held sink.old) line.old pending.old.items)
+        (moment_of (O.state office.new) (K.held sink.new)) (10 ∷ [])) }
+    ensures capacity { vec_capacity pending.old ≤ vec_capacity pending.new }
+    ensures cause { HasCause (K.faults sink.old) (K.faults sink.new) result }
+{
+    let must_write = office.must_write();
+    match make_room(sink, pending, must_write) {
+        Ok(()) => {}
+        Err(failed) => return Err(failed),
+    }
+    put_reply(office, line, pending);
+    line.clear();
+    Ok(())
+}
+
+// Takes bytes, and answers the lines that end in them.
+fn feed<O: Office, K: Sink>(
+    office: &mut O,
+    sink: &mut K,
+    line: &mut Line,
+    pending: &mut Vec<u8>,
+    piece: &[u8],
+) -> Result<(), Failed>
+    requires { 1024 ≤ vec_capacity pending.old }
+    ensures ok { OnOk result (Feeds O.answers
+        (state_of (O.state office.old) (K.held sink.old) line.old pending.old.items)
+        (state_of (O.state office.new) (K.held sink.new) line.new pending.new.items) piece.now) }
+    ensures err { OnErr result (Breaks O.answers
+        (state_of (O.state office.old) (K.held sink.old) line.old pending.old.items)
+        (moment_of (O.state office.new) (K.held sink.new)) piece.now) }
+    ensures capacity { vec_capacity pending.old ≤ vec_capacity pending.new }
+    ensures cause { HasCause (K.faults sink.old) (K.faults sink.new) result }
+{
+    let mut rest = piece;
+    while let Some(place) = newline_in(rest) {
+        let (front, back) = rest.split_at(place);
+        line.push(front);
+        match end_line(office, sink, line, pending) {
+            Ok(()) => {}
+            Err(failed) => return Err(failed),
+        }
+        (_, rest) = back.split_at(1);
+    }
+    line.push(rest);
+    Ok(())
+}
+
+// Takes bytes, answers the lines that end in them, and writes the answers: the next read may wait.
+pub fn feed_whole<O: Office, K: Sink>(
+    office: &mut O,
+    sink: &mut K,
+    line: &mut Line,
+    pending: &mut Vec<u8>,
+    piece: &[u8],
+) -> Result<(), Failed>
+    requires { 1024 ≤ vec_capacity pending.old }
+    ensures ok { OnOk result (Feeds O.answers
+        (state_of (O.state office.old) (K.held sink.old) line.old pending.old.items)
+        (state_of (O.state office.new) (K.held sink.new) line.new pending.new.items) piece.now) }
+    ensures written { OnOk result (pending.new.items ≡ []) }
+    ensures err { OnErr result (Breaks O.answers
+        (state_of (O.state office.old) (K.held sink.old) line.old pending.old.items)
+        (moment_of (O.state office.new) (K.held sink.new)) piece.now) }
+    ensures capacity { vec_capacity pending.old ≤ vec_capacity pending.new }
+    ensures cause { HasCause (K.faults sink.old) (K.faults sink.new) result }
+{
+    match feed(office, sink, line, pending, piece) {
+        Ok(()) => {}
+        Err(failed) => return Err(failed),
+    }
+    match flush(sink, pending) {
+        Ok(()) => Ok(()),
+        Err(failed) => Err(failed),
+    }
+}

@@ -1,0 +1,13 @@
+pub mod Acts
+pub mod Calls
+pub mod Faults
+pub mod Fields
+pub mod Items
+pub mod Kinds
+pub mod Objects
+pub mod Parts
+pub mod Reads
+pub mod Refusals
+pub mod Replies
+pub mod Shown
+pub mod Words

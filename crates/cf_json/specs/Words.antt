@@ -1,0 +1,59 @@
+-- The words of calls and of their fields.
+use Rattle.std.specs.Prelude.{ℕ, List, [], ◌∷◌, codes}
+use Rattle.cf_base.specs.declared.statement.Kind.{Kind}
+use Rattle.cf_base.specs.declared.statement.Kind.TheVariants as kind
+use Rattle.cf_calls.specs.declared.read.Basis.{Basis}
+use Rattle.cf_calls.specs.declared.read.Basis.TheVariants as basis
+use Rattle.cf_calls.specs.declared.acts.FundMoveKind.{FundMoveKind}
+use Rattle.cf_calls.specs.declared.acts.FundMoveKind.TheVariants as move
+use Rattle.cf_json.specs.declared.words.AssetWord.{AssetWord}
+use Rattle.cf_json.specs.declared.words.AssetWord.TheVariants as asset
+use Rattle.cf_json.specs.declared.words.LeaveWord.{LeaveWord}
+use Rattle.cf_json.specs.declared.words.LeaveWord.TheVariants as leave
+use Rattle.cf_json.specs.declared.words.PeriodWord.{PeriodWord}
+use Rattle.cf_json.specs.declared.words.PeriodWord.TheVariants as period
+use Rattle.cf_json.specs.declared.words.ChangeWord.{ChangeWord}
+use Rattle.cf_json.specs.declared.words.ChangeWord.TheVariants.{Adopt, Amend, Transfer, Requisition, Withdraw, Order, ChangeOrder, CancelOrder, Voucher, VoidVoucher, Pay, Bill, Collect, Receive, WriteOff, Asset, Issue, PayDue, Leave, Interfund, Close}
+use Rattle.cf_json.specs.declared.words.LookWord.{LookWord}
+use Rattle.cf_json.specs.declared.words.LookWord.TheVariants as look
+
+-- the words of the changing calls
+abbrev pub change_words : List (List ℕ × ChangeWord)
+change_words =
+    (codes "adopt", Adopt) ∷ (codes "amend", Amend) ∷ (codes "transfer", Transfer) ∷ (codes "requisition", Requisition) ∷ (codes "withdraw", Withdraw)
+    ∷ (codes "order", Order) ∷ (codes "change_order", ChangeOrder) ∷ (codes "cancel_order", CancelOrder) ∷ (codes "voucher", Voucher) ∷ (codes "void_voucher", VoidVoucher)
+    ∷ (codes "pay", Pay) ∷ (codes "bill", Bill) ∷ (codes "collect", Collect) ∷ (codes "receive", Receive) ∷ (codes "write_off", WriteOff) ∷ (codes "asset", Asset)
+    ∷ (codes "issue", Issue) ∷ (codes "pay_due", PayDue) ∷ (codes "leave", Leave) ∷ (codes "interfund", Interfund) ∷ (codes "close", Close) ∷ []
+
+-- the words of the looks
+abbrev pub look_words : List (List ℕ × LookWord)
+look_words =
+    (codes "line", look.Line) ∷ (codes "requisition", look.Requisition) ∷ (codes "order", look.Order) ∷ (codes "voucher", look.Voucher) ∷ (codes "bill", look.Bill)
+    ∷ (codes "asset", look.Asset) ∷ (codes "bond", look.Bond) ∷ (codes "leave", look.Leave) ∷ (codes "account", look.Account) ∷ (codes "reconcile", look.Reconcile)
+    ∷ (codes "report", look.Report) ∷ []
+
+-- what is done with an asset
+abbrev pub asset_words : List (List ℕ × AssetWord)
+asset_words = (codes "donate", asset.Donate) ∷ (codes "dispose", asset.Dispose) ∷ []
+
+-- what is done with leave
+abbrev pub leave_words : List (List ℕ × LeaveWord)
+leave_words = (codes "earn", leave.Earn) ∷ (codes "use", leave.Use) ∷ (codes "mature", leave.Mature) ∷ []
+
+-- how cash moves between funds
+abbrev pub move_words : List (List ℕ × FundMoveKind)
+move_words = (codes "transfer", move.Transfer) ∷ (codes "loan", move.Loan) ∷ (codes "repay", move.Repay) ∷ []
+
+-- what is closed
+abbrev pub period_words : List (List ℕ × PeriodWord)
+period_words = (codes "month", period.Month) ∷ (codes "year", period.Year) ∷ []
+
+-- the bases of accounting
+abbrev pub basis_words : List (List ℕ × Basis)
+basis_words = (codes "fund", basis.Fund) ∷ (codes "gov", basis.Gov) ∷ []
+
+-- the kinds of statement
+abbrev pub statement_words : List (List ℕ × Kind)
+statement_words =
+    (codes "balance", kind.Balance) ∷ (codes "operating", kind.Operating) ∷ (codes "budget", kind.Budget) ∷ (codes "position", kind.Position)
+    ∷ (codes "activities", kind.Activities) ∷ (codes "reconcile", kind.Reconcile) ∷ (codes "changes", kind.Changes) ∷ []

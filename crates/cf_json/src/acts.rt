@@ -1,0 +1,396 @@
+//! The readers of the changing calls: the fields of each in order, with the rules of form where they speak.
+
+ghost use Rattle.std.specs.Prelude.{◌≡◌, ◌≢◌, ◌≤◌, ◌+◌, ◌*◌, true, nat_le, sum, length, map, IfOk};
+ghost use Rattle.serde_json.specs.View.{view};
+ghost use Rattle.cf_calls.specs.Form.{IsAdoptionForm, IsCount, IsYear, IsIssueForm, IsVoucherForm, IsPeriodForm, IsActInForm, is_by, is_distinct, is_period, month_number, same_number};
+ghost use Rattle.cf_json.specs.Faults.{Gives};
+ghost use Rattle.cf_json.specs.Acts as spec;
+
+use crate::fault::CallRefused;
+use crate::fields::{may, must, need};
+use crate::items::{ChargedItem, LineItem, PlainItem, Principal, SourceItem, VoucherNumber};
+use crate::kinds::{By, Count, Flag, MonthText, N16, N32, Year};
+use crate::lists::list;
+use crate::words::{AssetWord, ChangeWord, LeaveWord, MoveWord, PeriodWord};
+use cf_base::Day;
+use cf_calls::Act;
+use cf_calls::acts::{
+    Adoption, Amendment, AssetAct, BillAmount, BondIssue, DebtPayment, Disposal, Donation,
+    FundMove, Invoice, LeaveAct, LeaveAmount, LeaveMaturity, Levy, LineTransfer, OrderChange,
+    Payment, Period, Purchase, Request,
+};
+use cf_calls::items::SourceAmount;
+use serde_json::Value;
+use std::alloc::Global;
+
+fn adoption(alloc: Global, value: &Value) -> Result<Adoption, CallRefused>
+    ensures answer { Gives result (spec.adoption_of (view value.now)) }
+    ensures form { IfOk result IsAdoptionForm }
+{
+    let fund = need::<N16>(alloc, value, "fund")?;
+    let year = need::<Year>(alloc, value, "year")?;
+    let lines = list::<LineItem>(alloc, value, "lines", 0, 4096)?;
+    let estimates = list::<SourceItem>(alloc, value, "estimates", 0, 256)?;
+    Ok(Adoption {
+        fund,
+        year,
+        lines,
+        estimates,
+    })
+}
+
+fn amendment(alloc: Global, value: &Value) -> Result<Amendment, CallRefused>
+    ensures answer { Gives result (spec.amendment_of (view value.now)) }
+    ensures form { IfOk result (λ a. IsYear a.year × (is_by a.by ≡ true)) }
+{
+    let fund = need::<N16>(alloc, value, "fund")?;
+    let year = need::<Year>(alloc, value, "year")?;
+    let line = need::<N16>(alloc, value, "line")?;
+    let by = need::<By>(alloc, value, "by")?;
+    Ok(Amendment {
+        fund,
+        year,
+        line,
+        by,
+    })
+}
+
+fn transfer(alloc: Global, value: &Value) -> Result<LineTransfer, CallRefused>
+    ensures answer { Gives result (spec.transfer_of (view value.now)) }
+    ensures form { IfOk result (λ t. IsYear t.year × (t.from ≢ t.to)) }
+{
+    let fund = need::<N16>(alloc, value, "fund")?;
+    let year = need::<Year>(alloc, value, "year")?;
+    let from = need::<N16>(alloc, value, "from")?;
+    let to = need::<N16>(alloc, value, "to")?;
+    must(alloc, from != to, "to")?;
+    let amount = need::<Count>(alloc, value, "amount")?;
+    Ok(LineTransfer {
+        fund,
+        year,
+        from,
+        to,
+        amount,
+    })
+}
+
+fn request(alloc: Global, value: &Value) -> Result<Request, CallRefused>
+    ensures answer { Gives result (spec.request_of (view value.now)) }
+    ensures form { IfOk result (λ r. IsCount 1 32 (length r.items)) }
+{
+    let items = list::<PlainItem>(alloc, value, "items", 1, 32)?;
+    Ok(Request { items })
+}
+
+fn purchase(alloc: Global, value: &Value) -> Result<Purchase, CallRefused>
+    ensures answer { Gives result (spec.purchase_of (view value.now)) }
+    ensures form { IfOk result (λ p. IsCount 1 32 (length p.items)) }
+{
+    let vendor = need::<N32>(alloc, value, "vendor")?;
+    let requisition = may::<N32>(alloc, value, "requisition")?;
+    let items = list::<PlainItem>(alloc, value, "items", 1, 32)?;
+    Ok(Purchase {
+        vendor,
+        requisition,
+        items,
+    })
+}
+
+fn order_change(alloc: Global, value: &Value) -> Result<OrderChange, CallRefused>
+    ensures answer { Gives result (spec.order_change_of (view value.now)) }
+    ensures form { IfOk result (λ c. (1 ≤ c.item) × (is_by c.by ≡ true)) }
+{
+    let order = need::<N32>(alloc, value, "order")?;
+    let item = need::<N16>(alloc, value, "item")?;
+    must(alloc, 1 <= item, "item")?;
+    let fund = need::<N16>(alloc, value, "fund")?;
+    let dept = need::<N16>(alloc, value, "dept")?;
+    let object = need::<N16>(alloc, value, "object")?;
+    let by = need::<By>(alloc, value, "by")?;
+    Ok(OrderChange {
+        order,
+        item,
+        fund,
+        dept,
+        object,
+        by,
+    })
+}
+
+fn invoice(alloc: Global, value: &Value) -> Result<Invoice, CallRefused>
+    ensures answer { Gives result (spec.invoice_of (view value.now)) }
+    ensures form { IfOk result (λ i. IsVoucherForm i.items) }
+{
+    let vendor = need::<N32>(alloc, value, "vendor")?;
+    let back = may::<Flag>(alloc, value, "back")?.unwrap_or(false);
+    let items = list::<ChargedItem>(alloc, value, "items", 1, 32)?;
+    Ok(Invoice {
+        vendor,
+        back,
+        items,
+    })
+}
+
+fn payment(alloc: Global, value: &Value) -> Result<Payment, CallRefused>
+    ensures answer { Gives result (spec.payment_of (view value.now)) }
+    ensures form { IfOk result (λ p. IsCount 1 64 (length p.vouchers) × (is_distinct same_number p.vouchers ≡ true)) }
+{
+    let vouchers = list::<VoucherNumber>(alloc, value, "vouchers", 1, 64)?;
+    Ok(Payment { vouchers })
+}
+
+fn levy(alloc: Global, value: &Value) -> Result<Levy, CallRefused>
+    ensures answer { Gives result (spec.levy_of (view value.now)) }
+    ensures form { IfOk result (λ l. IsYear l.levy_year) }
+{
+    let source = need::<N16>(alloc, value, "source")?;
+    let levy_year = need::<Year>(alloc, value, "levy_year")?;
+    let payer = need::<N32>(alloc, value, "payer")?;
+    let amount = need::<Count>(alloc, value, "amount")?;
+    Ok(Levy {
+        source,
+        levy_year,
+        payer,
+        amount,
+    })
+}
+
+fn bill_amount(alloc: Global, value: &Value) -> Result<BillAmount, CallRefused>
+    ensures { Gives result (spec.bill_amount_of (view value.now)) }
+{
+    let bill = need::<N32>(alloc, value, "bill")?;
+    let amount = need::<Count>(alloc, value, "amount")?;
+    Ok(BillAmount { bill, amount })
+}
+
+fn receipt(alloc: Global, value: &Value) -> Result<SourceAmount, CallRefused>
+    ensures { Gives result (spec.receipt_of (view value.now)) }
+{
+    let source = need::<N16>(alloc, value, "source")?;
+    let amount = need::<Count>(alloc, value, "amount")?;
+    Ok(SourceAmount { source, amount })
+}
+
+fn donation(alloc: Global, value: &Value) -> Result<AssetAct, CallRefused>
+    ensures { Gives result (spec.donation_of (view value.now)) }
+{
+    let dept = need::<N16>(alloc, value, "dept")?;
+    let object = need::<N16>(alloc, value, "object")?;
+    let amount = need::<Count>(alloc, value, "amount")?;
+    Ok(AssetAct::Donate(Donation {
+        dept,
+        object,
+        amount,
+    }))
+}
+
+fn disposal(alloc: Global, value: &Value) -> Result<AssetAct, CallRefused>
+    ensures { Gives result (spec.disposal_of (view value.now)) }
+{
+    let asset = need::<N32>(alloc, value, "asset")?;
+    let fund = need::<N16>(alloc, value, "fund")?;
+    let proceeds = need::<Count>(alloc, value, "proceeds")?;
+    Ok(AssetAct::Dispose(Disposal {
+        asset,
+        fund,
+        proceeds,
+    }))
+}
+
+fn asset_act(alloc: Global, value: &Value) -> Result<AssetAct, CallRefused>
+    ensures { Gives result (spec.asset_act_of (view value.now)) }
+{
+    match need::<AssetWord>(alloc, value, "what")? {
+        AssetWord::Donate => donation(alloc, value),
+        AssetWord::Dispose => disposal(alloc, value),
+    }
+}
+
+/// The sum of the principals of a bond's payments.
+fn total(principals: &[u64]) -> u128
+    requires { length principals.now ≤ 120 }
+    ensures { result ≡ sum principals.now }
+{
+    let mut total: u128 = 0;
+    for principal in principals {
+        total += u128::from(*principal);
+    }
+    total
+}
+
+/// Whether the last of so many payments, `every` months apart, is due by the end of 2199.
+fn is_due_in_time(on: Day, every: u16, payments: usize) -> bool
+    requires { payments ≤ 120 }
+    ensures { result ≡ nat_le (month_number on.year on.month + every * payments) (month_number 2199 12) }
+{
+    let first = 12 * u32::from(on.year) + u32::from(on.month);
+    first + u32::from(every) * (payments as u32) <= 12 * 2199 + 12
+}
+
+fn issue(alloc: Global, on: Day, value: &Value) -> Result<BondIssue, CallRefused>
+    ensures answer { Gives result (spec.issue_of on (view value.now)) }
+    ensures form { IfOk result (IsIssueForm on) }
+{
+    must(alloc, on.day <= 28, "on")?;
+    let fund = need::<N16>(alloc, value, "fund")?;
+    let amount = need::<Count>(alloc, value, "amount")?;
+    let rate_bp = need::<N16>(alloc, value, "rate_bp")?;
+    must(alloc, rate_bp <= 10000, "rate_bp")?;
+    let every = need::<N16>(alloc, value, "every")?;
+    must(alloc, matches!(every, 1 | 2 | 3 | 4 | 6 | 12), "every")?;
+    let principals = list::<Principal>(alloc, value, "principals", 1, 120)?;
+    let payments = principals.as_slice();
+    must(alloc, total(payments) == u128::from(amount), "principals")?;
+    must(
+        alloc,
+        is_due_in_time(on, every, payments.len()),
+        "principals",
+    )?;
+    Ok(BondIssue {
+        fund,
+        amount,
+        rate_bp,
+        every,
+        principals,
+    })
+}
+
+fn debt_payment(alloc: Global, value: &Value) -> Result<DebtPayment, CallRefused>
+    ensures { Gives result (spec.debt_payment_of (view value.now)) }
+{
+    let bond = need::<N32>(alloc, value, "bond")?;
+    let fund = need::<N16>(alloc, value, "fund")?;
+    let dept = need::<N16>(alloc, value, "dept")?;
+    let principal = need::<N16>(alloc, value, "principal")?;
+    let interest = need::<N16>(alloc, value, "interest")?;
+    Ok(DebtPayment {
+        bond,
+        fund,
+        dept,
+        principal,
+        interest,
+    })
+}
+
+fn leave_amount(alloc: Global, value: &Value) -> Result<LeaveAmount, CallRefused>
+    ensures { Gives result (spec.leave_amount_of (view value.now)) }
+{
+    let fund = need::<N16>(alloc, value, "fund")?;
+    let dept = need::<N16>(alloc, value, "dept")?;
+    let amount = need::<Count>(alloc, value, "amount")?;
+    Ok(LeaveAmount { fund, dept, amount })
+}
+
+fn maturity(alloc: Global, value: &Value) -> Result<LeaveMaturity, CallRefused>
+    ensures { Gives result (spec.maturity_of (view value.now)) }
+{
+    let fund = need::<N16>(alloc, value, "fund")?;
+    let dept = need::<N16>(alloc, value, "dept")?;
+    let object = need::<N16>(alloc, value, "object")?;
+    let amount = need::<Count>(alloc, value, "amount")?;
+    Ok(LeaveMaturity {
+        fund,
+        dept,
+        object,
+        amount,
+    })
+}
+
+fn leave_act(alloc: Global, value: &Value) -> Result<LeaveAct, CallRefused>
+    ensures { Gives result (spec.leave_act_of (view value.now)) }
+{
+    match need::<LeaveWord>(alloc, value, "what")? {
+        LeaveWord::Earn => Ok(LeaveAct::Earn(leave_amount(alloc, value)?)),
+        LeaveWord::Use => Ok(LeaveAct::Use(leave_amount(alloc, value)?)),
+        LeaveWord::Mature => Ok(LeaveAct::Mature(maturity(alloc, value)?)),
+    }
+}
+
+fn fund_move(alloc: Global, value: &Value) -> Result<FundMove, CallRefused>
+    ensures answer { Gives result (spec.fund_move_of (view value.now)) }
+    ensures form { IfOk result (λ m. m.from ≢ m.to) }
+{
+    let what = need::<MoveWord>(alloc, value, "what")?;
+    let from = need::<N16>(alloc, value, "from")?;
+    let to = need::<N16>(alloc, value, "to")?;
+    must(alloc, from != to, "to")?;
+    let amount = need::<Count>(alloc, value, "amount")?;
+    Ok(FundMove {
+        what,
+        from,
+        to,
+        amount,
+    })
+}
+
+fn period(alloc: Global, value: &Value) -> Result<Period, CallRefused>
+    ensures answer { Gives result (spec.period_of (view value.now)) }
+    ensures form { IfOk result IsPeriodForm }
+{
+    match need::<PeriodWord>(alloc, value, "what")? {
+        PeriodWord::Month => Ok(Period::Month(need::<MonthText>(alloc, value, "month")?)),
+        PeriodWord::Year => Ok(Period::Year(need::<Year>(alloc, value, "year")?)),
+    }
+}
+
+/// The act of a changing call on a day.
+pub fn act_of(alloc: Global, word: ChangeWord, on: Day, value: &Value) -> Result<Act, CallRefused>
+    ensures answer { Gives result (spec.act_of word on (view value.now)) }
+    ensures form { IfOk result (IsActInForm on) }
+{
+    match word {
+        ChangeWord::Adopt => Ok(Act::Adopt(adoption(alloc, value)?)),
+        ChangeWord::Amend => Ok(Act::Amend(amendment(alloc, value)?)),
+        ChangeWord::Transfer => Ok(Act::Transfer(transfer(alloc, value)?)),
+        ChangeWord::Requisition => Ok(Act::Requisition(request(alloc, value)?)),
+        ChangeWord::Withdraw => Ok(Act::Withdraw(need::<N32>(alloc, value, "requisition")?)),
+        ChangeWord::Order => Ok(Act::Order(purchase(alloc, value)?)),
+        ChangeWord::ChangeOrder => Ok(Act::ChangeOrder(order_change(alloc, value)?)),
+        ChangeWord::CancelOrder => Ok(Act::CancelOrder(need::<N32>(alloc, value, "order")?)),
+        ChangeWord::Voucher => Ok(Act::Voucher(invoice(alloc, value)?)),
+        ChangeWord::VoidVoucher => Ok(Act::VoidVoucher(need::<N32>(alloc, value, "voucher")?)),
+        ChangeWord::Pay => Ok(Act::Pay(payment(alloc, value)?)),
+        ChangeWord::Bill => Ok(Act::Bill(levy(alloc, value)?)),
+        ChangeWord::Collect => Ok(Act::Collect(bill_amount(alloc, value)?)),
+        ChangeWord::Receive => Ok(Act::Receive(receipt(alloc, value)?)),
+        ChangeWord::WriteOff => Ok(Act::WriteOff(bill_amount(alloc, value)?)),
+        ChangeWord::Asset => Ok(Act::Asset(asset_act(alloc, value)?)),
+        ChangeWord::Issue => Ok(Act::Issue(issue(alloc, on, value)?)),
+        ChangeWord::PayDue => Ok(Act::PayDue(debt_payment(alloc, value)?)),
+        ChangeWord::Leave => Ok(Act::Leave(leave_act(alloc, value)?)),
+        ChangeWord::Interfund => Ok(Act::Interfund(fund_move(alloc, value)?)),
+        ChangeWord::Close => Ok(Act::Close(period(alloc, value)?)),
+    }
+}
+
+/// The fields of an act, beside those that every changing call has.
+pub fn own_names(act: &Act) -> &'static [&'static str]
+    ensures { map (λ n. n.now) result.now ≡ spec.own_names act.now }
+{
+    match act {
+        Act::Adopt(_) => &["fund", "year", "lines", "estimates"],
+        Act::Amend(_) => &["fund", "year", "line", "by"],
+        Act::Transfer(_) => &["fund", "year", "from", "to", "amount"],
+        Act::Requisition(_) => &["items"],
+        Act::Withdraw(_) => &["requisition"],
+        Act::Order(_) => &["vendor", "requisition", "items"],
+        Act::ChangeOrder(_) => &["order", "item", "fund", "dept", "object", "by"],
+        Act::CancelOrder(_) => &["order"],
+        Act::Voucher(_) => &["vendor", "back", "items"],
+        Act::VoidVoucher(_) => &["voucher"],
+        Act::Pay(_) => &["vouchers"],
+        Act::Bill(_) => &["source", "levy_year", "payer", "amount"],
+        Act::Collect(_) => &["bill", "amount"],
+        Act::Receive(_) => &["source", "amount"],
+        Act::WriteOff(_) => &["bill", "amount"],
+        Act::Asset(AssetAct::Donate(_)) => &["what", "dept", "object", "amount"],
+        Act::Asset(AssetAct::Dispose(_)) => &["what", "asset", "fund", "proceeds"],
+        Act::Issue(_) => &["fund", "amount", "rate_bp", "every", "principals"],
+        Act::PayDue(_) => &["bond", "fund", "dept", "principal", "interest"],
+        Act::Leave(LeaveAct::Mature(_)) => &["what", "fund", "dept", "object", "amount"],
+        Act::Leave(_) => &["what", "fund", "dept", "amount"],
+        Act::Interfund(_) => &["what", "from", "to", "amount"],
+        Act::Close(Period::Month(_)) => &["what", "month"],
+        Act::Close(Period::Year(_)) => &["what", "year"],
+    }
+}

@@ -1,0 +1,413 @@
+//! Refusals in JSON.
+
+ghost use Rattle.std.specs.Prelude.{◌≡◌, ◌+◌, ◌≤◌, [], ◌∷◌, ◌++◌, ◌&&◌, true, codes, length, IsOk, OnOk, vec_len, vec_capacity};
+ghost use Rattle.std.specs.List.{list_all};
+ghost use Rattle.cf_calls.specs.declared.refusal.Refusal.TheVariants as refused;
+ghost use Rattle.cf_json.specs.Objects.{fields, count, text_of};
+ghost use Rattle.cf_json.specs.Parts.{part_data, part_room, is_plain, is_plain_part};
+ghost use Rattle.cf_json.specs.Refusals as spec;
+
+use crate::parts::Part::{Cents, Date, Number, Signed, Word, YearMonth};
+use crate::parts::{Part, put_object};
+use cf_base::Day;
+use cf_calls::{AssetFault, DocumentKind, DocumentState, NameKind, Refusal, Role};
+use std::alloc::AllocError;
+
+fn role_word(role: Role) -> &'static str
+    ensures value { result.now ≡ spec.role_word role }
+    ensures plain { list_all is_plain result.now ≡ true }
+    ensures short { length result.now ≤ 12 }
+{
+    match role {
+        Role::Council => "council",
+        Role::Dept => "dept",
+        Role::Purchasing => "purchasing",
+        Role::Payables => "payables",
+        Role::Treasury => "treasury",
+        Role::Revenue => "revenue",
+        Role::Assets => "assets",
+        Role::Payroll => "payroll",
+        Role::Controller => "controller",
+    }
+}
+
+fn name_word(kind: NameKind) -> &'static str
+    ensures value { result.now ≡ spec.name_word kind }
+    ensures plain { list_all is_plain result.now ≡ true }
+    ensures short { length result.now ≤ 12 }
+{
+    match kind {
+        NameKind::Fund => "fund",
+        NameKind::Dept => "dept",
+        NameKind::Object => "object",
+        NameKind::Line => "line",
+        NameKind::Source => "source",
+        NameKind::Requisition => "requisition",
+        NameKind::Order => "order",
+        NameKind::Voucher => "voucher",
+        NameKind::Bill => "bill",
+        NameKind::Asset => "asset",
+        NameKind::Bond => "bond",
+    }
+}
+
+fn document_word(kind: DocumentKind) -> &'static str
+    ensures value { result.now ≡ spec.document_word kind }
+    ensures plain { list_all is_plain result.now ≡ true }
+    ensures short { length result.now ≤ 12 }
+{
+    match kind {
+        DocumentKind::Requisition => "requisition",
+        DocumentKind::Order => "order",
+        DocumentKind::Item => "item",
+        DocumentKind::Voucher => "voucher",
+        DocumentKind::Bond => "bond",
+    }
+}
+
+fn state_word(state: DocumentState) -> &'static str
+    ensures value { result.now ≡ spec.state_word state }
+    ensures plain { list_all is_plain result.now ≡ true }
+    ensures short { length result.now ≤ 12 }
+{
+    match state {
+        DocumentState::Withdrawn => "withdrawn",
+        DocumentState::Ordered => "ordered",
+        DocumentState::Lapsed => "lapsed",
+        DocumentState::OtherYear => "other year",
+        DocumentState::Ended => "ended",
+        DocumentState::Finished => "finished",
+        DocumentState::Cancelled => "cancelled",
+        DocumentState::Paid => "paid",
+        DocumentState::Void => "void",
+        DocumentState::Later => "later",
+    }
+}
+
+fn fault_word(fault: AssetFault) -> &'static str
+    ensures value { result.now ≡ spec.fault_word fault }
+    ensures plain { list_all is_plain result.now ≡ true }
+    ensures short { length result.now ≤ 12 }
+{
+    match fault {
+        AssetFault::Void => "void",
+        AssetFault::Disposed => "disposed",
+        AssetFault::Charged => "charged",
+        AssetFault::Later => "later",
+    }
+}
+
+/// Appends a refusal with one value, where its field stands between the number and the name.
+fn put_middle<'a>(
+    out: &mut Vec<u8>,
+    code: u64,
+    field: &'a str,
+    part: &Part<'a>,
+    name: &'a str,
+) -> Result<(), AllocError>
+    requires field { list_all is_plain field.now ≡ true }
+    requires part { is_plain_part part.now ≡ true }
+    requires name { list_all is_plain name.now ≡ true }
+    ensures text { OnOk result (out.new.items ≡ out.old.items ++ text_of (fields ((codes "code", count code) ∷ (field.now, part_data part.now) ∷ spec.named name.now ∷ []))) }
+    ensures longer { vec_len out.new ≤ vec_len out.old + (length field.now + part_room part.now + length name.now + 64) }
+    ensures room { vec_len out.old + (length field.now + part_room part.now + length name.now + 64) ≤ vec_capacity out.old → IsOk result }
+    ensures capacity { vec_capacity out.old ≤ vec_capacity out.new }
+{
+    put_object(
+        out,
+        &[("code", Number(code)), (field, *part), ("name", Word(name))],
+    )
+}
+
+/// The same, where its field stands after the name.
+fn put_last<'a>(
+    out: &mut Vec<u8>,
+    code: u64,
+    name: &'a str,
+    field: &'a str,
+    part: &Part<'a>,
+) -> Result<(), AllocError>
+    requires field { list_all is_plain field.now ≡ true }
+    requires part { is_plain_part part.now ≡ true }
+    requires name { list_all is_plain name.now ≡ true }
+    ensures text { OnOk result (out.new.items ≡ out.old.items ++ text_of (fields ((codes "code", count code) ∷ spec.named name.now ∷ (field.now, part_data part.now) ∷ []))) }
+    ensures longer { vec_len out.new ≤ vec_len out.old + (length field.now + part_room part.now + length name.now + 64) }
+    ensures room { vec_len out.old + (length field.now + part_room part.now + length name.now + 64) ≤ vec_capacity out.old → IsOk result }
+    ensures capacity { vec_capacity out.old ≤ vec_capacity out.new }
+{
+    put_object(
+        out,
+        &[("code", Number(code)), ("name", Word(name)), (field, *part)],
+    )
+}
+
+fn put_ahead(out: &mut Vec<u8>, after: u64, seen: u64) -> Result<(), AllocError>
+    ensures text { OnOk result (out.new.items ≡ out.old.items ++ text_of (spec.refusal_data (refused.Ahead after seen))) }
+    ensures longer { vec_len out.new ≤ vec_len out.old + 256 }
+    ensures room { vec_len out.old + 256 ≤ vec_capacity out.old → IsOk result }
+    ensures capacity { vec_capacity out.old ≤ vec_capacity out.new }
+{
+    put_object(
+        out,
+        &[
+            ("after", Number(after)),
+            ("code", Number(2)),
+            ("length", Number(seen)),
+            ("name", Word("Ahead")),
+        ],
+    )
+}
+
+fn put_amount_range(out: &mut Vec<u8>, amount: u64) -> Result<(), AllocError>
+    ensures text { OnOk result (out.new.items ≡ out.old.items ++ text_of (spec.refusal_data (refused.AmountRange amount))) }
+    ensures longer { vec_len out.new ≤ vec_len out.old + 256 }
+    ensures room { vec_len out.old + 256 ≤ vec_capacity out.old → IsOk result }
+    ensures capacity { vec_capacity out.old ≤ vec_capacity out.new }
+{
+    put_object(
+        out,
+        &[
+            ("amount", Cents(amount)),
+            ("code", Number(6)),
+            ("name", Word("AmountRange")),
+        ],
+    )
+}
+
+fn put_unknown_name(out: &mut Vec<u8>, kind: NameKind, id: u32) -> Result<(), AllocError>
+    ensures text { OnOk result (out.new.items ≡ out.old.items ++ text_of (spec.refusal_data (refused.UnknownName kind id))) }
+    ensures longer { vec_len out.new ≤ vec_len out.old + 256 }
+    ensures room { vec_len out.old + 256 ≤ vec_capacity out.old → IsOk result }
+    ensures capacity { vec_capacity out.old ≤ vec_capacity out.new }
+{
+    put_object(
+        out,
+        &[
+            ("code", Number(7)),
+            ("id", Number(id as u64)),
+            ("kind", Word(name_word(kind))),
+            ("name", Word("UnknownName")),
+        ],
+    )
+}
+
+fn put_not_adopted(out: &mut Vec<u8>, fund: u16, year: u16) -> Result<(), AllocError>
+    ensures text { OnOk result (out.new.items ≡ out.old.items ++ text_of (spec.refusal_data (refused.NotAdopted fund year))) }
+    ensures longer { vec_len out.new ≤ vec_len out.old + 256 }
+    ensures room { vec_len out.old + 256 ≤ vec_capacity out.old → IsOk result }
+    ensures capacity { vec_capacity out.old ≤ vec_capacity out.new }
+{
+    put_object(
+        out,
+        &[
+            ("code", Number(12)),
+            ("fund", Number(fund as u64)),
+            ("name", Word("NotAdopted")),
+            ("year", Number(year as u64)),
+        ],
+    )
+}
+
+fn put_document_state(
+    out: &mut Vec<u8>,
+    kind: DocumentKind,
+    number: u32,
+    state: DocumentState,
+) -> Result<(), AllocError>
+    ensures text { OnOk result (out.new.items ≡ out.old.items ++ text_of (spec.refusal_data (refused.DocState kind number state))) }
+    ensures longer { vec_len out.new ≤ vec_len out.old + 256 }
+    ensures room { vec_len out.old + 256 ≤ vec_capacity out.old → IsOk result }
+    ensures capacity { vec_capacity out.old ≤ vec_capacity out.new }
+{
+    put_object(
+        out,
+        &[
+            ("code", Number(13)),
+            ("kind", Word(document_word(kind))),
+            ("name", Word("DocState")),
+            ("number", Number(number as u64)),
+            ("state", Word(state_word(state))),
+        ],
+    )
+}
+
+fn put_not_on_order(out: &mut Vec<u8>, order: u32, item: u16) -> Result<(), AllocError>
+    ensures text { OnOk result (out.new.items ≡ out.old.items ++ text_of (spec.refusal_data (refused.NotOnOrder order item))) }
+    ensures longer { vec_len out.new ≤ vec_len out.old + 256 }
+    ensures room { vec_len out.old + 256 ≤ vec_capacity out.old → IsOk result }
+    ensures capacity { vec_capacity out.old ≤ vec_capacity out.new }
+{
+    put_object(
+        out,
+        &[
+            ("code", Number(15)),
+            ("item", Number(item as u64)),
+            ("name", Word("NotOnOrder")),
+            ("order", Number(order as u64)),
+        ],
+    )
+}
+
+fn put_asset_state(out: &mut Vec<u8>, asset: u32, state: AssetFault) -> Result<(), AllocError>
+    ensures text { OnOk result (out.new.items ≡ out.old.items ++ text_of (spec.refusal_data (refused.AssetState asset state))) }
+    ensures longer { vec_len out.new ≤ vec_len out.old + 256 }
+    ensures room { vec_len out.old + 256 ≤ vec_capacity out.old → IsOk result }
+    ensures capacity { vec_capacity out.old ≤ vec_capacity out.new }
+{
+    put_object(
+        out,
+        &[
+            ("asset", Number(asset as u64)),
+            ("code", Number(18)),
+            ("name", Word("AssetState")),
+            ("state", Word(fault_word(state))),
+        ],
+    )
+}
+
+fn put_debt_due(out: &mut Vec<u8>, bond: u32, day: Day) -> Result<(), AllocError>
+    ensures text { OnOk result (out.new.items ≡ out.old.items ++ text_of (spec.refusal_data (refused.DebtDue bond day))) }
+    ensures longer { vec_len out.new ≤ vec_len out.old + 256 }
+    ensures room { vec_len out.old + 256 ≤ vec_capacity out.old → IsOk result }
+    ensures capacity { vec_capacity out.old ≤ vec_capacity out.new }
+{
+    put_object(
+        out,
+        &[
+            ("bond", Number(bond as u64)),
+            ("code", Number(22)),
+            ("day", Date(day)),
+            ("name", Word("DebtDue")),
+        ],
+    )
+}
+
+fn put_exceeds(out: &mut Vec<u8>, line: u16, asked: i128, room: i128) -> Result<(), AllocError>
+    ensures text { OnOk result (out.new.items ≡ out.old.items ++ text_of (spec.refusal_data (refused.Exceeds line asked room))) }
+    ensures longer { vec_len out.new ≤ vec_len out.old + 256 }
+    ensures room { vec_len out.old + 256 ≤ vec_capacity out.old → IsOk result }
+    ensures capacity { vec_capacity out.old ≤ vec_capacity out.new }
+{
+    put_object(
+        out,
+        &[
+            ("asked", Signed(asked)),
+            ("code", Number(24)),
+            ("line", Number(line as u64)),
+            ("name", Word("Exceeds")),
+            ("room", Signed(room)),
+        ],
+    )
+}
+
+fn put_cash_short(out: &mut Vec<u8>, fund: u16, cash: i128, asked: i128) -> Result<(), AllocError>
+    ensures text { OnOk result (out.new.items ≡ out.old.items ++ text_of (spec.refusal_data (refused.CashShort fund cash asked))) }
+    ensures longer { vec_len out.new ≤ vec_len out.old + 256 }
+    ensures room { vec_len out.old + 256 ≤ vec_capacity out.old → IsOk result }
+    ensures capacity { vec_capacity out.old ≤ vec_capacity out.new }
+{
+    put_object(
+        out,
+        &[
+            ("asked", Signed(asked)),
+            ("cash", Signed(cash)),
+            ("code", Number(25)),
+            ("fund", Number(fund as u64)),
+            ("name", Word("CashShort")),
+        ],
+    )
+}
+
+/// Appends a refusal: its number and name, and the values that it states.
+pub fn put_refusal(out: &mut Vec<u8>, refusal: &Refusal) -> Result<(), AllocError>
+    ensures text { OnOk result (out.new.items ≡ out.old.items ++ text_of (spec.refusal_data refusal.now)) }
+    ensures longer { vec_len out.new ≤ vec_len out.old + 256 }
+    ensures room { vec_len out.old + 256 ≤ vec_capacity out.old → IsOk result }
+    ensures capacity { vec_capacity out.old ≤ vec_capacity out.new }
+{
+    match *refusal {
+        Refusal::DeskUnknown { desk } => put_middle(
+            out,
+            1,
+            "desk",
+            &Number(desk as u64),
+            "DeskUnknown",
+        ),
+        Refusal::Ahead { after, length } => put_ahead(out, after, length),
+        Refusal::KeyReused { was } => put_last(out, 3, "KeyReused", "was", &Number(was)),
+        Refusal::NotThisDesk { role } => put_last(
+            out,
+            4,
+            "NotThisDesk",
+            "role",
+            &Word(role_word(role)),
+        ),
+        Refusal::HistoryFull { limit } => put_middle(
+            out,
+            5,
+            "limit",
+            &Number(limit),
+            "HistoryFull",
+        ),
+        Refusal::AmountRange { amount } => put_amount_range(out, amount),
+        Refusal::UnknownName { kind, id } => put_unknown_name(out, kind, id),
+        Refusal::PeriodClosed { month } => put_middle(
+            out,
+            8,
+            "month",
+            &YearMonth(month),
+            "PeriodClosed",
+        ),
+        Refusal::YearNotOpen { year } => put_last(
+            out,
+            9,
+            "YearNotOpen",
+            "year",
+            &Number(year as u64),
+        ),
+        Refusal::YearClosed { year } => put_last(
+            out,
+            10,
+            "YearClosed",
+            "year",
+            &Number(year as u64),
+        ),
+        Refusal::Adopted { was } => put_last(out, 11, "Adopted", "was", &Number(was)),
+        Refusal::NotAdopted { fund, year } => put_not_adopted(out, fund, year),
+        Refusal::DocState {
+            kind,
+            number,
+            state,
+        } => put_document_state(out, kind, number, state),
+        Refusal::SameHand { desk } => put_middle(out, 14, "desk", &Number(desk as u64), "SameHand"),
+        Refusal::NotOnOrder { order, item } => put_not_on_order(out, order, item),
+        Refusal::OverOpen { open_cents } => put_last(
+            out,
+            16,
+            "OverOpen",
+            "open",
+            &Cents(open_cents),
+        ),
+        Refusal::OverReceivable { left } => put_middle(
+            out,
+            17,
+            "left",
+            &Cents(left),
+            "OverReceivable",
+        ),
+        Refusal::AssetState { asset, state } => put_asset_state(out, asset, state),
+        Refusal::NotDue { next } => put_last(out, 19, "NotDue", "next", &Date(next)),
+        Refusal::LeaveShort { left } => put_middle(out, 20, "left", &Cents(left), "LeaveShort"),
+        Refusal::MonthOrder { next } => put_last(out, 21, "MonthOrder", "next", &YearMonth(next)),
+        Refusal::DebtDue { bond, day } => put_debt_due(out, bond, day),
+        Refusal::WindowOpen { month } => put_middle(
+            out,
+            23,
+            "month",
+            &YearMonth(month),
+            "WindowOpen",
+        ),
+        Refusal::Exceeds { line, asked, room } => put_exceeds(out, line, asked, room),
+        Refusal::CashShort { fund, cash, asked } => put_cash_short(out, fund, cash, asked),
+    }
+}

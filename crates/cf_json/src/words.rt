@@ -1,0 +1,237 @@
+//! The words of calls and of their fields.
+
+ghost use Rattle.std.specs.Prelude.{◌≡◌};
+ghost use Rattle.cf_json.specs.Kinds.{as_word, word_in};
+ghost use Rattle.cf_json.specs.Words.{change_words, look_words, asset_words, leave_words, move_words, period_words, basis_words, statement_words};
+
+use crate::kinds::FieldKind;
+use cf_base::Kind;
+use cf_calls::Basis;
+use cf_calls::acts::FundMoveKind;
+use serde_json::Value;
+
+/// Which changing call a line is.
+#[derive(Clone, Copy)]
+pub enum ChangeWord {
+    Adopt,
+    Amend,
+    Transfer,
+    Requisition,
+    Withdraw,
+    Order,
+    ChangeOrder,
+    CancelOrder,
+    Voucher,
+    VoidVoucher,
+    Pay,
+    Bill,
+    Collect,
+    Receive,
+    WriteOff,
+    Asset,
+    Issue,
+    PayDue,
+    Leave,
+    Interfund,
+    Close,
+}
+
+/// Which look a line is.
+#[derive(Clone, Copy)]
+pub enum LookWord {
+    Line,
+    Requisition,
+    Order,
+    Voucher,
+    Bill,
+    Asset,
+    Bond,
+    Leave,
+    Account,
+    Reconcile,
+    Report,
+}
+
+/// What is done with an asset.
+#[derive(Clone, Copy)]
+pub enum AssetWord {
+    Donate,
+    Dispose,
+}
+
+/// What is done with leave.
+#[derive(Clone, Copy)]
+pub enum LeaveWord {
+    Earn,
+    Use,
+    Mature,
+}
+
+/// What is closed.
+#[derive(Clone, Copy)]
+pub enum PeriodWord {
+    Month,
+    Year,
+}
+
+/// The changing call of a word.
+pub fn change_word(text: &str) -> Option<ChangeWord>
+    ensures { result ≡ word_in change_words text.now }
+{
+    match text {
+        "adopt" => Some(ChangeWord::Adopt),
+        "amend" => Some(ChangeWord::Amend),
+        "transfer" => Some(ChangeWord::Transfer),
+        "requisition" => Some(ChangeWord::Requisition),
+        "withdraw" => Some(ChangeWord::Withdraw),
+        "order" => Some(ChangeWord::Order),
+        "change_order" => Some(ChangeWord::ChangeOrder),
+        "cancel_order" => Some(ChangeWord::CancelOrder),
+        "voucher" => Some(ChangeWord::Voucher),
+        "void_voucher" => Some(ChangeWord::VoidVoucher),
+        "pay" => Some(ChangeWord::Pay),
+        "bill" => Some(ChangeWord::Bill),
+        "collect" => Some(ChangeWord::Collect),
+        "receive" => Some(ChangeWord::Receive),
+        "write_off" => Some(ChangeWord::WriteOff),
+        "asset" => Some(ChangeWord::Asset),
+        "issue" => Some(ChangeWord::Issue),
+        "pay_due" => Some(ChangeWord::PayDue),
+        "leave" => Some(ChangeWord::Leave),
+        "interfund" => Some(ChangeWord::Interfund),
+        "close" => Some(ChangeWord::Close),
+        _ => None,
+    }
+}
+
+/// The look of a word.
+pub fn look_word(text: &str) -> Option<LookWord>
+    ensures { result ≡ word_in look_words text.now }
+{
+    match text {
+        "line" => Some(LookWord::Line),
+        "requisition" => Some(LookWord::Requisition),
+        "order" => Some(LookWord::Order),
+        "voucher" => Some(LookWord::Voucher),
+        "bill" => Some(LookWord::Bill),
+        "asset" => Some(LookWord::Asset),
+        "bond" => Some(LookWord::Bond),
+        "leave" => Some(LookWord::Leave),
+        "account" => Some(LookWord::Account),
+        "reconcile" => Some(LookWord::Reconcile),
+        "report" => Some(LookWord::Report),
+        _ => None,
+    }
+}
+
+impl FieldKind for AssetWord {
+    type Out = AssetWord;
+
+    ghost kind = { as_word asset_words };
+
+    ghost fits = { λ _. Unit {0} };
+
+    fn read(value: &Value) -> Option<AssetWord> {
+        match value.as_str() {
+            Some("donate") => Some(AssetWord::Donate),
+            Some("dispose") => Some(AssetWord::Dispose),
+            _ => None,
+        }
+    }
+}
+
+impl FieldKind for LeaveWord {
+    type Out = LeaveWord;
+
+    ghost kind = { as_word leave_words };
+
+    ghost fits = { λ _. Unit {0} };
+
+    fn read(value: &Value) -> Option<LeaveWord> {
+        match value.as_str() {
+            Some("earn") => Some(LeaveWord::Earn),
+            Some("use") => Some(LeaveWord::Use),
+            Some("mature") => Some(LeaveWord::Mature),
+            _ => None,
+        }
+    }
+}
+
+impl FieldKind for PeriodWord {
+    type Out = PeriodWord;
+
+    ghost kind = { as_word period_words };
+
+    ghost fits = { λ _. Unit {0} };
+
+    fn read(value: &Value) -> Option<PeriodWord> {
+        match value.as_str() {
+            Some("month") => Some(PeriodWord::Month),
+            Some("year") => Some(PeriodWord::Year),
+            _ => None,
+        }
+    }
+}
+
+/// How cash moves between two funds.
+pub struct MoveWord;
+
+impl FieldKind for MoveWord {
+    type Out = FundMoveKind;
+
+    ghost kind = { as_word move_words };
+
+    ghost fits = { λ _. Unit {0} };
+
+    fn read(value: &Value) -> Option<FundMoveKind> {
+        match value.as_str() {
+            Some("transfer") => Some(FundMoveKind::Transfer),
+            Some("loan") => Some(FundMoveKind::Loan),
+            Some("repay") => Some(FundMoveKind::Repay),
+            _ => None,
+        }
+    }
+}
+
+/// A basis of accounting.
+pub struct BasisWord;
+
+impl FieldKind for BasisWord {
+    type Out = Basis;
+
+    ghost kind = { as_word basis_words };
+
+    ghost fits = { λ _. Unit {0} };
+
+    fn read(value: &Value) -> Option<Basis> {
+        match value.as_str() {
+            Some("fund") => Some(Basis::Fund),
+            Some("gov") => Some(Basis::Gov),
+            _ => None,
+        }
+    }
+}
+
+/// The kind of a statement.
+pub struct StatementWord;
+
+impl FieldKind for StatementWord {
+    type Out = Kind;
+
+    ghost kind = { as_word statement_words };
+
+    ghost fits = { λ _. Unit {0} };
+
+    fn read(value: &Value) -> Option<Kind> {
+        match value.as_str() {
+            Some("balance") => Some(Kind::Balance),
+            Some("operating") => Some(Kind::Operating),
+            Some("budget") => Some(Kind::Budget),
+            Some("position") => Some(Kind::Position),
+            Some("activities") => Some(Kind::Activities),
+            Some("reconcile") => Some(Kind::Reconcile),
+            Some("changes") => Some(Kind::Changes),
+            _ => None,
+        }
+    }
+}

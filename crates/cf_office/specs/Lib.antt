@@ -1,0 +1,9 @@
+pub mod BookView
+pub mod Keys
+pub mod Least
+pub mod Moved
+pub mod PlainView
+pub mod Posts
+pub mod Prepared
+pub mod RestState
+pub mod RestView

@@ -1,0 +1,102 @@
+//! The office that answers by running numbers and look-ups.
+
+ghost use Rattle.std.specs.Prelude.{◌≡◌, ◌≤◌, [], length, take, ℕ};
+ghost use Rattle.cf_model.specs.LineNumbers.{HasRoom};
+ghost use Rattle.cf_model.specs.Step.{IsLegal};
+
+use crate::history::{History, Office};
+use crate::prepared::{apply_lines, apply_rest, reserve};
+use crate::rest::Rest;
+use cf_budget::Lines;
+use cf_calls::{Change, Entry, LineNumbers, Made};
+use cf_chart::{Chart, LineId};
+use std::alloc::{AllocError, Global};
+use std::marker::Model;
+
+/// A chart, the entries accepted so far, and the line numbers that they make. No call goes over the history.
+#[derive(Drop)]
+pub struct BookOffice {
+    lines: Lines,
+    rest: Rest,
+}
+
+impl Model for BookOffice {
+    ghost use Rattle.cf_model.specs.State.{OfficeState};
+
+    ghost Value = { OfficeState };
+
+    ghost use Rattle.cf_office.specs.BookView.{book_state, IsTied};
+
+    ghost view = { book_state };
+
+    ghost invariant = { IsTied };
+}
+
+impl BookOffice {
+    /// The office of the empty history. It takes no memory.
+    pub fn new(alloc: Global, chart: Chart) -> BookOffice
+        ensures chart { result.plan ≡ chart }
+        ensures empty { result.entries ≡ [] }
+    {
+        BookOffice {
+            lines: Lines::new(alloc),
+            rest: Rest::new(alloc, chart),
+        }
+    }
+
+    /// The entries. At each place of the history no control line is overspent in any year.
+    pub fn entries(&self) -> &[Entry]
+        ensures value { result.now ≡ self.now.entries }
+        ensures few { length self.now.entries ≤ 1048576 }
+        ensures legal { IsLegal self.now.plan self.now.entries }
+        ensures control { (n : ℕ) → HasRoom self.now.plan (take n self.now.entries) }
+    {
+        self.rest.entries()
+    }
+}
+
+impl History for BookOffice {
+    ghost plan = { λ s. s.plan };
+
+    ghost entries = { λ s. s.entries };
+
+    fn chart(&self) -> &Chart {
+        self.rest.chart()
+    }
+
+    fn len(&self) -> u64 {
+        self.rest.entries().len() as u64
+    }
+
+    fn known(&self, change: &Change) -> Option<u64> {
+        self.rest.known(change)
+    }
+
+    fn is_repeat(&self, change: &Change, place: u64) -> bool {
+        self.rest.is_repeat(change, place)
+    }
+
+    fn made_at(&self, place: u64) -> Made {
+        self.rest.made_at(place)
+    }
+
+    fn adopted(&self, fund: u16, year: u16) -> Option<u64> {
+        self.rest.adopted(fund, year)
+    }
+
+    fn vouchers(&self) -> u32 {
+        self.rest.vouchers()
+    }
+
+    fn numbers(&self, line: u16, year: u16) -> LineNumbers {
+        self.lines.numbers(LineId { number: line }, year)
+    }
+}
+
+impl Office for BookOffice {
+    fn accept(&mut self, entry: Entry) -> Result<Made, AllocError> {
+        let prepared = reserve(&mut self.lines, &mut self.rest, entry)?;
+        apply_lines(&mut self.lines, prepared.lines);
+        Ok(apply_rest(&mut self.rest, prepared.rest))
+    }
+}

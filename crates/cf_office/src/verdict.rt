@@ -1,0 +1,196 @@
+//! The verdict on a change, and the answer of a look: the rules in their order, over any history.
+
+ghost use Rattle.std.specs.Prelude.{◌≡◌, ◌<◌, ◌≤◌, true, None, length};
+ghost use Rattle.cf_calls.specs.Form.{IsChangeInForm};
+ghost use Rattle.cf_model.specs.Rules as rules;
+ghost use Rattle.cf_model.specs.Step as step;
+
+use crate::exceeds::exceed_rule;
+use crate::history::History;
+use crate::names::name_rule;
+use crate::rules::{
+    adopted_rule, ahead_rule, amount_rule, closed_rule, desk_rule, full_rule, is_built, or,
+    period_rule, role_rule, unadopted_rule, year_rule,
+};
+use cf_calls::{Act, Body, Change, Drawn, Look, Made, NameKind, Read, Refusal, Shown, Verdict};
+
+/// The rules before a repeat: an unknown desk, and a caller that has seen more than the history has.
+fn first_rules<H: History>(history: &H, change: &Change) -> Option<Refusal>
+    ensures { result ≡ rules.first_of (step.first_rules (H.plan history.now) (H.entries history.now) change.now) }
+{
+    or(
+        desk_rule(history.chart(), change.desk),
+        or(ahead_rule(change.after, history.len()), None),
+    )
+}
+
+/// The rules of the desk's role, the history's length, amounts and names.
+fn call_rules<H: History>(history: &H, change: &Change) -> Option<Refusal>
+    requires { step.is_built (H.plan history.now) change.now.act ≡ true }
+    ensures first { result ≡ rules.first_of (step.call_rules (H.plan history.now) (H.entries history.now) change.now) }
+{
+    let chart = history.chart();
+    let act = &change.act;
+    if let Some(refusal) = role_rule(chart, change.desk, act) {
+        return Some(refusal);
+    }
+    if let Some(refusal) = full_rule(history.len()) {
+        return Some(refusal);
+    }
+    if let Some(refusal) = amount_rule(chart, act) {
+        return Some(refusal);
+    }
+    or(name_rule(chart, act), None)
+}
+
+/// The rules of periods and adopted budgets.
+fn period_rules<H: History>(history: &H, change: &Change) -> Option<Refusal>
+    requires { IsChangeInForm change.now }
+    ensures { result ≡ rules.first_of (step.period_rules (H.plan history.now) (H.entries history.now) change.now) }
+{
+    if let Some(refusal) = period_rule(history, change.on) {
+        return Some(refusal);
+    }
+    if let Some(refusal) = year_rule(history, change.on, &change.act) {
+        return Some(refusal);
+    }
+    if let Some(refusal) = closed_rule(history, change.on, &change.act) {
+        return Some(refusal);
+    }
+    if let Some(refusal) = adopted_rule(history, &change.act) {
+        return Some(refusal);
+    }
+    or(unadopted_rule(history, change.on, &change.act), None)
+}
+
+/// The rules after a repeat, the least broken one first.
+#[tactic(auto, using(cf_model::proofs::First::rule_lists))]
+fn later_rules<H: History>(history: &H, change: &Change) -> Option<Refusal>
+    requires form { IsChangeInForm change.now }
+    requires built { step.is_built (H.plan history.now) change.now.act ≡ true }
+    ensures { result ≡ rules.first_of (step.later_rules (H.plan history.now) (H.entries history.now) change.now) }
+{
+    if let Some(refusal) = call_rules(history, change) {
+        return Some(refusal);
+    }
+    if let Some(refusal) = period_rules(history, change) {
+        return Some(refusal);
+    }
+    exceed_rule(history, change)
+}
+
+/// The numbers that a change draws: the next of its kind.
+fn draws<H: History>(history: &H, act: &Act) -> Drawn
+    ensures { result ≡ step.draws (H.entries history.now) act.now }
+{
+    if act.is_voucher() {
+        Drawn {
+            number: history.vouchers() + 1,
+            second: 1,
+        }
+    } else {
+        Drawn {
+            number: 0,
+            second: 0,
+        }
+    }
+}
+
+/// A change whose desk used the key before: a repeat where it is the same call.
+fn judge_known<H: History>(history: &H, change: &Change, was: u64) -> Verdict
+    ensures { result ≡ step.verdict_known (H.entries history.now) change.now was }
+{
+    if history.is_repeat(change, was) {
+        Verdict::Repeat { was }
+    } else {
+        Verdict::Refuse(Refusal::KeyReused { was })
+    }
+}
+
+fn judge_new<H: History>(history: &H, change: &Change) -> Verdict
+    requires form { IsChangeInForm change.now }
+    requires built { step.is_built (H.plan history.now) change.now.act ≡ true }
+    ensures { result ≡ step.verdict_new (H.plan history.now) (H.entries history.now) change.now None }
+{
+    match later_rules(history, change) {
+        Some(refusal) => Verdict::Refuse(refusal),
+        None => Verdict::Accept(draws(history, &change.act)),
+    }
+}
+
+fn judge_built<H: History>(history: &H, change: &Change) -> Verdict
+    requires form { IsChangeInForm change.now }
+    requires built { step.is_built (H.plan history.now) change.now.act ≡ true }
+    ensures { result ≡ step.verdict_after (H.plan history.now) (H.entries history.now) change.now
+        (rules.first_of (step.first_rules (H.plan history.now) (H.entries history.now) change.now)) }
+{
+    if let Some(refusal) = first_rules(history, change) {
+        return Verdict::Refuse(refusal);
+    }
+    match history.known(change) {
+        Some(was) => judge_known(history, change, was),
+        None => judge_new(history, change),
+    }
+}
+
+/// What the rules say of a change over a history: that it is accepted with the numbers that it draws, that it
+/// repeats an earlier call, the least broken rule with its values, or that the office doesn't know the change
+/// yet. It takes no memory.
+pub fn judge<H: History>(history: &H, change: &Change) -> Verdict
+    requires { IsChangeInForm change.now }
+    ensures { result ≡ step.verdict_of (H.plan history.now) (H.entries history.now) change.now }
+{
+    if is_built(history.chart(), &change.act) {
+        judge_built(history, change)
+    } else {
+        Verdict::Unbuilt
+    }
+}
+
+/// What an accepted change made.
+pub fn made_of(drawn: Drawn, act: &Act) -> Made
+    ensures { result ≡ step.made_by drawn act.now }
+{
+    if act.is_voucher() {
+        Made::Voucher {
+            number: drawn.number,
+            first_asset: drawn.second,
+            assets: 0,
+        }
+    } else {
+        Made::Nothing
+    }
+}
+
+/// The numbers of a line and year, or that there is no such line.
+fn show_line<H: History>(history: &H, line: u16, year: u16) -> Body
+    ensures { result ≡ step.line_shown (H.plan history.now) (H.entries history.now) line year }
+{
+    match history.chart().line(line) {
+        Some(_) => Body::Shown(Shown::Line(history.numbers(line, year))),
+        None => Body::Refused(Refusal::UnknownName {
+            kind: NameKind::Line,
+            id: u32::from(line),
+        }),
+    }
+}
+
+fn answer_line<H: History>(history: &H, after: Option<u64>, line: u16, year: u16) -> Body
+    ensures { result ≡ step.unless_refused (rules.ahead_refusal after (length (H.entries history.now))) (step.line_shown (H.plan history.now) (H.entries history.now) line year) }
+{
+    match ahead_rule(after, history.len()) {
+        Some(refusal) => Body::Refused(refusal),
+        None => show_line(history, line, year),
+    }
+}
+
+/// What a look shows: `None` exactly for a look that the office doesn't know yet. A look is refused where the
+/// caller has seen more than the history has, and where there is nothing of its name.
+pub fn answer<H: History>(history: &H, look: &Look) -> Option<Body>
+    ensures { result ≡ step.look_body (H.plan history.now) (H.entries history.now) look.now }
+{
+    match look.read {
+        Read::Line { line, year } => Some(answer_line(history, look.after, line, year)),
+        _ => None,
+    }
+}

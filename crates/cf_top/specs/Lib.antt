@@ -1,0 +1,5 @@
+pub mod Answers
+pub mod ChartFile
+pub mod Clerks
+pub mod Runs
+pub mod Words

@@ -1,0 +1,204 @@
+//! Two offices over one talk.
+
+use crate::clerk::Clerk;
+use cf_base::{MemSink, MemSource};
+use cf_chart::Chart;
+use cf_desk::{Ended, run_lines};
+use cf_office::{BookOffice, Office, PlainOffice};
+use std::alloc::{AllocError, Global};
+use std::test::Fail;
+
+const CHART: &str = r#"city = "Ferryton"
+first_year = 2026
+first_month = 7
+[[function]]
+id = 1
+name = "Government"
+[[fund]]
+id = 1
+name = "General Fund"
+type = "general"
+level = "object"
+policy = "lapse"
+[[fund]]
+id = 2
+name = "Street Fund"
+type = "special_revenue"
+level = "department"
+policy = "carry"
+[[department]]
+id = 10
+name = "Office"
+function = 1
+[[department]]
+id = 20
+name = "Streets"
+function = 1
+[[object]]
+id = 510
+name = "Supplies"
+class = 5
+kind = "current"
+[[object]]
+id = 520
+name = "Services"
+class = 5
+kind = "current"
+[[source]]
+id = 1
+name = "Fees"
+fund = 1
+kind = "charges"
+function = 1
+window = 30
+[[line]]
+fund = 1
+dept = 10
+object = 510
+[[line]]
+fund = 1
+dept = 10
+object = 520
+[[line]]
+fund = 1
+dept = 20
+object = 510
+[[line]]
+fund = 2
+dept = 20
+[[desk]]
+id = 1
+name = "Council"
+roles = ["council"]
+[[desk]]
+id = 2
+name = "Payables"
+roles = ["payables"]
+[[desk]]
+id = 3
+name = "Both"
+roles = ["council", "payables"]
+"#;
+
+/// Numbers by a linear congruential generator (Knuth's), the same in every run.
+#[derive(Drop)]
+struct Draws {
+    state: u64,
+}
+
+impl Draws {
+    /// A number below `n`.
+    fn below(&mut self, n: u16) -> u16 {
+        self.state = self
+            .state
+            .wrapping_mul(6_364_136_223_846_793_005)
+            .wrapping_add(1_442_695_040_888_963_407);
+        let drawn = (self.state >> 48) as u16;
+        drawn.checked_rem(n).unwrap_or(0)
+    }
+
+    fn year(&mut self) -> u32 {
+        2026 + u32::from(self.below(3))
+    }
+
+    fn desk(&mut self) -> u32 {
+        match self.below(6) {
+            0 => 1,
+            1 => 2,
+            2 => 9,
+            _ => 3,
+        }
+    }
+
+    fn fund(&mut self) -> u32 {
+        match self.below(6) {
+            0 => 2,
+            1 => 3,
+            _ => 1,
+        }
+    }
+
+    fn line(&mut self) -> u32 {
+        match self.below(6) {
+            0 => 4,
+            1 => 3,
+            2 => 2,
+            3 => 1,
+            _ => 0,
+        }
+    }
+
+    fn object(&mut self) -> u32 {
+        match self.below(4) {
+            0 => 500,
+            1 => 520,
+            _ => 510,
+        }
+    }
+}
+
+/// A line of a talk: most are calls, some of them with faults, and old keys come again.
+fn line_of(alloc: Global, draws: &mut Draws) -> Result<String, AllocError> {
+    let (desk, year, key) = (draws.desk(), draws.year(), draws.below(900));
+    let (fund, line, other) = (draws.fund(), draws.line(), draws.line());
+    let (object, amount) = (draws.object(), draws.below(9000));
+    match draws.below(9) {
+        0 => format!(in alloc;
+            "{{\"call\":\"adopt\",\"desk\":{desk},\"key\":\"k{key}\",\"on\":\"2025-08-01\",\"fund\":{fund},\"year\":{year},\"lines\":[{{\"line\":{line},\"amount\":{amount}}}],\"estimates\":[]}}"
+        ),
+        1 | 2 => format!(in alloc;
+            "{{\"call\":\"amend\",\"desk\":{desk},\"key\":\"k{key}\",\"on\":\"2025-08-02\",\"fund\":{fund},\"year\":{year},\"line\":{line},\"by\":{amount}}}"
+        ),
+        3 => format!(in alloc;
+            "{{\"call\":\"amend\",\"desk\":{desk},\"key\":\"k{key}\",\"on\":\"2025-08-02\",\"fund\":{fund},\"year\":{year},\"line\":{line},\"by\":-{amount}}}"
+        ),
+        4 => format!(in alloc;
+            "{{\"call\":\"transfer\",\"desk\":{desk},\"key\":\"k{key}\",\"on\":\"2025-08-03\",\"fund\":{fund},\"year\":{year},\"from\":{line},\"to\":{other},\"amount\":{amount}}}"
+        ),
+        5 | 6 => format!(in alloc;
+            "{{\"call\":\"voucher\",\"desk\":{desk},\"key\":\"k{key}\",\"on\":\"2025-08-04\",\"vendor\":7,\"items\":[{{\"fund\":{fund},\"dept\":10,\"object\":{object},\"amount\":{amount}}},{{\"fund\":1,\"dept\":10,\"object\":510,\"amount\":{amount}}}]}}"
+        ),
+        7 => format!(in alloc;
+            "{{\"call\":\"line\",\"line\":{line},\"year\":{year},\"after\":{key}}}"
+        ),
+        _ => format!(in alloc; "{{\"call\":\"line\",\"line\":{line},\"year\":{year}}}"),
+    }
+}
+
+/// A talk of 2,000 lines.
+fn talk(alloc: Global) -> Result<Vec<u8>, AllocError> {
+    let mut draws = Draws { state: 2026 };
+    let mut bytes = Vec::new(alloc);
+    for _ in 0..2000 {
+        let line = line_of(alloc, &mut draws)?;
+        bytes.extend_from_slice(line.as_bytes())?;
+        bytes.push(b'\n')?;
+    }
+    Ok(bytes)
+}
+
+/// How a talk with an office of no entries ends, what the office replies, and how many calls it accepts.
+fn replies<B: Office + Drop>(
+    alloc: Global,
+    office: B,
+) -> Result<(Ended, MemSink, u64), AllocError> {
+    let mut clerk = Clerk { alloc, office };
+    let mut source = MemSource::new(talk(alloc)?);
+    let mut sink = MemSink::new(alloc);
+    let ended = run_lines(alloc, &mut clerk, &mut source, &mut sink);
+    Ok((ended, sink, clerk.office.len()))
+}
+
+#[test]
+fn both_offices_reply_the_same(rt: HostRuntime) -> Result<(), Fail> {
+    let alloc = rt.alloc();
+    let plain = Chart::read(alloc, CHART.as_bytes()).ok().ok_or("no chart")?;
+    let book = Chart::read(alloc, CHART.as_bytes()).ok().ok_or("no chart")?;
+    let (plain_end, by_sums, _) = replies(alloc, PlainOffice::new(alloc, plain))?;
+    let (book_end, by_running_numbers, accepted) = replies(alloc, BookOffice::new(alloc, book))?;
+    assert_eq!(rt; plain_end, Ended::Ok);
+    assert_eq!(rt; book_end, Ended::Ok);
+    assert!(rt; accepted > 100);
+    assert_eq!(rt; by_running_numbers.bytes(), by_sums.bytes());
+    Ok(())
+}

@@ -1,0 +1,42 @@
+//! The program: the real ends of what `cf_top::run` works over.
+#![tactic(auto)]
+
+use cf_base::{FileSource, StdSink, StdSource};
+use cf_top::{Status, run};
+use std::process::ExitCode;
+use std::{env, io};
+
+/// The words after the program's name.
+fn words(rt: &HostRuntime) -> io::Result<Vec<String>> {
+    let words = env::args(rt)?.skip(1).collect(rt.alloc())?;
+    Ok(words)
+}
+
+/// The status of words that can't be had: they are no text, or there is no memory.
+fn wordless(error: &io::Error) -> Status {
+    if error.kind() == io::ErrorKind::OutOfMemory {
+        Status::NoMemory
+    } else {
+        Status::BadWords
+    }
+}
+
+fn main(rt: HostRuntime) -> ExitCode {
+    let mut chart = FileSource::new(&rt, "chart.toml");
+    let mut input = StdSource::new(rt.reader());
+    let mut out = StdSink::new(rt.stdout());
+    let status = match words(&rt) {
+        Ok(words) => run(
+            rt.alloc(),
+            words.as_slice(),
+            &mut chart,
+            &mut input,
+            &mut out,
+        ),
+        Err(error) => wordless(&error),
+    };
+    if status != Status::Ok {
+        let _ = eprintln!(rt; "cityfund: {}", status.text());
+    }
+    ExitCode::from(status.code())
+}
