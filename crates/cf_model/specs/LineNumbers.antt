@@ -11,11 +11,8 @@ use Rattle.cf_calls.specs.declared.shown.RequisitionState.TheVariants as requisi
 use Rattle.cf_calls.specs.declared.shown.VoucherState.{VoucherState}
 use Rattle.cf_calls.specs.declared.shown.VoucherState.TheVariants as voucher
 use Rattle.cf_chart.specs.Plan.{Plan, line_of}
-use Rattle.cf_calls.specs.declared.items.VoucherItem.{VoucherItem}
-use Rattle.cf_calls.specs.Acts.{voucher_items}
-use Rattle.cf_model.specs.Calendar.{document_year}
 use Rattle.cf_model.specs.OrderItems.{OrderItem, Carried, open_of}
-use Rattle.cf_model.specs.Documents.{Hold, Expenditure, Documents, documents_of}
+use Rattle.cf_model.specs.Documents.{Hold, Expenditure, documents_of, carried_in}
 
 -- ---- the appropriation
 
@@ -98,7 +95,7 @@ expended_sum plan line year expenditures = sum_by (λ s. if counts plan line yea
 -- the adopted amount, amendments, transfers, and what was carried in
 abbrev pub appropriated : Plan → ℕ → ℕ → List Entry → ℤ
 appropriated plan line year history =
-    pos (added line year history + carried_sum plan line year (documents_of plan history).carried) -ℤ pos (removed line year history)
+    pos (added line year history + carried_sum plan line year (carried_in plan history)) -ℤ pos (removed line year history)
 
 abbrev pub held : Plan → ℕ → ℕ → List Entry → ℕ
 held plan line year history = held_sum plan line year (documents_of plan history).holds
@@ -123,14 +120,6 @@ numbers plan line year history = record {
   expended = pos (expended plan line year history);
   room = room plan line year history;
 }
-
--- what a voucher's items have on a line
-abbrev pub spent_by : Plan → ℕ → List VoucherItem → ℕ
-spent_by plan line items = sum_by (λ i. if is_on plan line i.account then i.account.amount else 0) items
-
--- what an entry spends on a line and year
-abbrev pub spent : Plan → ℕ → ℕ → Entry → ℕ
-spent plan line year e = if document_year plan e.change.on e.change.act == year then spent_by plan line (voucher_items e.change.act) else 0
 
 -- the years that have numbers are below this one: the roll of 2199 carries into 2200
 unfoldable pub last_year : ℕ
