@@ -40,22 +40,32 @@ open_rise step i = pos (open_of (step i)) -ℤ pos (open_of i)
 abbrev pub item_move : (OrderItem → OrderItem) → OrderItem → Move
 item_move step i = record { account = i.account; year = i.year; held = pos 0; encumbered = open_rise step i; expended = pos 0 }
 
-abbrev pub rise_if : (OrderItem → OrderItem) → Option OrderItem → ℤ
-rise_if step None = pos 0
-rise_if step (Some i) = open_rise step i
+-- an amount that is spent, and one that is taken back
+abbrev pub spend_move : ℕ → VoucherItem → Move
+spend_move year v = record { account = v.account; year = year; held = pos 0; encumbered = pos 0; expended = pos v.account.amount }
 
--- the rise of what is open on the item that a charge names
-abbrev pub charge_rise : (OrderItem → OrderItem) → List OrderItem → Charge → ℤ
-charge_rise step items Direct = pos 0
-charge_rise step items (OnOrder order place how) = rise_if step (item_named order place items)
+abbrev pub unspend_move : Expenditure → Move
+unspend_move x = record { account = x.account; year = x.year; held = pos 0; encumbered = pos 0; expended = pos 0 -ℤ pos (expended_amount x.state x.account.amount) }
 
--- an amount that is spent, on the appropriation itself or on an order's item
-abbrev pub spend_move : (OrderItem → OrderItem) → List OrderItem → ℕ → VoucherItem → Move
-spend_move step items year v = record { account = v.account; year = year; held = pos 0; encumbered = charge_rise step items v.charge; expended = pos v.account.amount }
+-- the order's item that a charge is against
+abbrev pub charged_item : Charge → List OrderItem → Option OrderItem
+charged_item Direct items = None
+charged_item (OnOrder order place how) items = item_named order place items
 
--- an amount that is taken back
-abbrev pub void_move : (OrderItem → OrderItem) → List OrderItem → Expenditure → Move
-void_move step items x = record { account = x.account; year = x.year; held = pos 0; encumbered = charge_rise step items x.charge; expended = pos 0 -ℤ pos (expended_amount x.state x.account.amount) }
+abbrev pub move_if : (OrderItem → OrderItem) → AccountItem → ℕ → Option OrderItem → Move
+move_if step account year None = record { account = account; year = year; held = pos 0; encumbered = pos 0; expended = pos 0 }
+move_if step account year (Some i) = item_move step i
+
+-- what a voucher's item liquidates or opens again of its order's item, and nothing where it is direct
+abbrev pub charge_move : (OrderItem → OrderItem) → List OrderItem → ℕ → VoucherItem → Move
+charge_move step items year v = move_if step v.account year (charged_item v.charge items)
+
+abbrev pub reopen_move : (OrderItem → OrderItem) → List OrderItem → Expenditure → Move
+reopen_move step items x = move_if step x.account x.year (charged_item x.charge items)
+
+-- the items of a voucher
+abbrev pub spent_by : ℕ → List Expenditure → List Expenditure
+spent_by voucher expenditures = filter (λ x. x.voucher == voucher) expenditures
 
 abbrev pub releases : Option ℕ → List Hold → List Move
 releases requisition holds = map release_move (filter (λ h. is_number requisition h.requisition) holds)
@@ -67,8 +77,12 @@ moves_of plan s number on (Withdraw n) = releases (Some n) s.holds
 moves_of plan s number on (Order o) = releases o.requisition s.holds ++ map (order_move (document_year plan on (Order o))) o.items
 moves_of plan s number on (ChangeOrder c) = map (item_move (item_step plan number (ChangeOrder c))) (filter (is_named c.order c.item) s.items)
 moves_of plan s number on (CancelOrder n) = map (item_move (item_step plan number (CancelOrder n))) (filter (λ i. i.order == n) s.items)
-moves_of plan s number on (Voucher v) = map (spend_move (item_step plan number (Voucher v)) s.items (document_year plan on (Voucher v))) v.items
-moves_of plan s number on (VoidVoucher n) = map (void_move (item_step plan number (VoidVoucher n)) s.items) (filter (λ x. x.voucher == n) s.expenditures)
+moves_of plan s number on (Voucher v) =
+    map (spend_move (document_year plan on (Voucher v))) v.items
+    ++ map (charge_move (item_step plan number (Voucher v)) s.items (document_year plan on (Voucher v))) v.items
+moves_of plan s number on (VoidVoucher n) =
+    map unspend_move (spent_by n s.expenditures)
+    ++ map (reopen_move (item_step plan number (VoidVoucher n)) s.items) (spent_by n s.expenditures)
 moves_of plan s number on _ = []
 
 -- what moves make of one number of a line and year
