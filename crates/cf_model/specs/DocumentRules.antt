@@ -1,5 +1,5 @@
 -- The rules on documents: their states, whose hand made them, and what is open (GFOA Blue Book: encumbrances; own rules).
-use Rattle.std.specs.Prelude.{ℕ, Bool, true, false, not, if◌then◌else◌, ◌==◌, ◌&&◌, nat_lt, List, [], ◌∷◌, Option, Some, None, ℤ, pos, unsigned_abs, int_lt}
+use Rattle.std.specs.Prelude.{ℕ, Bool, false, not, if◌then◌else◌, ◌==◌, ◌&&◌, nat_lt, List, [], ◌∷◌, Option, Some, None, ℤ, pos, unsigned_abs, int_lt}
 use Rattle.std.specs.List.{list_any}
 use Rattle.cf_base.specs.declared.calendar.Day.{Day}
 use Rattle.cf_calls.specs.declared.acts.Act.{Act}
@@ -10,9 +10,7 @@ use Rattle.cf_calls.specs.declared.items.Charge.{Charge}
 use Rattle.cf_calls.specs.declared.items.Charge.TheVariants.{Direct, OnOrder}
 use Rattle.cf_calls.specs.declared.items.Liquidation.{Liquidation}
 use Rattle.cf_calls.specs.declared.items.Liquidation.TheVariants.{Recorded}
-use Rattle.cf_calls.specs.declared.names.DocumentKind.{DocumentKind}
 use Rattle.cf_calls.specs.declared.names.DocumentKind.TheVariants as kind
-use Rattle.cf_calls.specs.declared.refusal.DocumentState.{DocumentState}
 use Rattle.cf_calls.specs.declared.refusal.DocumentState.TheVariants as state
 use Rattle.cf_calls.specs.declared.refusal.Refusal.{Refusal}
 use Rattle.cf_calls.specs.declared.refusal.Refusal.TheVariants as refusal

@@ -1,5 +1,5 @@
 -- What an act on documents moves of line numbers, item by item (own rule).
-use Rattle.std.specs.Prelude.{ℕ, Bool, true, false, if◌then◌else◌, ◌==◌, List, [], ◌∷◌, ◌++◌, Option, Some, None, map, ℤ, pos, ◌+ℤ◌, ◌-ℤ◌}
+use Rattle.std.specs.Prelude.{ℕ, if◌then◌else◌, ◌==◌, List, [], ◌∷◌, ◌++◌, Option, Some, None, map, ℤ, pos, ◌+ℤ◌, ◌-ℤ◌}
 use Rattle.std.specs.List.{filter}
 use Rattle.cf_base.specs.declared.calendar.Day.{Day}
 use Rattle.cf_calls.specs.declared.acts.Act.{Act}
@@ -12,7 +12,8 @@ use Rattle.cf_chart.specs.Plan.{Plan}
 use Rattle.cf_model.specs.Calendar.{document_year}
 use Rattle.cf_model.specs.OrderItems.{OrderItem, open_of, is_named, item_named, item_step}
 use Rattle.cf_model.specs.Documents.{Hold, Expenditure, Documents, is_number}
-use Rattle.cf_model.specs.LineNumbers.{counts, held_amount, expended_amount}
+use Rattle.cf_calls.specs.declared.entry.Entry.{Entry}
+use Rattle.cf_model.specs.LineNumbers.{counts, held_amount, expended_amount, added_by, removed_by}
 
 -- what one item moves of its account's line in a year
 pub record Move : Type 0 where
@@ -89,3 +90,13 @@ moves_of plan s number on _ = []
 abbrev pub moved_sum : (Move → ℤ) → Plan → ℕ → ℕ → List Move → ℤ
 moved_sum f plan line year [] = pos 0
 moved_sum f plan line year (m ∷ moves) = (if counts plan line year m.account m.year then f m else pos 0) +ℤ moved_sum f plan line year moves
+
+-- what moves ask of a line and year: by how much they narrow its room
+abbrev pub asks_of_moves : Plan → ℕ → ℕ → List Move → ℤ
+asks_of_moves plan line year moves = moved_sum (λ m. (m.held +ℤ m.encumbered) +ℤ m.expended) plan line year moves
+
+-- what an entry asks of a line and year, over these documents
+abbrev pub asked_of : Plan → Documents → Entry → ℕ → ℕ → ℤ
+asked_of plan s e line year =
+    (pos (removed_by line year e.change.act) -ℤ pos (added_by line year e.change.act))
+    +ℤ asks_of_moves plan line year (moves_of plan s e.drawn.number e.change.on e.change.act)

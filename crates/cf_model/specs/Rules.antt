@@ -1,8 +1,7 @@
 -- The rules, each as the refusal that it gives, by the first of the elements that break it.
-use Rattle.std.specs.Prelude.{ℕ, zero, suc, ◌+◌, ◌-◌, Bool, true, false, not, if◌then◌else◌, ◌==◌, ◌||◌, ◌&&◌, nat_lt, nat_le, List, [], ◌∷◌, ◌++◌, length, Option, Some, None, is_some, map, ℤ, pos, ◌-ℤ◌, int_lt, unsigned_abs}
+use Rattle.std.specs.Prelude.{ℕ, zero, suc, ◌+◌, Bool, false, not, if◌then◌else◌, ◌==◌, ◌||◌, ◌&&◌, nat_lt, nat_le, List, [], ◌∷◌, ◌++◌, length, Option, Some, None, is_some, map, ℤ, pos, ◌-ℤ◌, int_lt, unsigned_abs}
 use Rattle.std.specs.List.{list_any}
 use Rattle.cf_base.specs.declared.calendar.Day.{Day}
-use Rattle.cf_base.specs.declared.calendar.Month.{Month}
 use Rattle.cf_base.specs.Calendar.{month_of_day}
 use Rattle.cf_calls.specs.declared.acts.Act.{Act}
 use Rattle.cf_calls.specs.declared.acts.Act.TheVariants.{Adopt, Amend, Transfer, Requisition, Withdraw, Order, ChangeOrder, CancelOrder, Voucher, VoidVoucher, Bill, Collect, Receive, WriteOff, Asset, Issue, Leave, Interfund}
@@ -10,7 +9,6 @@ use Rattle.cf_calls.specs.declared.acts.AssetAct.{AssetAct}
 use Rattle.cf_calls.specs.declared.acts.AssetAct.TheVariants.{Donate, Dispose}
 use Rattle.cf_calls.specs.declared.acts.LeaveAct.{LeaveAct}
 use Rattle.cf_calls.specs.declared.acts.LeaveAct.TheVariants.{Earn, Use, Mature}
-use Rattle.cf_calls.specs.declared.call.Change.{Change}
 use Rattle.cf_calls.specs.declared.entry.Entry.{Entry}
 use Rattle.cf_calls.specs.declared.items.AccountItem.{AccountItem}
 use Rattle.cf_calls.specs.declared.items.VoucherItem.{VoucherItem}

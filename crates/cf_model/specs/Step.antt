@@ -1,5 +1,5 @@
 -- The office's step: what it answers to a call over a history, and which entries it adds.
-use Rattle.std.specs.Prelude.{◌≡◌, ℕ, ◌+◌, ◌-◌, Bool, true, false, not, if◌then◌else◌, ◌&&◌, nat_lt, List, [], ◌∷◌, ◌++◌, length, Option, Some, None, is_some, option_map, slice_get}
+use Rattle.std.specs.Prelude.{◌≡◌, ℕ, ◌+◌, ◌-◌, Bool, true, false, not, if◌then◌else◌, List, [], ◌∷◌, ◌++◌, length, Option, Some, None, is_some, option_map, slice_get}
 use Rattle.std.specs.List.{list_all}
 use Rattle.cf_calls.specs.declared.acts.Act.{Act}
 use Rattle.cf_calls.specs.declared.acts.Act.TheVariants.{Adopt, Amend, Transfer, Requisition, Withdraw, Order, ChangeOrder, CancelOrder, Voucher, VoidVoucher}
@@ -20,7 +20,6 @@ use Rattle.cf_calls.specs.declared.reply.Body.{Body}
 use Rattle.cf_calls.specs.declared.reply.Body.TheVariants.{Done, Refused, Shown as Showing}
 use Rattle.cf_calls.specs.declared.reply.Made.{Made}
 use Rattle.cf_calls.specs.declared.reply.Made.TheVariants as made
-use Rattle.cf_calls.specs.declared.reply.Reply.{Reply}
 use Rattle.cf_calls.specs.declared.reply.Verdict.{Verdict}
 use Rattle.cf_calls.specs.declared.reply.Verdict.TheVariants.{Accept, Repeat, Refuse, Unbuilt}
 use Rattle.cf_calls.specs.declared.shown.Shown.{Shown}
@@ -33,7 +32,7 @@ use Rattle.cf_model.specs.Documents.{Documents, documents_of}
 use Rattle.cf_model.specs.DocumentRules.{document_rules}
 use Rattle.cf_model.specs.DocumentsShown.{requisition_shown, order_shown, voucher_shown}
 use Rattle.cf_model.specs.LineNumbers.{numbers}
-use Rattle.cf_model.specs.Rules.{first_of, refuse_if, place_from, desk_refusal, ahead_refusal, role_refusal, full_refusal, amount_refusal, name_refusal, period_refusal, year_refusal, closed_refusal, adopted_refusal, unadopted_refusal, exceed_refusal}
+use Rattle.cf_model.specs.Rules.{first_of, place_from, desk_refusal, ahead_refusal, role_refusal, full_refusal, amount_refusal, name_refusal, period_refusal, year_refusal, closed_refusal, adopted_refusal, unadopted_refusal, exceed_refusal}
 
 -- ---- the changes that the office knows
 
