@@ -156,9 +156,12 @@ charge_names Direct = []
 charge_names (OnOrder order item how) = order_name order ∷ []
 
 -- each item of a voucher names its account, then its order
+abbrev pub item_names : VoucherItem → List Name
+item_names i = account_name i.account ∷ charge_names i.charge
+
 abbrev pub voucher_names : List VoucherItem → List Name
 voucher_names [] = []
-voucher_names (i ∷ items) = (account_name i.account ∷ charge_names i.charge) ++ voucher_names items
+voucher_names (i ∷ items) = item_names i ++ voucher_names items
 
 -- the names of an act, in the order of its fields, for the acts that the office knows
 abbrev pub names_of : Act → List Name

@@ -2,22 +2,21 @@
 
 ghost use Rattle.std.specs.Prelude.{◌≡◌, ◌<◌, ◌≤◌, ◌^◌, ◌&&◌, ℕ, Bool, true, None, Some, IfOk, OnOk, if◌then◌else◌, ◌==◌, length};
 ghost use Rattle.std.specs.List.{list_all};
-ghost use Rattle.cf_base.specs.Calendar.{is_day};
-ghost use Rattle.cf_calls.specs.Form.{is_distinct, IsChangeInForm};
-ghost use Rattle.cf_budget.specs.Changes.{changes_at, same_place, Adds};
-ghost use Rattle.cf_budget.specs.Tables.{row_plus, AreHeld, spend_row, zero_row};
-ghost use Rattle.cf_model.specs.LineNumbers.{is_on, spent_by};
+ghost use Rattle.cf_calls.specs.Form.{is_distinct};
+ghost use Rattle.cf_budget.specs.Changes.{changes_at, same_place};
+ghost use Rattle.cf_budget.specs.Tables.{row_plus, AreHeld, zero_row};
+ghost use Rattle.cf_model.specs.LineNumbers.{counts};
 ghost use Rattle.cf_model.specs.Rules as rules;
-ghost use Rattle.cf_model.specs.Step as step;
 ghost use Rattle.cf_office.specs.Moved as spec;
-ghost use Rattle.cf_office.specs.Moved.{Make, moved_by, is_inside, spends};
+ghost use Rattle.cf_office.specs.Moved.{Make, IsCleared, act_moves, move_row, moves_row, moved_by, is_inside};
 
-use crate::rules::document_year;
-use cf_budget::{LineChange, Row, merge};
-use cf_calls::Entry;
+use cf_base::Day;
+use cf_budget::{LineChange, Row, ZERO, merge};
+use cf_calls::Act;
 use cf_calls::acts::{Amendment, LineTransfer};
-use cf_calls::items::{LineAmount, VoucherItem};
+use cf_calls::items::LineAmount;
 use cf_chart::{Chart, LineId};
+use cf_orders::{LineMove, Orders};
 use std::alloc::{AllocError, Global};
 
 /// The changes of the lines that an adoption names.
@@ -71,22 +70,32 @@ fn transfer(alloc: Global, transfer: &LineTransfer) -> Result<Vec<LineChange>, A
     Ok(changes)
 }
 
-/// Adds what an item spends to what is changed of its line.
-fn add_item(
+/// What a move changes of a row.
+fn row_of(moved: &LineMove) -> Row
+    ensures { result ≡ move_row moved.now }
+{
+    let mut row = ZERO;
+    row.held = moved.held;
+    row.encumbered = moved.encumbered;
+    row.expended = moved.expended;
+    row
+}
+
+/// Adds a move to what is changed of its account's line and year.
+fn add_move(
     changes: &mut Vec<LineChange>,
     chart: &Chart,
-    year: u16,
-    item: &VoucherItem,
+    moved: &LineMove,
 ) -> Result<(), AllocError>
     requires apart { is_distinct same_place changes.old.items ≡ true }
-    requires year { year < 2201 }
+    requires year { moved.now.year < 2201 }
     requires inside { list_all (λ c. is_inside chart.now c.line.number c.year) changes.old.items ≡ true }
-    requires held { (line : ℕ) → is_on chart.now line item.now.account ≡ true → AreHeld (row_plus (changes_at changes.old.items line year) (spend_row item.now.account.amount)) }
+    requires held { (line year : ℕ) → AreHeld (row_plus (changes_at changes.old.items line year) (move_row moved.now)) }
     ensures apart { OnOk result (is_distinct same_place changes.new.items ≡ true) }
     ensures inside { list_all (λ c. is_inside chart.now c.line.number c.year) changes.new.items ≡ true }
-    ensures adds { OnOk result ((m z : ℕ) → changes_at changes.new.items m z ≡ row_plus (changes_at changes.old.items m z) (if is_on chart.now m item.now.account && (year == z) then spend_row item.now.account.amount else zero_row)) }
+    ensures adds { OnOk result ((m z : ℕ) → changes_at changes.new.items m z ≡ row_plus (changes_at changes.old.items m z) (if counts chart.now m z moved.now.account moved.now.year then move_row moved.now else zero_row)) }
 {
-    let account = &item.account;
+    let account = &moved.account;
     let Some(line) = chart.line_of(account.fund, account.dept, account.object) else {
         return Ok(());
     };
@@ -94,26 +103,28 @@ fn add_item(
         changes,
         &LineChange {
             line,
-            year,
-            by: Row::expenditure(account.amount),
+            year: moved.year,
+            by: row_of(moved),
         },
     )
 }
 
-/// What a voucher's items change, one change a line.
-fn voucher(
+/// What an act's moves change, one change a line and year.
+fn documents(
     alloc: Global,
     chart: &Chart,
-    year: u16,
-    items: &[VoucherItem],
+    orders: &Orders,
+    on: Day,
+    act: &Act,
 ) -> Result<Vec<LineChange>, AllocError>
-    requires year { year < 2201 }
-    requires small { (line : ℕ) → spent_by chart.now line items.now < 2 ^ 100 }
-    ensures { IfOk result (λ v. Make chart.now (spends chart.now year items.now) v.items) }
+    requires { IsCleared chart.now orders.now.documents on act.now }
+    ensures { IfOk result (λ v. Make chart.now (moves_row chart.now (act_moves chart.now orders.now.documents on act.now)) v.items) }
 {
     let mut changes = Vec::new(alloc);
-    for item in items {
-        add_item(&mut changes, chart, year, item)?;
+    for nth in 0..orders.moves(act) {
+        if let Some(moved) = orders.move_at(chart, on, act, nth) {
+            add_move(&mut changes, chart, &moved)?;
+        }
     }
     Ok(changes)
 }
@@ -122,15 +133,14 @@ fn voucher(
 pub fn entry_changes(
     alloc: Global,
     chart: &Chart,
-    entry: &Entry,
+    orders: &Orders,
+    on: Day,
+    act: &Act,
 ) -> Result<Vec<LineChange>, AllocError>
-    requires form { IsChangeInForm entry.now.change }
-    requires built { step.is_built chart.now entry.now.change.act ≡ true }
-    requires amounts { rules.amount_refusal entry.now.change.act ≡ None }
-    requires names { rules.name_refusal chart.now entry.now.change.act ≡ None }
-    ensures { IfOk result (λ v. Make chart.now (moved_by chart.now entry.now) v.items) }
+    requires cleared { IsCleared chart.now orders.now.documents on act.now }
+    requires names { rules.name_refusal chart.now orders.now.documents act.now ≡ None }
+    ensures { IfOk result (λ v. Make chart.now (moved_by chart.now orders.now.documents on act.now) v.items) }
 {
-    let act = &entry.change.act;
     if let Some(a) = act.adoption() {
         return adoption(alloc, a.year, a.lines.as_slice());
     }
@@ -140,6 +150,5 @@ pub fn entry_changes(
     if let Some(t) = act.line_transfer() {
         return transfer(alloc, t);
     }
-    let year = document_year(chart, entry.change.on, act);
-    voucher(alloc, chart, year, act.voucher_items())
+    documents(alloc, chart, orders, on, act)
 }

@@ -1,0 +1,19 @@
+//! The register of requisitions, orders and vouchers.
+#![tactic(auto)]
+
+mod apply;
+mod extents;
+mod fiscal;
+mod items;
+mod look;
+mod moves;
+mod orders;
+mod purchases;
+mod requisitions;
+mod rows;
+mod rules;
+mod sums;
+mod vouchers;
+
+pub use moves::LineMove;
+pub use orders::Orders;
