@@ -1,8 +1,6 @@
 -- What is looked up of a history, after one entry more.
 use Rattle.std.proofs.Common.{◌≡◌, ℕ, zero, suc, ◌+◌, Bool, true, false, if◌then◌else◌, ◌==◌, ◌&&◌, List, [], ◌∷◌, ◌++◌, length, Option, Some, None, refl, sym, ap, subst, ◌∙◌, arith, nat_eq}
 use Rattle.std.proofs.lemmas.Grind.{common_steps}
-use Rattle.std.specs.List.{count_by}
-use Rattle.std.proofs.lemmas.List.Sums.{sum_by_push}
 use Rattle.std.specs.Str.{bytes_eq}
 use Rattle.cf_calls.specs.declared.acts.Act.{Act}
 use Rattle.cf_calls.specs.declared.acts.Act.TheVariants.{Adopt}
@@ -143,6 +141,3 @@ pub adopted_put : (plan : Plan) (h : List Entry) (e : Entry) (fund year : ℕ) (
     place_of now ≡ adopted_at fund year (h ++ e ∷ [])
 adopted_put plan h e fund year was now adds stood is =
     place_put (λ x. adopts fund year x.change.act) h e was now (budget_new h e.change.act fund year (accepted plan h e adds).adopted) stood is
-
-pub count_push : (p : Entry → Bool) (h : List Entry) (e : Entry) → count_by p (h ++ e ∷ []) ≡ count_by p h + (if p e then 1 else 0)
-count_push p h e = sum_by_push (λ (x : Entry). if p x then 1 else 0) h e

@@ -1,5 +1,5 @@
 -- What an entry changes of line numbers.
-use Rattle.std.specs.Prelude.{◌≡◌, ℕ, Bool, true, if◌then◌else◌, ◌==◌, ◌&&◌, nat_lt, ◌<◌, List, [], ◌∷◌, ◌++◌, length, map, None, ℤ, pos, ◌+ℤ◌, ◌-ℤ◌}
+use Rattle.std.specs.Prelude.{◌≡◌, ℕ, Bool, true, if◌then◌else◌, ◌==◌, ◌&&◌, nat_lt, ◌<◌, List, [], ◌∷◌, ◌++◌, length, map, Option, None, Some, ℤ, pos, ◌≤ℤ◌, ◌+ℤ◌, ◌-ℤ◌}
 use Rattle.std.specs.List.{list_all, AllByRecursion}
 use Rattle.cf_base.specs.declared.calendar.Day.{Day}
 use Rattle.cf_base.specs.Calendar.{is_day}
@@ -53,10 +53,27 @@ pub record IsCleared (plan : Plan) (s : Documents) (on : Day) (act : Act) : Type
 abbrev pub asks_of : Plan → ℕ → ℕ → LineMove → ℤ
 asks_of plan line year m = if counts plan line year m.account m.year then (m.held +ℤ m.encumbered) +ℤ m.expended else pos 0
 
--- what moves make of a line and year
+abbrev pub asks_if : Plan → ℕ → ℕ → Option LineMove → ℤ
+asks_if plan line year None = pos 0
+asks_if plan line year (Some m) = asks_of plan line year m
+
+-- three numbers, each of which fits 64 bits
+pub record IsMoveSmall (z : ℤ) : Type 0 where
+  pub least : (pos 0 -ℤ pos 55340232221128654848) ≤ℤ z
+  pub most : z ≤ℤ pos 55340232221128654848
+
+-- what a move makes of its line and year
 abbrev pub move_row : LineMove → Row
 move_row m = record zero_row { held = m.held; encumbered = m.encumbered; expended = m.expended }
 
+abbrev pub row_at_move : Plan → ℕ → ℕ → LineMove → Row
+row_at_move plan line year m = if counts plan line year m.account m.year then move_row m else zero_row
+
+abbrev pub row_if : Plan → ℕ → ℕ → Option LineMove → Row
+row_if plan line year None = zero_row
+row_if plan line year (Some m) = row_at_move plan line year m
+
+-- what moves make of a line and year
 abbrev pub moves_row : Plan → List Move → ℕ → ℕ → Row
 moves_row plan moves line year = record zero_row {
   held = moved_sum (λ m. m.held) plan line year moves;

@@ -9,6 +9,7 @@ use Rattle.cf_calls.specs.Same.{same_key}
 use Rattle.cf_budget.specs.InYears.{InYears, value_of, has_value, or_else}
 use Rattle.cf_base.specs.Calendar.{is_day}
 use Rattle.cf_calls.specs.Form.{IsActInForm}
+use Rattle.cf_chart.specs.Plan.{Plan}
 use Rattle.cf_model.specs.Documents.{documents_of}
 use Rattle.cf_model.specs.DocumentRules.{document_refusal}
 use Rattle.cf_model.specs.Rules.{place_from, adopted_at, amount_refusal}

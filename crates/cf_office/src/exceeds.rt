@@ -1,6 +1,6 @@
 //! Budgetary control: whether more is asked of a control line than it has room for.
 
-ghost use Rattle.std.specs.Prelude.{ℕ, ◌≡◌, ◌<◌, ◌≤◌, ◌^◌, ◌&&◌, ◌≤ℤ◌, ◌-ℤ◌, ◌+ℤ◌, None, Some, true, pos, negsuc, length, Option, unsigned_abs, if◌then◌else◌, FitsSigned};
+ghost use Rattle.std.specs.Prelude.{ℕ, ◌≡◌, ◌<◌, None, true, pos, length, IfSome};
 ghost use Rattle.cf_base.specs.Calendar.{is_day};
 ghost use Rattle.cf_calls.specs.Form.{IsChangeInForm, IsActInForm};
 ghost use Rattle.cf_calls.specs.Acts.{amendment_of, transfer_of};
@@ -12,8 +12,8 @@ ghost use Rattle.cf_model.specs.Moves.{asks_of_moves};
 ghost use Rattle.cf_model.specs.Rules as spec;
 ghost use Rattle.cf_model.specs.Step as step;
 ghost use Rattle.cf_orders.specs.Register.{IsSmall};
-ghost use Rattle.cf_office.specs.Least.{is_before as spec_is_before, lesser as spec_lesser, least_from, excess_at, refusal_in};
-ghost use Rattle.cf_office.specs.Moved.{act_moves, IsCleared, asks_of};
+ghost use Rattle.cf_office.specs.Least.{is_before as spec_is_before, lesser as spec_lesser, least_from, excess_at, excess_if as spec_excess_if, refusal_in};
+ghost use Rattle.cf_office.specs.Moved.{act_moves, IsCleared, IsMoveSmall, asks_of, asks_if as spec_asks_if};
 
 use crate::history::History;
 use cf_base::Day;
@@ -63,8 +63,7 @@ fn is_on(chart: &Chart, item: &AccountItem, line: u16) -> bool
 fn move_asks(chart: &Chart, moved: &LineMove, line: u16, year: u16) -> i128
     requires { IsSmall moved.now }
     ensures value { result ≡ asks_of chart.now line year moved.now }
-    ensures least { (pos 0 -ℤ pos 55340232221128654848) ≤ℤ result }
-    ensures most { result ≤ℤ pos 55340232221128654848 }
+    ensures small { IsMoveSmall result }
 {
     if moved.year == year && is_on(chart, &moved.account, line) {
         moved.held + moved.encumbered + moved.expended
@@ -73,23 +72,26 @@ fn move_asks(chart: &Chart, moved: &LineMove, line: u16, year: u16) -> i128
     }
 }
 
+/// What a move asks, where there is one.
+fn asks_if(chart: &Chart, moved: Option<LineMove>, line: u16, year: u16) -> i128
+    requires { IfSome moved IsSmall }
+    ensures value { result ≡ spec_asks_if chart.now line year moved }
+    ensures small { IsMoveSmall result }
+{
+    match moved {
+        Some(moved) => move_asks(chart, &moved, line, year),
+        None => 0,
+    }
+}
+
 /// What an act's moves ask of a line and year, in cents.
-fn moves_ask(
-    chart: &Chart,
-    orders: &Orders,
-    on: Day,
-    act: &Act,
-    line: u16,
-    year: u16,
-) -> i128
+fn moves_ask(chart: &Chart, orders: &Orders, on: Day, act: &Act, line: u16, year: u16) -> i128
     requires { IsCleared chart.now orders.now.documents on act.now }
     ensures { result ≡ asks_of_moves chart.now line year (act_moves chart.now orders.now.documents on act.now) }
 {
     let mut total = 0;
     for nth in 0..orders.moves(act) {
-        if let Some(moved) = orders.move_at(chart, on, act, nth) {
-            total += move_asks(chart, &moved, line, year);
-        }
+        total += asks_if(chart, orders.move_at(chart, on, act, nth), line, year);
     }
     total
 }
@@ -107,6 +109,20 @@ fn lesser(first: Option<Excess>, second: Option<Excess>) -> Option<Excess>
         (Some(one), Some(other)) => Some(if is_before(&other, &one) { other } else { one }),
         (Some(one), None) => Some(one),
         (None, other) => other,
+    }
+}
+
+/// The same, where there is such a move.
+fn excess_if<H: History>(history: &H, on: Day, act: &Act, moved: Option<LineMove>) -> Option<Excess>
+    requires cleared { IsCleared (H.plan history.now) (documents_of (H.plan history.now) (H.entries history.now)) on act.now }
+    requires year { IfSome moved (λ m. m.year < 2201) }
+    ensures { result ≡ spec_excess_if (H.plan history.now)
+        (λ line year. spec.overspends line (asks_of_moves (H.plan history.now) line year (act_moves (H.plan history.now) (documents_of (H.plan history.now) (H.entries history.now)) on act.now)) (numbers.room (H.plan history.now) line year (H.entries history.now)))
+        moved }
+{
+    match moved {
+        Some(moved) => move_excess(history, on, act, &moved),
+        None => None,
     }
 }
 
@@ -143,9 +159,8 @@ fn least_excess<H: History>(history: &H, on: Day, act: &Act) -> Option<Excess>
     let orders = history.orders();
     let mut best = None;
     for nth in 0..orders.moves(act) {
-        if let Some(moved) = orders.move_at(history.chart(), on, act, nth) {
-            best = lesser(best, move_excess(history, on, act, &moved));
-        }
+        let moved = orders.move_at(history.chart(), on, act, nth);
+        best = lesser(best, excess_if(history, on, act, moved));
     }
     best
 }
@@ -172,6 +187,7 @@ fn refusal_of(excess: Option<Excess>) -> Option<Refusal>
 /// More is asked of a control line than it has room for (GASB Codification 1700: budgetary control), of the
 /// changes that the office knows.
 pub fn exceed_rule<H: History>(history: &H, change: &Change) -> Option<Refusal>
+    requires legal { step.IsLegal (H.plan history.now) (H.entries history.now) }
     requires form { IsChangeInForm change.now }
     requires built { step.is_built (H.plan history.now) change.now.act ≡ true }
     requires names { spec.name_refusal (H.plan history.now) (documents_of (H.plan history.now) (H.entries history.now)) change.now.act ≡ None }

@@ -1,7 +1,7 @@
 //! One call over an office: judged, and its entry added where the rules accept it.
 
 ghost use Rattle.std.specs.Prelude.{◌≡◌, Some, None, List};
-ghost use Rattle.cf_calls.specs.Form.{IsCallInForm, IsChangeInForm, IsLookInForm};
+ghost use Rattle.cf_calls.specs.Form.{IsCallInForm, IsChangeInForm, IsReadInForm};
 ghost use Rattle.cf_calls.specs.declared.call.Call.TheVariants as calls;
 ghost use Rattle.cf_calls.specs.declared.reply.Verdict.TheVariants.{Accept};
 ghost use Rattle.cf_model.specs.Step as step;
@@ -26,7 +26,7 @@ pub fn post<B: Office>(alloc: Global, office: &mut B, call: &Call) -> Option<Pos
 }
 
 fn post_look<B: Office>(alloc: Global, office: &B, look: &Look) -> Option<Posted>
-    requires { IsLookInForm look.now }
+    requires { IsReadInForm look.now.read }
     ensures { Posts (B.History.plan office.now) (B.History.entries office.now) (calls.Look look.now) (B.History.entries office.now) result }
 {
     match answer(alloc, office, look) {

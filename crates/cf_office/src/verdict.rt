@@ -1,7 +1,7 @@
 //! The verdict on a change, and the answer of a look: the rules in their order, over any history.
 
 ghost use Rattle.std.specs.Prelude.{◌≡◌, ◌<◌, true, None, IfOk};
-ghost use Rattle.cf_calls.specs.Form.{IsChangeInForm, IsLookInForm, IsReadInForm};
+ghost use Rattle.cf_calls.specs.Form.{IsChangeInForm, IsReadInForm};
 ghost use Rattle.cf_model.specs.Documents.{documents_of};
 ghost use Rattle.cf_orders.specs.Register.{document_shown};
 ghost use Rattle.cf_model.specs.Rules as rules;
@@ -203,8 +203,7 @@ fn show<H: History>(alloc: Global, history: &H, read: &Read) -> Result<Option<Bo
     match *read {
         Read::Line { line, year } => Ok(Some(show_line(history, line, year))),
         Read::Requisition { requisition } => {
-            let body =
-                show_document(alloc, history, NameKind::Requisition, requisition, read)?;
+            let body = show_document(alloc, history, NameKind::Requisition, requisition, read)?;
             Ok(Some(body))
         }
         Read::Order { order } => {
@@ -227,7 +226,7 @@ pub fn answer<H: History>(
     history: &H,
     look: &Look,
 ) -> Result<Option<Body>, AllocError>
-    requires { IsLookInForm look.now }
+    requires { IsReadInForm look.now.read }
     ensures { IfOk result (λ b. b ≡ step.look_body (H.plan history.now) (H.entries history.now) look.now) }
 {
     let body = show(alloc, history, &look.read)?;

@@ -4,3 +4,4 @@ pub mod Register
 pub mod RegisterView
 pub mod Steps
 pub mod RowRules
+pub mod RowMoves

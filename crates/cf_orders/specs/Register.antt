@@ -1,6 +1,6 @@
 -- What contracts see of the register.
-use Rattle.std.specs.Prelude.{◌≡◌, ℕ, ◌+◌, ◌<◌, ◌≤◌, ◌^◌, Bool, true, false, ◌==◌, ◌&&◌, List, [], length, Option, Some, None, unsigned_abs}
-use Rattle.std.specs.List.{list_any}
+use Rattle.std.specs.Prelude.{◌≡◌, ℕ, ◌+◌, ◌*◌, ◌<◌, ◌≤◌, ◌^◌, Bool, true, false, ◌==◌, ◌&&◌, List, [], length, Option, Some, None, unsigned_abs}
+use Rattle.std.specs.List.{list_any, AllByRecursion}
 use Rattle.cf_base.specs.declared.calendar.Day.{Day}
 use Rattle.cf_calls.specs.declared.acts.Act.{Act}
 use Rattle.cf_calls.specs.declared.acts.Act.TheVariants.{Pay}
@@ -42,6 +42,17 @@ pub record HasRoomFor (act : Act) (s : Documents) (room : Room) : Type 0 where
   pub orders : s.orders + draws_order act ≤ room.orders
   pub expenditures : length s.expenditures + length (voucher_items act) ≤ room.expenditures
   pub vouchers : s.vouchers + draws_voucher act ≤ room.vouchers
+
+-- an act more fits: what is kept stays within the numbers of the rows
+pub record HasSpare (r : Register) : Type 0 where
+  pub acts : r.acts ≤ 1048576
+  pub requisitions : r.documents.requisitions < r.acts
+  pub orders : r.documents.orders < r.acts
+  pub vouchers : r.documents.vouchers < r.acts
+  pub holds : length r.documents.holds + 32 ≤ 32 * r.acts
+  pub items : length r.documents.items + 32 ≤ 32 * r.acts
+  pub expenditures : length r.documents.expenditures + 32 ≤ 32 * r.acts
+  pub bases : AllByRecursion (λ i. i.base + 10000000000000 ≤ 10000000000000 * r.acts) r.documents.items
 
 -- the entry of an act; the documents don't depend on its key
 abbrev pub entry_for : ℕ → Day → Act → Drawn → Entry

@@ -5,6 +5,8 @@ use Rattle.cf_calls.specs.declared.items.AccountItem.{AccountItem}
 use Rattle.cf_calls.specs.declared.items.Charge.{Charge}
 use Rattle.cf_calls.specs.declared.items.Charge.TheVariants.{Direct, OnOrder}
 use Rattle.cf_calls.specs.declared.shown.ItemState.{ItemState}
+use Rattle.cf_calls.specs.declared.shown.RequisitionState.{RequisitionState}
+use Rattle.cf_calls.specs.declared.shown.RequisitionState.TheVariants as requisition
 use Rattle.cf_calls.specs.declared.shown.VoucherState.{VoucherState}
 use Rattle.cf_calls.specs.declared.shown.VoucherState.TheVariants as voucher
 use Rattle.cf_model.specs.OrderItems.{OrderItem, Liquidated, liquidated_sum, without, is_final, is_live_at, state_at}
@@ -25,6 +27,10 @@ view_hold h = record { requisition = h.requisition; desk = h.desk; account = h.a
 
 abbrev pub view_holds : List HoldRow → List Hold
 view_holds holds = map view_hold holds
+
+abbrev pub is_open : RequisitionState → Bool
+is_open requisition.Open = true
+is_open _ = false
 
 -- ---- vouchers' items
 
@@ -97,6 +103,10 @@ as_count false = 0
 abbrev pub is_key : ℕ → ℕ → ItemRow → Bool
 is_key order place r = (r.order == order) && (r.place == place)
 
+-- whether a voucher's item is charged against an order's item, in whatever year
+abbrev pub names : ChargeRow → ItemRow → Bool
+names u r = is_key (order_of u.charge) (place_of u.charge) r
+
 abbrev pub is_going : ItemRow → Bool
 is_going r = is_live_at (stage_of r.stage) r.is_finished
 
@@ -130,7 +140,7 @@ pub record IsRow (orders : List Extent) (uses : List ChargeRow) (k : ℕ) (r : I
   pub finished : finals (taken_at uses r) ≡ as_count r.is_finished
   pub fits : r.left + liquidated_sum (taken_at uses r) < 2 ^ 64
   pub spans : (n : ℕ) (d : ChargeRow) → n < length uses →
-      is_key (order_of (slice_index_or uses n d).charge) (place_of (slice_index_or uses n d).charge) r ≡ true → (slice_index_or uses n d).year ≤ r.year
+      names (slice_index_or uses n d) r ≡ true → (slice_index_or uses n d).year ≤ r.year
 
 abbrev pub AreRows : List Extent → List ChargeRow → List ItemRow → Type 0
 AreRows orders uses items = (k : ℕ) (d : ItemRow) → k < length items → IsRow orders uses k (slice_index_or items k d)

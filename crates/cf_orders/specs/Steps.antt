@@ -10,7 +10,8 @@ use Rattle.cf_calls.specs.declared.items.Liquidation.{Liquidation}
 use Rattle.cf_calls.specs.declared.shown.RequisitionState.{RequisitionState}
 use Rattle.cf_calls.specs.declared.shown.VoucherState.TheVariants as voucher
 use Rattle.cf_calls.specs.declared.shown.RequisitionState.TheVariants as requisition
-use Rattle.cf_model.specs.OrderItems.{OrderItem, open_of, is_live, state_of, is_named, item_named, liquidated_amount, is_final, charge_item, shifted}
+use Rattle.cf_model.specs.OrderItems as model
+use Rattle.cf_model.specs.OrderItems.{OrderItem, open_of, is_live, state_of, is_named, item_named, liquidated_amount, charge_item, shifted}
 use Rattle.cf_model.specs.Documents.{Hold, Expenditure, is_number, leaves, expenditure_of}
 use Rattle.cf_orders.specs.declared.rows.HoldRow.{HoldRow}
 use Rattle.cf_orders.specs.declared.rows.ItemRow.{ItemRow}
@@ -41,6 +42,10 @@ pub record Shows (i : OrderItem) (r : ItemRow) : Type 0 where
 abbrev pub ShowsNamed : ℕ → ℕ → List OrderItem → ItemRow → Type 0
 ShowsNamed order place items r = (i : OrderItem) × (item_named order place items ≡ Some i) × Shows i r
 
+-- an order's item at a place among those of its number
+abbrev pub ShowsAt : ℕ → Option OrderItem → ItemRow → Type 0
+ShowsAt order o r = (i : OrderItem) × (o ≡ Some i) × (i.order ≡ order) × Shows i r
+
 -- ---- rows that are changed where they stand
 
 -- the rows from first up to end are changed, and no others
@@ -68,7 +73,29 @@ hold_row h a = record { requisition = h.number; desk = h.desk; account = a; year
 abbrev pub leave : Option ℕ → RequisitionState → Hold → Hold
 leave number state h = if is_number number h.requisition then record h { state = leaves h.state state } else h
 
+-- what a change, and a cancellation, makes of an order's item
+abbrev pub change_item : ℕ → ℕ → ℤ → OrderItem → OrderItem
+change_item order place by i = if is_named order place i && is_live i then record i { base = shifted i.base by } else i
+
+abbrev pub cancel_item : ℕ → OrderItem → OrderItem
+cancel_item order i = if (i.order == order) && is_live i then record i { stage = model.cancelled } else i
+
 -- ---- vouchers
+
+-- what a void, and payments, make of a voucher's item
+abbrev pub void_item : ℕ → Expenditure → Expenditure
+void_item number x = if x.voucher == number then record x { state = voucher.Void } else x
+
+abbrev pub pay_item : List ℕ → Expenditure → Expenditure
+pay_item vouchers x = if list_any (λ n. n == x.voucher) vouchers then record x { state = voucher.Paid } else x
+
+abbrev pub paid_if : List ℕ → ChargeRow → ChargeRow
+paid_if vouchers u = if list_any (λ n. n == u.voucher) vouchers then paid_row u else u
+
+-- the rows of these vouchers are paid, and no others differ
+pub record ArePaid (vouchers : List ℕ) (old new : List ChargeRow) : Type 0 where
+  pub len : length new ≡ length old
+  pub rows : (k : ℕ) (d : ChargeRow) → k < length old → slice_index_or new k d ≡ paid_if vouchers (slice_index_or old k d)
 
 abbrev pub charge_row : Header → VoucherItem → ℕ → ChargeRow
 charge_row h v liquidated = record {
@@ -83,8 +110,8 @@ charge_row h v liquidated = record {
 }
 
 -- an order's item of which a voucher item liquidates so much, and one that gets it back
-abbrev pub taken_row : ℕ → Liquidation → ItemRow → ItemRow
-taken_row amount how r = record r { left = r.left - amount; is_finished = is_final how }
+abbrev pub taken_row : ℕ → Charge → ItemRow → ItemRow
+taken_row amount charge r = record r { left = r.left - amount; is_finished = is_last charge }
 
 abbrev pub given_row : ChargeRow → ItemRow → ItemRow
 given_row u r = record r { left = r.left + u.liquidated; is_finished = r.is_finished && not (is_last u.charge) }

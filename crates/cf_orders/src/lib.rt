@@ -7,11 +7,13 @@ mod fiscal;
 mod items;
 mod look;
 mod moves;
+mod nth;
 mod orders;
 mod purchases;
 mod requisitions;
 mod rows;
 mod rules;
+mod steps;
 mod sums;
 mod vouchers;
 

@@ -46,7 +46,8 @@ pub fn add_holds(holds: &mut Vec<HoldRow>, header: Header, accounts: &[AccountIt
 
 /// Takes the items of a requisition to a later state, if they are open.
 pub fn leave_all(holds: &mut Vec<HoldRow>, extent: Extent, state: RequisitionState)
-    requires { extent.end ≤ length holds.old.items }
+    requires ordered { extent.first ≤ extent.end }
+    requires within { extent.end ≤ length holds.old.items }
     ensures { IsChangedIn (left_row state) extent holds.old.items holds.new.items }
 {
     for k in extent.first as usize..extent.end as usize {

@@ -175,6 +175,7 @@ impl Orders {
         false
     }
 
+    #[tactic(auto, using(crate::proofs::Reading::refusals))]
     fn charge_states(&self, year: u16, items: &[VoucherItem]) -> Option<Refusal>
         ensures { result ≡ first_refusal (λ i. spec.charge_state year self.now.documents.items i.charge) items.now }
     {
@@ -284,6 +285,7 @@ impl Orders {
         }
     }
 
+    #[tactic(auto, using(crate::proofs::Reading::refusals))]
     fn charges_not_on_order(&self, items: &[VoucherItem]) -> Option<Refusal>
         ensures { result ≡ first_refusal (λ v. spec.charge_not_on_order self.now.documents.items v v.charge) items.now }
     {
@@ -337,6 +339,7 @@ impl Orders {
         }
     }
 
+    #[tactic(auto, using(crate::proofs::Reading::refusals))]
     fn charges_over_open(&self, items: &[VoucherItem]) -> Option<Refusal>
         ensures { result ≡ first_refusal (λ v. spec.charge_over_open self.now.documents.items v.charge) items.now }
     {

@@ -32,13 +32,13 @@ fn row_of_item(header: Header, item: &VoucherItem, liquidated: u64) -> ChargeRow
 }
 
 /// An order's item after so much of it is liquidated.
-fn taken(row: ItemRow, amount: u64, how: Liquidation) -> ItemRow
+fn taken(row: ItemRow, amount: u64, charge: Charge) -> ItemRow
     requires { amount ≤ row.left }
-    ensures { result ≡ taken_row amount how row }
+    ensures { result ≡ taken_row amount charge row }
 {
     let mut row = row;
     row.left -= amount;
-    row.is_finished = is_final(how);
+    row.is_finished = is_last(charge);
     row
 }
 
@@ -65,7 +65,7 @@ fn charge_row_at(
 {
     let row = items[j];
     let amount = liquidation(how, item.account.amount, open_row(&row));
-    items[j] = taken(row, amount, how);
+    items[j] = taken(row, amount, item.charge);
     push_within(charges, row_of_item(header, item, amount));
 }
 
@@ -220,7 +220,6 @@ fn void_one(
 {
     let charge = charges[m];
     if is_void(charge.state) {
-        mark(charges, m);
         return;
     }
     let (order, place) = order_named(charge.charge);
@@ -251,7 +250,8 @@ pub fn void_all(
 
 /// Marks the items of a voucher paid.
 pub fn pay_all(charges: &mut Vec<ChargeRow>, extent: Extent)
-    requires { extent.end ≤ length charges.old.items }
+    requires ordered { extent.first ≤ extent.end }
+    requires within { extent.end ≤ length charges.old.items }
     ensures { IsChangedIn paid_row extent charges.old.items charges.new.items }
 {
     for k in extent.first as usize..extent.end as usize {

@@ -1,0 +1,4 @@
+use Rattle.cf_orders.proofs.orders.Orders.ordered.Goals as goal
+
+pub returns-clause-value : goal.returns-clause-value
+returns-clause-value c = ?
