@@ -483,7 +483,7 @@ marked_same uses m u l is v d =
     same : (q : ChargeRow) → is_void q.state ≡ true → q ≡ voided q
     same q e = ap (λ s. let r : ChargeRow = record q { state = s } in r) (state_void q.state e)
 
-no_charge : ChargeRow
+pub no_charge : ChargeRow
 no_charge = charge_row (record { number = 0; desk = 0; on = record { year = 0; month = 0; day = 0 }; year = 0 }) (record { account = record { fund = 0; dept = 0; object = 0; amount = 0 }; charge = Direct }) 0
 
 -- one row more is marked void

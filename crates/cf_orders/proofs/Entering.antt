@@ -168,6 +168,9 @@ each_fit year [] items k d l fits = absurd (omega arith)
 each_fit year (v ∷ list) items zero d l fits = fits.0
 each_fit year (v ∷ list) items (suc k) d l fits = each_fit year list items k d (omega arith) fits.1
 
+pub fit_of : (year : ℕ) (list : List VoucherItem) (items : List OrderItem) (k : ℕ) (v : VoucherItem) → k < length list → v ≡ get_or list k v → FitEach year list items → FitsCharge year v.account.amount v.charge items
+fit_of year list items k v l at fits = subst (λ (w : VoucherItem). FitsCharge year w.account.amount w.charge items) (sym at) (each_fit year list items k v l fits)
+
 pub named_push : (h : Header) (list : List VoucherItem) (orders : List Extent) (uses added : List ChargeRow) (items : List ItemRow) → map view_charge added ≡ map (expenditure_of h.number h.desk h.on h.year) list → AreRows orders uses items →
     FitEach h.year list (view_items uses items) → AreNamed (length orders) uses → AreNamed (length orders) (uses ++ added)
 named_push h list orders uses added items e rows fits named =

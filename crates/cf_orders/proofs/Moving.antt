@@ -1,8 +1,9 @@
 -- What is open of an order's item after a change, a voucher's item or a void.
-use Rattle.std.proofs.Common.{◌≡◌, ◌≢◌, ◌⊎◌, inl, inr, ℕ, zero, suc, ◌+◌, ◌-◌, ◌<◌, ◌≤◌, ◌^◌, min, Bool, true, false, not, if◌then◌else◌, ◌==◌, ◌&&◌, ◌||◌, List, [], ◌∷◌, ◌++◌, length, map, set, get_or, Option, Some, None, slice_get, ℤ, pos, negsuc, ◌-ℤ◌, unsigned_abs, sum_by, refl, sym, subst, arith, ◌∙◌, ap}
+use Rattle.std.proofs.Common.{◌≡◌, ◌≢◌, ◌⊎◌, inl, inr, ℕ, zero, suc, ◌+◌, ◌-◌, ◌<◌, ◌≤◌, ◌^◌, min, Bool, true, false, not, if◌then◌else◌, ◌==◌, ◌&&◌, ◌||◌, List, [], ◌∷◌, ◌++◌, length, map, set, get_or, Option, Some, None, slice_get, option_map, ℤ, pos, negsuc, ◌-ℤ◌, unsigned_abs, sum_by, refl, sym, subst, arith, ◌∙◌, ap}
 use Rattle.std.proofs.lemmas.Grind.{common_steps}
 use Rattle.std.proofs.lemmas.Int.{ints}
-use Rattle.std.proofs.lemmas.List.{get_or-set_same, get_or-set_other, length-set, get_or_default}
+use Rattle.std.proofs.lemmas.Option.{slice_get-map, slice_get_read, slice_get_past}
+use Rattle.std.proofs.lemmas.List.{length-map, get_or-set_same, get_or-set_other, length-set, get_or_default}
 use Rattle.std.proofs.lemmas.List.Sums.{sum_by_push}
 use Rattle.std.specs.List.{filter, list_any}
 use Rattle.cf_calls.specs.declared.items.VoucherItem.{VoucherItem}
@@ -13,15 +14,19 @@ use Rattle.cf_calls.specs.declared.items.Liquidation.TheVariants.{Lesser, Record
 use Rattle.cf_calls.specs.Form.{is_distinct, same_charge, same_order_item}
 use Rattle.cf_model.specs.OrderItems.{OrderItem, Liquidated, Stage, going, lapsed, cancelled, shifted, open_of, is_live, is_live_at, is_finished, is_named, item_named, liquidated_sum, liquidated_amount, is_final, charge_item, charge_items, without}
 use Rattle.cf_model.specs.DocumentRules.{over_change}
-use Rattle.cf_model.specs.Moves.{Move, charge_move, charged_item, item_move, move_if, reopen_move, open_rise}
+use Rattle.cf_model.specs.Moves.{Move, spent_by, charge_move, charged_item, item_move, move_if, reopen_move, open_rise}
 use Rattle.cf_orders.specs.declared.rows.Extent.{Extent}
 use Rattle.cf_orders.specs.declared.rows.ItemRow.{ItemRow}
 use Rattle.cf_orders.specs.declared.rows.ChargeRow.{ChargeRow}
-use Rattle.cf_orders.specs.Rows.{liquidated_by, order_of, place_of, is_last, is_void, names, view_item, view_items, view_charge, IsRow, AreRows, AreApart, taken_from, taken_at, is_of, is_key, is_going, open_now, stage_of, voided, clear, cleared}
+use Rattle.cf_model.specs.Documents.{Expenditure}
+use Rattle.cf_orders.specs.Extents.{extent_at, AreExtents}
+use Rattle.cf_orders.specs.Rows.{liquidated_by, order_of, place_of, is_last, is_void, names, view_item, view_items, view_charge, view_charges, IsRow, AreRows, AreApart, taken_from, taken_at, is_of, is_key, is_going, open_now, stage_of, voided, clear, cleared}
 use Rattle.cf_orders.specs.Steps.{HasNoKey, HasKeyAt, IsFit, FitsCharge, change_item, cancel_item, given_row}
 use Rattle.cf_orders.specs.RowMoves.{rises, reopens, charge_fall, fall_if, no_move}
-use Rattle.cf_orders.proofs.Lists.{same_or_not}
-use Rattle.cf_orders.proofs.Charging.{any_of_count, open_is, item_of, row_marked, cleared_own, fits_back, of_own, taken_cons, named_item, not_named_item}
+use Rattle.cf_orders.proofs.Lists.{same_or_not, get_or_map}
+use Rattle.cf_orders.proofs.Ranges.{extent_known}
+use Rattle.cf_orders.proofs.Picking.{spent_at}
+use Rattle.cf_orders.proofs.Charging.{no_charge, any_of_count, open_is, item_of, row_marked, cleared_own, fits_back, of_own, taken_cons, named_item, not_named_item}
 use Rattle.cf_orders.proofs.Changing.{IsWithin, within_open, shift_sum, shift_up, shift_down}
 use Rattle.cf_orders.proofs.Entering.{find_named, apart_charge, charged_name, clash_at, and_true}
 
@@ -311,3 +316,58 @@ reopen_none orders uses items u none = by_charge u.charge refl
 pub reopen_fits : (orders : List Extent) (uses : List ChargeRow) (items : List ItemRow) (j m : ℕ) (r : ItemRow) (u : ChargeRow) → AreRows orders uses items → m < length uses → u ≡ get_or uses m u → HasKeyAt (order_of u.charge) (place_of u.charge) items j → r ≡ get_or items j r →
     is_void u.state ≡ false → r.year ≡ u.year → r.left + u.liquidated < 2 ^ 64
 reopen_fits orders uses items j m r u rows ml at has is counts year = fits_back orders uses items j m r u rows has.0 ml at is counts (rw is (has.1 r)) year
+
+pub change_move_is : (orders : List Extent) (uses : List ChargeRow) (items : List ItemRow) (j order place : ℕ) (by : ℤ) (r : ItemRow) → AreRows orders uses items → HasKeyAt order place items j → r ≡ get_or items j r → over_change by (item_named order place (view_items uses items)) ≡ None →
+    item_move (change_item order place by) (view_item uses r) ≡ record { account = (view_item uses r).account; year = (view_item uses r).year; held = pos 0; encumbered = rises by r; expended = pos 0 }
+change_move_is orders uses items j order place by r rows has is opens =
+    let row : IsRow orders uses j r = subst (IsRow orders uses j) (sym is) (rows j r has.0) in
+    let key : is_key order place r ≡ true = rw is (has.1 r) in
+    let known : over_change by (Some (view_item uses r)) ≡ None = ap (over_change by) (sym (named_item orders uses items order place j r rows has is)) ∙ opens in
+    ap (λ z. let q : Move = record { account = r.account; year = r.year; held = pos 0; encumbered = z; expended = pos 0 } in q) (change_rise orders uses j order place by r row key known)
+
+-- an element of a mapped list
+pub get_some : {A B : Type 0} (f : A → B) (xs : List A) (k : ℕ) (x : A) → k < length xs → x ≡ get_or xs k x → slice_get (map f xs) k ≡ Some (f x)
+get_some f xs k x l at = slice_get-map f xs k ∙ ap (option_map f) (slice_get_read xs (length xs) k x refl l at)
+
+pub get_none : {A B : Type 0} (f : A → B) (xs : List A) (k : ℕ) → length xs ≤ k → slice_get (map f xs) k ≡ None
+get_none f xs k l = slice_get_past (map f xs) k (rw (length-map xs f) l)
+
+pub above_zero : (n : ℕ) → (n ≡ 0 → ⊥) → 1 ≤ n
+above_zero zero no_way = absurd (no_way refl)
+above_zero (suc n) no_way = omega arith
+
+pub get_right : {A : Type 0} (xs ys : List A) (n m : ℕ) → length xs + m ≡ n → slice_get (xs ++ ys) n ≡ slice_get ys m
+get_right [] ys n m e = ap (slice_get ys) (let z : n ≡ m = omega (arith, e) in z)
+get_right (x ∷ xs) ys zero m e = absurd (omega (arith, e))
+get_right (x ∷ xs) ys (suc n) m e = get_right xs ys n m (omega (arith, e))
+
+pub key_named : (items : List ItemRow) (o p order place j : ℕ) → o ≡ order → p ≡ place → HasKeyAt o p items j → HasKeyAt order place items j
+key_named items o p order place j e f has = subst (λ a. HasKeyAt a place items j) e (subst (λ b. HasKeyAt o b items j) f has)
+
+-- the voucher's item at a row
+pub seen_charge : (uses : List ChargeRow) (m : ℕ) (u : ChargeRow) (d : Expenditure) → m < length uses → u ≡ get_or uses m u → get_or (view_charges uses) m d ≡ view_charge u
+seen_charge uses m u d l at =
+    get_or_default (view_charges uses) m d (view_charge u) (rw (length-map uses view_charge) l) ∙ get_or_map view_charge uses m u ∙ ap view_charge (sym at)
+
+pub row_within : (uses : List ChargeRow) (m : ℕ) → m < length (view_charges uses) → m < length uses
+row_within uses m l = rw (← length-map uses view_charge) l
+
+pub some_expenditure : Expenditure
+some_expenditure = view_charge no_charge
+
+-- the opening again of the item at a place, by its row
+pub reopen_picked : (number : ℕ) (extents : List Extent) (uses : List ChargeRow) (items : List OrderItem) (e : Extent) (k : ℕ) → AreExtents (λ u. u.voucher) extents uses → e ≡ extent_at extents number → k < e.end - e.first →
+    slice_get (map (reopen_move (clear number) items) (spent_by number (view_charges uses))) k
+    ≡ Some (reopen_move (clear (get_or (view_charges uses) (e.first + k) some_expenditure).voucher) items (get_or (view_charges uses) (e.first + k) some_expenditure))
+reopen_picked number extents uses items e k are is l =
+    let known = extent_known (λ u. u.voucher) number extents uses e are is in
+    let m : ℕ = e.first + k in
+    let ml : e.first + k < length uses = omega (arith, known.within, l) in
+    let u : ChargeRow = get_or uses (e.first + k) no_charge in
+    let at : get_or uses (e.first + k) no_charge ≡ get_or uses (e.first + k) (get_or uses (e.first + k) no_charge) = get_or_default uses (e.first + k) no_charge (get_or uses (e.first + k) no_charge) ml in
+    let seen = seen_charge uses (e.first + k) (get_or uses (e.first + k) no_charge) some_expenditure ml at in
+    let number_is : (get_or uses (e.first + k) no_charge).voucher ≡ number = known.inside (e.first + k) no_charge (omega arith) (omega (arith, l)) in
+    slice_get-map (reopen_move (clear number) items) (spent_by number (view_charges uses)) k
+    ∙ ap (option_map (reopen_move (clear number) items)) (sym (spent_at number extents uses e k (get_or uses (e.first + k) no_charge) are is l at))
+    ∙ ap (λ n. Some (reopen_move (clear n) items (view_charge (get_or uses (e.first + k) no_charge)))) (sym number_is)
+    ∙ ap (λ x. Some (reopen_move (clear x.voucher) items x)) (sym seen)

@@ -134,3 +134,8 @@ named_rows orders uses items order place j r rows at is =
 
 pub no_named_rows : (uses : List ChargeRow) (items : List ItemRow) (order place : ℕ) → HasNoKey order place items → filter (is_named order place) (view_items uses items) ≡ []
 no_named_rows uses items order place none = filter-map (is_named order place) (view_item uses) items ∙ ap (map (view_item uses)) (filter_none (is_key order place) items none)
+
+pub named_size : (orders : List Extent) (uses : List ChargeRow) (items : List ItemRow) (order place j : ℕ) → AreRows orders uses items → HasKeyAt order place items j → length (filter (is_named order place) (view_items uses items)) ≡ 1
+named_size orders uses [] order place j rows at = absurd (omega (arith, at.0))
+named_size orders uses (x ∷ items) order place j rows at =
+    ap length (named_rows orders uses (x ∷ items) order place j (get_or (x ∷ items) j x) rows at (get_or_default (x ∷ items) j x (get_or (x ∷ items) j x) at.0))
