@@ -10,3 +10,5 @@ pub mod Allowed
 pub mod Stepping
 pub mod Picking
 pub mod Moving
+pub mod Summing
+pub mod Showing

@@ -1,19 +1,22 @@
 -- What is read of a document's rows.
-use Rattle.std.proofs.Common.{◌≡◌, ◌≢◌, ◌⊎◌, inl, inr, ℕ, zero, suc, ◌+◌, ◌-◌, ◌<◌, ◌≤◌, Bool, true, false, not, if◌then◌else◌, ◌==◌, ◌&&◌, ◌||◌, List, [], ◌∷◌, ◌++◌, length, map, drop, get_or, Option, Some, None, MatchOption, option_map, find, refl, sym, subst, arith, ◌∙◌, ap}
+use Rattle.std.proofs.Common.{◌≡◌, ◌≢◌, ◌⊎◌, inl, inr, ℕ, zero, suc, ◌+◌, ◌<◌, ◌≤◌, Bool, true, false, ◌==◌, ◌&&◌, ◌||◌, List, [], ◌∷◌, length, map, drop, get_or, Option, Some, None, MatchOption, refl, sym, subst, arith, ◌∙◌, ap}
 use Rattle.std.proofs.lemmas.Grind.{common_steps}
-use Rattle.std.proofs.lemmas.List.{drop_more, drop_all, get_or_default}
+use Rattle.std.proofs.lemmas.List.{drop_more, drop_all}
 use Rattle.std.specs.List.{list_any}
 use Rattle.cf_calls.specs.declared.refusal.Refusal.{Refusal}
-use Rattle.cf_model.specs.OrderItems.{OrderItem, item_named, is_live_at, state_at, open_of}
+use Rattle.cf_model.specs.OrderItems.{item_named, is_live_at, state_at}
 use Rattle.cf_model.specs.Documents.{requisition_at, voucher_at}
-use Rattle.cf_model.specs.DocumentRules.{is_live_of, charged_state, over_open_if}
+use Rattle.cf_model.specs.DocumentRules.{is_live_of}
 use Rattle.cf_model.specs.Rules.{first_refusal, or_else}
+use Rattle.cf_chart.specs.Plan.{Plan}
+use Rattle.cf_model.specs.DocumentsShown.{item_shown, shown_line}
+use Rattle.cf_orders.specs.RowsShown as look
 use Rattle.cf_orders.specs.declared.rows.Extent.{Extent}
 use Rattle.cf_orders.specs.declared.rows.HoldRow.{HoldRow}
 use Rattle.cf_orders.specs.declared.rows.ItemRow.{ItemRow}
 use Rattle.cf_orders.specs.declared.rows.ChargeRow.{ChargeRow}
 use Rattle.cf_orders.specs.Extents.{extent_at, IsExtent, AreExtents}
-use Rattle.cf_orders.specs.Rows.{view_hold, view_holds, view_charge, view_charges, view_item, view_items, stage_of, taken_at, is_going, is_key, IsRow, AreRows}
+use Rattle.cf_orders.specs.Rows.{view_hold, view_holds, view_charge, view_charges, view_item, view_items, stage_of, taken_at, is_going, IsRow, AreRows}
 use Rattle.cf_orders.specs.Steps.{HasNoKey, HasKeyAt, Shows, ShowsNamed}
 use Rattle.cf_orders.proofs.Lists.{less_or_not}
 use Rattle.cf_orders.proofs.Ranges.{seen_first, seen_none, outside}
@@ -49,6 +52,12 @@ pub shown : (orders : List Extent) (uses : List ChargeRow) (k : ℕ) (r : ItemRo
 shown orders uses k r row =
     let f = any_of_count (taken_at uses r) r.is_finished row.finished in
     record { place = refl; live = ap (is_live_at (stage_of r.stage)) f; year = refl; account = refl; opens = open_is orders uses k r row; state = ap (state_at (stage_of r.stage)) f }
+
+-- what a look shows of an item, by its row
+pub item_seen : (plan : Plan) (orders : List Extent) (uses : List ChargeRow) (k : ℕ) (r : ItemRow) → IsRow orders uses k r → item_shown plan (view_item uses r) ≡ look.row_shown plan r
+item_seen plan orders uses k r row =
+    let s = shown orders uses k r row in
+    λ i. record { line = shown_line plan r.account; open_cents = s.opens i; state = s.state i; year = r.year }
 
 pub row_shown : (orders : List Extent) (uses : List ChargeRow) (items : List ItemRow) (order place : ℕ) → AreRows orders uses items → (o : Option ItemRow) →
     MatchOption o (HasNoKey order place items) (λ r. (j : ℕ) × HasKeyAt order place items j × (r ≡ get_or items j r)) →

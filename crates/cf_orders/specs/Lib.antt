@@ -5,3 +5,5 @@ pub mod RegisterView
 pub mod Steps
 pub mod RowRules
 pub mod RowMoves
+pub mod RowsShown
+pub mod RowSums

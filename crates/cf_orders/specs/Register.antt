@@ -1,5 +1,5 @@
 -- What contracts see of the register.
-use Rattle.std.specs.Prelude.{◌≡◌, ℕ, ◌+◌, ◌*◌, ◌<◌, ◌≤◌, ◌^◌, Bool, true, false, ◌==◌, ◌&&◌, List, [], length, Option, Some, None, unsigned_abs}
+use Rattle.std.specs.Prelude.{◌≡◌, ℕ, ◌+◌, ◌*◌, ◌<◌, ◌≤◌, ◌^◌, Bool, false, ◌==◌, ◌&&◌, List, [], length, Option, Some, None, unsigned_abs}
 use Rattle.std.specs.List.{list_any, AllByRecursion}
 use Rattle.cf_base.specs.declared.calendar.Day.{Day}
 use Rattle.cf_calls.specs.declared.acts.Act.{Act}
@@ -9,6 +9,9 @@ use Rattle.cf_calls.specs.declared.entry.Entry.{Entry}
 use Rattle.cf_calls.specs.declared.read.Read.{Read}
 use Rattle.cf_calls.specs.declared.read.Read.TheVariants as read
 use Rattle.cf_calls.specs.declared.shown.Shown.{Shown}
+use Rattle.cf_calls.specs.Form.{IsActInForm}
+use Rattle.cf_model.specs.Calendar.{rolled_year}
+use Rattle.cf_model.specs.Rules.{amount_refusal}
 use Rattle.cf_calls.specs.Acts.{requisition_items, order_items, voucher_items}
 use Rattle.cf_chart.specs.Plan.{Plan}
 use Rattle.cf_model.specs.OrderItems.{OrderItem, open_of}
@@ -96,3 +99,10 @@ document_shown plan s (read.Requisition n) = requisition_shown plan n s.holds
 document_shown plan s (read.Order n) = order_shown plan n s.items
 document_shown plan s (read.Voucher n) = voucher_shown n s.expenditures
 document_shown plan s _ = None
+
+-- an act in form for every day, within the limits of amounts, that pays nothing and rolls no year
+pub record IsPlain (act : Act) : Type 0 where
+  pub form : (on : Day) → IsActInForm on act
+  pub amounts : amount_refusal act ≡ None
+  pub rolls : (plan : Plan) → rolled_year plan act ≡ None
+  pub pays : (expenditures : List Expenditure) → PaysNoVoid expenditures act

@@ -15,6 +15,8 @@ mod rows;
 mod rules;
 mod steps;
 mod sums;
+#[cfg(test)]
+mod tests;
 mod vouchers;
 
 pub use moves::LineMove;

@@ -47,7 +47,10 @@ impl Orders {
             Act::Order(order) => {
                 self.take_up_at(year, order.requisition, order.items.as_slice(), nth)
             }
-            Act::ChangeOrder(change) => self.change_at(change.order, change.item, change.by, nth),
+            Act::ChangeOrder(change) => {
+                let change = *change;
+                self.change_at(change.order, change.item, change.by, nth)
+            }
             Act::CancelOrder(number) => self.cancel_at(*number, nth),
             Act::Voucher(invoice) => self.voucher_at(year, invoice.items.as_slice(), nth),
             Act::VoidVoucher(number) => self.void_at(*number, nth),

@@ -1,4 +1,4 @@
-use Rattle.std.proofs.Common.{arith, refl, ◌≤◌}
+use Rattle.std.proofs.Common.{arith, refl}
 use Rattle.cf_orders.proofs.Ranges.{changed_start, changed_more, changed_end}
 use Rattle.cf_orders.proofs.vouchers.pay_all.Goals as goal
 
