@@ -1,5 +1,5 @@
 -- An act that the rules on documents allow over a legal history is cleared: its moves lie within the years that have numbers.
-use Rattle.std.proofs.Common.{◌≡◌, ℕ, ◌<◌, Bool, true, false, if◌then◌else◌, ◌==◌, ◌&&◌, List, [], ◌∷◌, ◌++◌, map, Option, Some, None, find, refl, sym, subst}
+use Rattle.std.proofs.Common.{◌≡◌, ℕ, ◌<◌, Bool, true, false, if◌then◌else◌, ◌==◌, List, [], ◌∷◌, ◌++◌, map, Some, None}
 use Rattle.std.specs.List.{filter, AllByRecursion}
 use Rattle.cf_base.specs.declared.calendar.Day.{Day}
 use Rattle.cf_base.specs.Calendar.{is_day}
@@ -9,8 +9,6 @@ use Rattle.cf_calls.specs.declared.entry.Entry.{Entry}
 use Rattle.cf_calls.specs.declared.items.AccountItem.{AccountItem}
 use Rattle.cf_calls.specs.declared.items.Charge.{Charge}
 use Rattle.cf_calls.specs.declared.items.Charge.TheVariants.{Direct, OnOrder}
-use Rattle.cf_calls.specs.declared.items.VoucherItem.{VoucherItem}
-use Rattle.cf_calls.specs.declared.refusal.Refusal.{Refusal}
 use Rattle.cf_calls.specs.Form.{IsActInForm}
 use Rattle.cf_chart.specs.Plan.{Plan}
 use Rattle.cf_model.specs.Calendar.{document_year}
@@ -22,7 +20,7 @@ use Rattle.cf_model.specs.Step.{IsLegal, is_built, draws}
 use Rattle.cf_model.proofs.First.{AllNone, first_of_none}
 use Rattle.cf_model.proofs.Tidy.{IsTidy, tidy_always}
 use Rattle.cf_model.proofs.Years.{document_within}
-use Rattle.cf_office.specs.Moved.{IsCleared, act_moves}
+use Rattle.cf_office.specs.Moved.{IsCleared}
 
 abbrev IsWithin : Move → Type 0
 IsWithin m = m.year < 2201

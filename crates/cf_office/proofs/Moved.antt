@@ -1,5 +1,5 @@
 -- The changes of each kind of entry make what the entry changes.
-use Rattle.std.proofs.Common.{◌≡◌, ◌≢◌, ℕ, ◌+◌, ◌<◌, ◌≤◌, Bool, true, false, not, if◌then◌else◌, ◌==◌, ◌&&◌, ◌||◌, nat_lt, List, [], ◌∷◌, ◌++◌, length, map, sum_by, Option, Some, None, ℤ, pos, negsuc, suc, ◌+ℤ◌, ◌-ℤ◌, refl, sym, ap, subst, ◌∙◌, arith}
+use Rattle.std.proofs.Common.{◌≡◌, ◌≢◌, ℕ, ◌+◌, ◌<◌, Bool, true, false, not, if◌then◌else◌, ◌==◌, ◌&&◌, ◌||◌, nat_lt, List, [], ◌∷◌, ◌++◌, length, map, Option, Some, None, ℤ, pos, negsuc, ◌+ℤ◌, ◌-ℤ◌, refl, sym, ap, subst, ◌∙◌, arith}
 use Rattle.std.specs.List.{list_any, list_all}
 use Rattle.std.proofs.lemmas.Grind.{common_steps}
 use Rattle.std.proofs.lemmas.Int.{ints}
@@ -25,7 +25,7 @@ use Rattle.cf_budget.specs.Tables.{row_plus, zero_row, adopt_row, amend_row}
 use Rattle.cf_budget.proofs.Rows.{plus_zero, zero_plus}
 use Rattle.cf_model.specs.Documents.{Documents}
 use Rattle.cf_model.specs.LineNumbers.{adopted_by, added_by, removed_by, amount_for, rise_of, fall_of}
-use Rattle.cf_model.specs.Rules.{Name, name_refusal, names_of, unknown, line_name, fund_name, is_line_of, first_refusal, or_else}
+use Rattle.cf_model.specs.Rules.{Name, name_refusal, unknown, line_name, fund_name, is_line_of, first_refusal, or_else}
 use Rattle.cf_model.specs.Step.{is_built}
 use Rattle.cf_model.proofs.Asked.{amended_line}
 use Rattle.cf_model.proofs.First.{or_else_none, refuse_none}

@@ -1,15 +1,14 @@
 -- What an accepted entry's documents need, and what they become.
-use Rattle.std.proofs.Common.{◌≡◌, ℕ, ◌+◌, ◌<◌, ◌≤◌, Bool, true, false, List, [], ◌∷◌, ◌++◌, length, Option, Some, None, refl, sym, subst, ◌∙◌, ap, arith}
+use Rattle.std.proofs.Common.{◌≡◌, true, List, [], ◌∷◌, ◌++◌, length, None, refl, sym, ◌∙◌, ap, arith}
 use Rattle.cf_calls.specs.declared.acts.Act.{Act}
 use Rattle.cf_calls.specs.declared.acts.Act.TheVariants.{Adopt, Amend, Transfer, Requisition, Withdraw, Order, ChangeOrder, CancelOrder, Voucher, VoidVoucher}
 use Rattle.cf_calls.specs.declared.entry.Drawn.{Drawn}
 use Rattle.cf_calls.specs.declared.entry.Entry.{Entry}
-use Rattle.cf_calls.specs.declared.refusal.Refusal.{Refusal}
 use Rattle.cf_chart.specs.Plan.{Plan}
 use Rattle.cf_model.specs.Calendar.{rolled_year}
-use Rattle.cf_model.specs.DocumentRules.{document_refusal, document_rules}
+use Rattle.cf_model.specs.DocumentRules.{document_refusal}
 use Rattle.cf_model.specs.Documents.{Expenditure, Documents, documents_of, documents_step, no_documents}
-use Rattle.cf_model.specs.Rules.{first_of, or_else}
+use Rattle.cf_model.specs.Rules.{or_else}
 use Rattle.cf_model.specs.Step.{Adds, IsLegal, is_built, draws}
 use Rattle.cf_model.proofs.Accepted.{accepted, accepted_fits}
 use Rattle.cf_model.proofs.Tidy.{documents_push}

@@ -1,14 +1,13 @@
 -- A table that stands for a history goes on standing for it.
 use Rattle.std.proofs.Common.{◌≡◌, ℕ, ◌+◌, ◌<◌, ◌≤◌, ◌^◌, Bool, true, false, ◌&&◌, nat_lt, List, [], ◌∷◌, ◌++◌, length, length-append, ℤ, pos, ◌+ℤ◌, ◌-ℤ◌, ◌≤ℤ◌, refl, sym, ap, subst, ◌∙◌, arith, FitsSigned, get_or}
 use Rattle.std.specs.Int.{w128}
-use Rattle.std.specs.List.{list_all, All}
+use Rattle.std.specs.List.{All}
 use Rattle.std.proofs.lemmas.Grind.{common_steps}
 use Rattle.std.proofs.lemmas.Int.{ints}
 use Rattle.std.proofs.lemmas.List.Sums.{AllPass-from_list_all}
 use Rattle.cf_calls.specs.declared.entry.Entry.{Entry}
 use Rattle.cf_chart.specs.Plan.{Plan}
 use Rattle.cf_budget.specs.declared.changes.LineChange.{LineChange}
-use Rattle.cf_budget.specs.declared.row.Row.{Row}
 use Rattle.cf_budget.specs.Changes.{Applies, CanApply, changes_at}
 use Rattle.cf_budget.specs.Tables.{Table, row_at, has_row, row_plus, zero_row, numbers_of, SameRows, Fits}
 use Rattle.cf_model.specs.LineNumbers.{original, added, removed, appropriated, held, encumbered, expended, room, numbers, adopted_by, added_by, removed_by}

@@ -1,5 +1,5 @@
 -- What an entry changes of line numbers.
-use Rattle.std.specs.Prelude.{◌≡◌, ℕ, Bool, true, if◌then◌else◌, ◌==◌, ◌&&◌, nat_lt, ◌<◌, List, [], ◌∷◌, ◌++◌, length, map, Option, None, Some, ℤ, pos, ◌≤ℤ◌, ◌+ℤ◌, ◌-ℤ◌}
+use Rattle.std.specs.Prelude.{◌≡◌, ℕ, Bool, true, if◌then◌else◌, ◌&&◌, nat_lt, ◌<◌, List, [], ◌∷◌, length, map, Option, None, Some, ℤ, pos, ◌≤ℤ◌, ◌+ℤ◌, ◌-ℤ◌}
 use Rattle.std.specs.List.{list_all, AllByRecursion}
 use Rattle.cf_base.specs.declared.calendar.Day.{Day}
 use Rattle.cf_base.specs.Calendar.{is_day}
@@ -13,8 +13,8 @@ use Rattle.cf_chart.specs.Plan.{Plan}
 use Rattle.cf_budget.specs.declared.changes.LineChange.{LineChange}
 use Rattle.cf_budget.specs.declared.row.Row.{Row}
 use Rattle.cf_budget.specs.Changes.{changes_at, same_place}
-use Rattle.cf_budget.specs.Tables.{Table, row_at, row_plus, zero_row, adopt_row, amend_row}
-use Rattle.cf_model.specs.Documents.{Documents, documents_of}
+use Rattle.cf_budget.specs.Tables.{Table, row_at, zero_row, adopt_row, amend_row}
+use Rattle.cf_model.specs.Documents.{Documents}
 use Rattle.cf_model.specs.DocumentRules.{state_refusal, on_order_refusal, open_refusal}
 use Rattle.cf_model.specs.LineNumbers.{original, appropriated, held, encumbered, expended, adopted_by, added_by, removed_by, counts}
 use Rattle.cf_model.specs.Moves.{Move, moves_of, moved_sum}

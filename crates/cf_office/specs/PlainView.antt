@@ -1,5 +1,5 @@
 -- The plain office as contracts see it.
-use Rattle.std.specs.Prelude.{◌≡◌, List, length, ◌≤◌}
+use Rattle.std.specs.Prelude.{◌≡◌, length, ◌≤◌}
 use Rattle.cf_model.specs.Documents.{documents_of}
 use Rattle.cf_model.specs.Step.{IsLegal}
 use Rattle.cf_model.specs.State.{OfficeState}

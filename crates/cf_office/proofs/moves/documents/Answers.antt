@@ -1,4 +1,4 @@
-use Rattle.std.proofs.Common.{◌≡◌, ◌<◌, ◌≤◌, length, sym, subst, ◌∙◌, ap}
+use Rattle.std.proofs.Common.{◌<◌, ◌≤◌, length, subst}
 use Rattle.cf_model.specs.Step as step
 use Rattle.cf_office.specs.Moved.{act_moves}
 use Rattle.cf_office.proofs.Makes.{more_fits, made_more}

@@ -1,4 +1,4 @@
-use Rattle.std.proofs.Common.{◌≡◌, ◌<◌, ◌≤◌, ◌+◌, ◌++◌, ◌∷◌, [], ◌∙◌, ap, ℕ, List, length, length-append, arith}
+use Rattle.std.proofs.Common.{◌≡◌, ◌<◌, ◌+◌, ◌++◌, ◌∷◌, [], ◌∙◌, ap, ℕ, List, length, length-append, arith}
 use Rattle.cf_calls.specs.declared.entry.Entry.{Entry}
 use Rattle.cf_model.specs.Step.{Adds}
 use Rattle.cf_model.proofs.Accepted.{accepted_fits}

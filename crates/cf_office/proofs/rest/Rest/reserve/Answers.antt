@@ -1,5 +1,4 @@
-use Rattle.std.proofs.Common.{arith, ◌∙◌, ◌≡◌, ap, List}
-use Rattle.cf_calls.specs.declared.entry.Entry.{Entry}
+use Rattle.std.proofs.Common.{arith, ◌∙◌, ◌≡◌, ap}
 use Rattle.cf_model.specs.Step.{Adds}
 use Rattle.cf_office.specs.Keys.{place_of}
 use Rattle.cf_office.proofs.rest.Rest.reserve.Goals as goal
