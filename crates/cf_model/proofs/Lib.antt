@@ -1,6 +1,7 @@
 pub mod Accepted
 pub mod Asked
 pub mod Bounds
+pub mod Cases
 pub mod Changed
 pub mod Encumbered
 pub mod First
