@@ -191,9 +191,7 @@ fn charge_line(alloc: Global, draws: &mut Draws) -> Result<String, AllocError> {
 fn look_line(alloc: Global, draws: &mut Draws) -> Result<String, AllocError> {
     let number = 1 + draws.below(60);
     match draws.below(3) {
-        0 => {
-            format!(in alloc; "{{\"call\":\"requisition\",\"requisition\":{number}}}")
-        }
+        0 => { format!(in alloc; "{{\"call\":\"requisition\",\"requisition\":{number}}}") }
         1 => format!(in alloc; "{{\"call\":\"order\",\"order\":{number}}}"),
         _ => format!(in alloc; "{{\"call\":\"voucher\",\"voucher\":{number}}}"),
     }
