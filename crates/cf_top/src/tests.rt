@@ -110,6 +110,16 @@ impl Draws {
         }
     }
 
+    /// The number of a document, of which there may be none.
+    fn number(&mut self) -> u32 {
+        1 + u32::from(self.below(60))
+    }
+
+    /// The place of an order's item.
+    fn place(&mut self) -> u32 {
+        1 + u32::from(self.below(2))
+    }
+
     fn fund(&mut self) -> u32 {
         match self.below(6) {
             0 => 2,
@@ -139,8 +149,8 @@ impl Draws {
 
 /// A call on documents: requisitions, orders, vouchers on their items, changes, ends and voids.
 fn document_line(alloc: Global, draws: &mut Draws) -> Result<String, AllocError> {
-    let (desk, key) = (2 + draws.below(2), draws.below(9000));
-    let (number, place) = (1 + draws.below(60), 1 + draws.below(2));
+    let (desk, key) = (2 + u32::from(draws.below(2)), draws.below(9000));
+    let (number, place) = (draws.number(), draws.place());
     let (object, amount, open) = (draws.object(), draws.below(3000), draws.below(900));
     match draws.below(12) {
         0 | 1 => format!(in alloc;
@@ -171,9 +181,9 @@ fn document_line(alloc: Global, draws: &mut Draws) -> Result<String, AllocError>
 
 /// A voucher on an order's items, with each of the ways to liquidate.
 fn charge_line(alloc: Global, draws: &mut Draws) -> Result<String, AllocError> {
-    let (desk, key) = (2 + draws.below(2), draws.below(9000));
-    let (number, place) = (1 + draws.below(60), 1 + draws.below(2));
-    let (amount, recorded) = (draws.below(3000), 1 + draws.below(900));
+    let (desk, key) = (2 + u32::from(draws.below(2)), draws.below(9000));
+    let (number, place) = (draws.number(), draws.place());
+    let (amount, recorded) = (draws.below(3000), draws.number());
     match draws.below(3) {
         0 => format!(in alloc;
             "{{\"call\":\"voucher\",\"desk\":{desk},\"key\":\"d{key}\",\"on\":\"2025-08-08\",\"vendor\":7,\"items\":[{{\"fund\":1,\"dept\":10,\"object\":510,\"amount\":{amount},\"order\":{number},\"item\":{place}}}]}}"
@@ -189,7 +199,7 @@ fn charge_line(alloc: Global, draws: &mut Draws) -> Result<String, AllocError> {
 
 /// A look at a document.
 fn look_line(alloc: Global, draws: &mut Draws) -> Result<String, AllocError> {
-    let number = 1 + draws.below(60);
+    let number = draws.number();
     match draws.below(3) {
         0 => { format!(in alloc; "{{\"call\":\"requisition\",\"requisition\":{number}}}") }
         1 => format!(in alloc; "{{\"call\":\"order\",\"order\":{number}}}"),
