@@ -48,7 +48,7 @@ impl Orders {
     }
 
     /// Takes in an act that the rules allow, and gives the numbers that it draws. It takes no memory, as that was
-    /// reserved. An act on no document is only counted; one that rolls a year is left to `roll`.
+    /// reserved. An act on no document is only counted; one that rolls a year isn't known yet.
     pub fn apply(&mut self, chart: &Chart, on: Day, desk: u16, act: &Act) -> Drawn
         requires reserved { HasRoomFor act.now self.old.documents self.old.room }
         requires day { is_day on ≡ true }

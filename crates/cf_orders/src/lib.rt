@@ -15,8 +15,6 @@ mod rows;
 mod rules;
 mod steps;
 mod sums;
-#[cfg(test)]
-mod tests;
 mod vouchers;
 
 pub use moves::LineMove;
