@@ -1,6 +1,7 @@
 #!/bin/sh
-# What a direct voucher costs over a short and a long history, on the built program: microseconds a voucher and a look
-# after 1,000 and after 100,000 accepted entries, vouchers a second, and bytes of memory an entry.
+# What calls cost over a short and a long history, on the built program: microseconds a direct voucher and a look
+# after 1,000 and after 100,000 accepted entries, vouchers a second, and bytes of memory an entry; then microseconds a
+# voucher on an order's item, and its void, after 1,000 and after 100,000 orders.
 top=$(cd "$(dirname "$0")/.." && pwd)
 "$top/cityfund" > /dev/null 2>&1 # builds it where it is out of date
 scratch=$(mktemp -d) || exit 1
@@ -17,6 +18,17 @@ BATCH = 20_000
 def vouchers(first, count):
     return [('{"call":"voucher","desk":4,"key":"v%d","on":"2025-07-05","vendor":77,'
              '"items":[{"fund":1,"dept":20,"object":510,"amount":1}]}\n' % number) for number in range(first, first + count)]
+
+def orders(count):
+    return [('{"call":"order","desk":3,"key":"o%d","on":"2025-07-05","vendor":77,'
+             '"items":[{"fund":1,"dept":20,"object":510,"amount":1000}]}\n' % number) for number in range(count)]
+
+def item_vouchers(count, orders):
+    return [('{"call":"voucher","desk":4,"key":"v%d","on":"2025-07-05","vendor":77,"items":[{"fund":1,"dept":20,"object":510,'
+             '"amount":1,"order":%d,"item":1}]}\n' % (number, number * 7919 % orders + 1)) for number in range(count)]
+
+def voids(count):
+    return ['{"call":"void_voucher","desk":4,"key":"w%d","on":"2025-07-06","voucher":%d}\n' % (number, number + 1) for number in range(count)]
 
 def talk(desk, lines):
     text = "".join(lines).encode()
@@ -43,4 +55,15 @@ for entries in (1_000, 100_000):
     status = desk.wait()
     print(f"after {entries:,} entries: a voucher {seconds / BATCH * 1e6:.1f} us ({BATCH / seconds:,.0f} a second, {accepted:,} accepted), "
           f"a look {look / BATCH * 1e6:.1f} us, {grown:,.0f} bytes an entry, status {status}")
+
+for documents in (1_000, 100_000):
+    desk = subprocess.Popen([sys.argv[1], "desk"], stdin=subprocess.PIPE, stdout=subprocess.PIPE)
+    talk(desk, [ADOPT])
+    talk(desk, orders(documents))
+    seconds, accepted = talk(desk, item_vouchers(BATCH, documents))
+    undone, voided = talk(desk, voids(BATCH))
+    desk.stdin.close()
+    status = desk.wait()
+    print(f"after {documents:,} orders: a voucher on an item {seconds / BATCH * 1e6:.1f} us ({accepted:,} accepted), "
+          f"a void {undone / BATCH * 1e6:.1f} us ({voided:,} accepted), status {status}")
 PY

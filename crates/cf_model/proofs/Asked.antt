@@ -1,212 +1,114 @@
--- Which lines and years an entry asks anything of, kind by kind.
-use Rattle.std.proofs.Common.{◌≡◌, ◌≢◌, ◌⊎◌, inl, inr, ℕ, zero, suc, ◌+◌, ◌-◌, ◌*◌, ◌<◌, ◌≤◌, Bool, true, false, not, ◌||◌, ◌&&◌, ◌==◌, nat_lt, nat_le, if◌then◌else◌, List, [], ◌∷◌, ◌++◌, length, map, sum_by, Option, Some, None, is_some, ℤ, pos, negsuc, ◌-ℤ◌, int_lt, refl, sym, subst, arith, ◌∙◌, ap}
-use Rattle.std.specs.List.{list_all}
+-- Which lines and years a change asks anything of, kind by kind.
+use Rattle.std.proofs.Common.{◌≡◌, ◌≢◌, ℕ, suc, ◌<◌, Bool, true, false, not, ◌&&◌, ◌==◌, if◌then◌else◌, List, length, Option, Some, None, ℤ, pos, negsuc, ◌+ℤ◌, ◌-ℤ◌, ◌≤ℤ◌, refl, sym, subst, arith, ◌∙◌, ap}
 use Rattle.std.proofs.lemmas.Int.{ints}
 use Rattle.std.proofs.lemmas.Grind.{common_steps}
 use Rattle.std.proofs.lemmas.Option.{slice_get_within}
-use Rattle.std.proofs.lemmas.List.Sums.{sum_by-cons}
-use Rattle.cf_base.specs.declared.calendar.Day.{Day}
-use Rattle.cf_base.specs.declared.calendar.Month.{Month}
-use Rattle.cf_base.specs.Calendar.{is_day, month_of_day, year_of_month}
 use Rattle.cf_calls.specs.declared.acts.Act.{Act}
-use Rattle.cf_calls.specs.declared.acts.Act.TheVariants.{Adopt, Amend, Transfer, Voucher}
-use Rattle.cf_calls.specs.declared.acts.Adoption.{Adoption}
+use Rattle.cf_calls.specs.declared.acts.Act.TheVariants.{Adopt, Amend, Transfer, Requisition, Withdraw, Order, ChangeOrder, CancelOrder, Voucher, VoidVoucher}
 use Rattle.cf_calls.specs.declared.acts.Amendment.{Amendment}
 use Rattle.cf_calls.specs.declared.acts.LineTransfer.{LineTransfer}
-use Rattle.cf_calls.specs.declared.acts.Invoice.{Invoice}
-use Rattle.cf_calls.specs.declared.call.Change.{Change}
 use Rattle.cf_calls.specs.declared.entry.Entry.{Entry}
-use Rattle.cf_calls.specs.declared.items.VoucherItem.{VoucherItem}
 use Rattle.cf_calls.specs.declared.refusal.Refusal.{Refusal}
 use Rattle.cf_calls.specs.declared.refusal.Refusal.TheVariants as refusal
-use Rattle.cf_calls.specs.Acts.{voucher_items, is_back, amendment_of, transfer_of}
-use Rattle.cf_calls.specs.Form.{IsChangeInForm, IsActInForm, IsYear}
+use Rattle.cf_calls.specs.Acts.{amendment_of, transfer_of}
+use Rattle.cf_calls.specs.Form.{IsActInForm, IsYear}
 use Rattle.cf_calls.specs.declared.names.NameKind.TheVariants as kind
 use Rattle.cf_chart.specs.declared.rows.Line.{Line}
 use Rattle.cf_chart.specs.Plan.{Plan, line_at}
-use Rattle.cf_model.specs.Calendar.{document_year, year_of_day}
-use Rattle.cf_model.specs.LineNumbers.{room, added_by, removed_by, rise_of, fall_of, is_on, last_year}
-use Rattle.cf_model.specs.Rules.{asked, exceeds, overspends, exceeds_at, exceed_refusal, first_below, refuse_if, needed_year, unknown, line_name, fund_name, is_line_of, or_else, name_refusal}
-use Rattle.cf_model.specs.Step.{is_built, entry_with, draws, is_plain_item}
+use Rattle.cf_model.specs.Documents.{Documents, documents_of}
+use Rattle.cf_model.specs.LineNumbers.{room, added_by, removed_by, rise_of, fall_of, last_year}
+use Rattle.cf_model.specs.Moves.{moves_of, asked_of, asks_of_moves}
+use Rattle.cf_model.specs.Rules.{exceeds, overspends, exceed_refusal, first_below, unknown, line_name, fund_name, is_line_of, or_else, name_refusal}
+use Rattle.cf_model.specs.Step.{IsLegal, is_built}
 use Rattle.cf_model.proofs.First.{first_below_only, none_below, or_else_none, refuse_none}
-use Rattle.cf_model.proofs.Plain.{IsPlain, HasOnlyVouchers, built_is_plain, asked_plainly, asked_by_plain}
-use Rattle.cf_model.specs.LineNumbers.{spent, spent_by}
+use Rattle.cf_model.proofs.Changed.{asked_is}
+
+-- the least line, and its least year, of which so much too much is asked
+abbrev pub least_excess : Plan → List Entry → (ℕ → ℕ → ℤ) → Option Refusal
+least_excess plan h asks = first_below (λ line. first_below (λ year. overspends line (asks line year) (room plan line year h)) 2201) (length plan.lines)
+
+pub exceed_is : (plan : Plan) (h : List Entry) (e : Entry) → IsLegal plan h → is_built plan e.change.act ≡ true → IsActInForm e.change.on e.change.act →
+    exceed_refusal plan h e ≡ least_excess plan h (asked_of plan (documents_of plan h) e)
+unfolding exceed_refusal last_year
+exceed_is plan h e legal built form = ap (least_excess plan h) (λ i line year. asked_is plan h e line year legal built form i)
 
 -- what asks nothing isn't refused
-idle : (line n a : ℕ) (r : ℤ) → n ≡ 0 → overspends line (pos n -ℤ pos a) r ≡ None
-idle line n a r z = rw (nothing n a r z) refl
+idle : (line : ℕ) (a r : ℤ) → a ≤ℤ pos 0 → overspends line a r ≡ None
+idle line a r l = rw (nothing a r l) refl
   where
-    nothing : (n a : ℕ) (r : ℤ) → n ≡ 0 → exceeds (pos n -ℤ pos a) r ≡ false
-    nothing n a r z = grind (arith, ints)
+    nothing : (a r : ℤ) → a ≤ℤ pos 0 → exceeds a r ≡ false
+    nothing a r l = grind (arith, ints)
 
-if_other : (year other n : ℕ) → year ≢ other → (if other == year then n else 0) ≡ 0
-if_other year other n d = grind (arith, common_steps)
+none_excess : (plan : Plan) (h : List Entry) (asks : ℕ → ℕ → ℤ) → ((line year : ℕ) → asks line year ≤ℤ pos 0) → least_excess plan h asks ≡ None
+none_excess plan h asks idles =
+    none_below (λ line. first_below (λ year. overspends line (asks line year) (room plan line year h)) 2201) (length plan.lines)
+    (λ line l. none_below (λ year. overspends line (asks line year) (room plan line year h)) 2201 (λ year y. idle line (asks line year) (room plan line year h) (idles line year)))
 
-if_both : (b : Bool) (year other n : ℕ) → year ≢ other → (if b && (other == year) then n else 0) ≡ 0
-if_both b year other n d = grind (arith, common_steps)
-
--- an entry asks in the year of the budget that it needs alone
-other_year : (plan : Plan) (e : Entry) (line year : ℕ) → is_built plan e.change.act ≡ true → year ≢ needed_year plan e.change.on e.change.act →
-    removed_by line year e.change.act + spent plan line year e ≡ 0
-other_year plan e line year built d = by_act e.change.act built d
+-- where one line and year alone asks anything
+only_excess : (plan : Plan) (h : List Entry) (asks : ℕ → ℕ → ℤ) (line year : ℕ) → line < length plan.lines → year < 2201 →
+    ((m z : ℕ) → ((m == line) && (z == year)) ≡ false → asks m z ≤ℤ pos 0) → least_excess plan h asks ≡ overspends line (asks line year) (room plan line year h)
+only_excess plan h asks line year l y idles =
+    first_below_only (λ m. first_below (λ z. overspends m (asks m z) (room plan m z h)) 2201) (length plan.lines) line l
+    (λ m d. none_below (λ z. overspends m (asks m z) (room plan m z h)) 2201 (λ z k. idle m (asks m z) (room plan m z h) (idles m z (λ i. other m line d i && (z == year)))))
+    ∙ first_below_only (λ z. overspends line (asks line z) (room plan line z h)) 2201 year y
+    (λ z d. idle line (asks line z) (room plan line z h) (idles line z ((λ i. (line == line) && other z year d i) ∙ and_false (line == line))))
   where
-    by_act : (a : Act) → is_built plan a ≡ true → year ≢ needed_year plan e.change.on a →
-        removed_by line year a + (if document_year plan e.change.on a == year then spent_by plan line (voucher_items a) else 0) ≡ 0
-    by_act (Adopt a) built d = zero_if (document_year plan e.change.on (Adopt a) == year)
-      where
-        zero_if : (b : Bool) → 0 + (if b then 0 else 0) ≡ 0
-        zero_if true = refl
-        zero_if false = refl
-    by_act (Amend a) built d = rw (if_both (a.line == line) year a.year (fall_of a.by) d) (zero_if (document_year plan e.change.on (Amend a) == year))
-      where
-        zero_if : (b : Bool) → 0 + (if b then 0 else 0) ≡ 0
-        zero_if true = refl
-        zero_if false = refl
-    by_act (Transfer t) built d = rw (if_both (t.from == line) year t.year t.amount d) (zero_if (document_year plan e.change.on (Transfer t) == year))
-      where
-        zero_if : (b : Bool) → 0 + (if b then 0 else 0) ≡ 0
-        zero_if true = refl
-        zero_if false = refl
-    by_act (Voucher v) built d = rw (if_other year (document_year plan e.change.on (Voucher v)) (spent_by plan line v.items) d) refl
-    by_act _ built d = cc
+    other : (m n : ℕ) → m ≢ n → (m == n) ≡ false
+    other m n d = grind (arith, common_steps)
 
--- what an entry asks of a line is tested in one year
-pub exceed_in_year : (plan : Plan) (h : List Entry) (e : Entry) → is_built plan e.change.act ≡ true → HasOnlyVouchers plan h → needed_year plan e.change.on e.change.act < 2201 →
-    exceed_refusal plan h e
-    ≡ first_below (λ line. overspends line (asked_plainly plan line (needed_year plan e.change.on e.change.act) e) (room plan line (needed_year plan e.change.on e.change.act) h)) (length plan.lines)
-unfolding exceed_refusal last_year
-exceed_in_year plan h e built only within =
-    ap (λ (f : ℕ → Option Refusal). first_below f (length plan.lines)) (λ i line. at_line line i)
+    and_false : (b : Bool) → (b && false) ≡ false
+    and_false true = refl
+    and_false false = refl
+
+flip : (m n y z : ℕ) → ((m == n) && (z == y)) ≡ false → ((n == m) && (y == z)) ≡ false
+flip m n y z e = (λ i. same n m i && same y z i) ∙ e
   where
-    p : IsPlain e
-    p = built_is_plain plan e built
+    same : (a b : ℕ) → (a == b) ≡ (b == a)
+    same a b = grind (arith, common_steps)
 
-    plainly : (line year : ℕ) → exceeds_at plan h e line year ≡ overspends line (asked_plainly plan line year e) (room plan line year h)
-    plainly line year = ap (λ a. overspends line a (room plan line year h)) (asked_by_plain plan h e line year p only)
+itself : (m n : ℕ) → ((m == m) && (n == n)) ≡ true
+itself m n = grind (arith, common_steps)
 
-    other : (line year : ℕ) → year ≢ needed_year plan e.change.on e.change.act → exceeds_at plan h e line year ≡ None
-    other line year d = plainly line year ∙ idle line (removed_by line year e.change.act + spent plan line year e) (added_by line year e.change.act) (room plan line year h) (other_year plan e line year built d)
+-- ---- amendments and transfers
 
-    at_line : (line : ℕ) → first_below (exceeds_at plan h e line) 2201
-        ≡ overspends line (asked_plainly plan line (needed_year plan e.change.on e.change.act) e) (room plan line (needed_year plan e.change.on e.change.act) h)
-    at_line line = first_below_only (exceeds_at plan h e line) 2201 (needed_year plan e.change.on e.change.act) within (other line) ∙ plainly line (needed_year plan e.change.on e.change.act)
+abbrev asks_amend : Amendment → ℕ → ℕ → ℤ
+asks_amend a line year =
+    (pos (if (a.line == line) && (a.year == year) then fall_of a.by else 0) -ℤ pos (if (a.line == line) && (a.year == year) then rise_of a.by else 0)) +ℤ pos 0
 
--- ---- the years of a change in form
-
-both : (a b : Bool) → (a && b) ≡ true → (a ≡ true) × (b ≡ true)
-both true b e = (refl, e)
-both false b e = cc
-
-le_true : (m n : ℕ) → nat_le m n ≡ true → m ≤ n
-le_true m n e = grind (arith, common_steps)
-
--- a day's year is at most 2199
-pub day_within : (on : Day) → is_day on ≡ true → on.year ≤ 2199
-day_within on day = le_true on.year 2199 ((both _ _ ((both _ _ ((both _ _ ((both _ _ ((both _ _ day).0)).0)).0)).0)).1)
-
-pub day_year : (plan : Plan) (on : Day) → is_day on ≡ true → year_of_day plan on < 2201
-day_year plan on day = by_month (plan.first_month == 1) (nat_lt on.month plan.first_month) on.year (day_within on day)
+amend_excess : (plan : Plan) (h : List Entry) (a : Amendment) → a.line < length plan.lines → a.year < 2201 →
+    least_excess plan h (asks_amend a) ≡ overspends a.line (pos (fall_of a.by)) (room plan a.line a.year h)
+amend_excess plan h a l y =
+    only_excess plan h (asks_amend a) a.line a.year l y (λ m z e. rw (flip m a.line a.year z e) (omega (arith, ints)))
+    ∙ rw (itself a.line a.year) (by_sign a.by)
   where
-    by_month : (a b : Bool) (y : ℕ) → y ≤ 2199 → (if a || b then y else y + 1) < 2201
-    by_month true b y l = omega arith
-    by_month false true y l = omega arith
-    by_month false false y l = omega arith
+    less_none : (n : ℕ) → (pos n -ℤ pos 0) +ℤ pos 0 ≡ pos n
+    less_none n = omega (arith, ints)
 
-pub document_within : (plan : Plan) (on : Day) (act : Act) → is_day on ≡ true → document_year plan on act < 2201
-document_within plan on act day = by_back (is_back act) (year_of_day plan on) (day_year plan on day)
+    below : (n : ℕ) → ((pos 0 -ℤ pos n) +ℤ pos 0) ≤ℤ pos 0
+    below n = omega (arith, ints)
+
+    by_sign : (by : ℤ) → overspends a.line ((pos (fall_of by) -ℤ pos (rise_of by)) +ℤ pos 0) (room plan a.line a.year h) ≡ overspends a.line (pos (fall_of by)) (room plan a.line a.year h)
+    by_sign (pos n) = idle a.line ((pos 0 -ℤ pos n) +ℤ pos 0) (room plan a.line a.year h) (below n) ∙ sym (idle a.line (pos 0) (room plan a.line a.year h) (omega (arith, ints)))
+    by_sign (negsuc n) = ap (λ x. overspends a.line x (room plan a.line a.year h)) (less_none (suc n))
+
+abbrev asks_transfer : LineTransfer → ℕ → ℕ → ℤ
+asks_transfer t line year =
+    (pos (if (t.from == line) && (t.year == year) then t.amount else 0) -ℤ pos (if (t.to == line) && (t.year == year) then t.amount else 0)) +ℤ pos 0
+
+transfer_excess : (plan : Plan) (h : List Entry) (t : LineTransfer) → t.from ≢ t.to → t.from < length plan.lines → t.year < 2201 →
+    least_excess plan h (asks_transfer t) ≡ overspends t.from (pos t.amount) (room plan t.from t.year h)
+transfer_excess plan h t apart l y =
+    only_excess plan h (asks_transfer t) t.from t.year l y (λ m z e. rw (flip m t.from t.year z e) (not_above ((t.to == m) && (t.year == z)) t.amount))
+    ∙ rw (itself t.from t.year, other t.to t.from (t.year == t.year) (λ e. apart (sym e))) (ap (λ x. overspends t.from x (room plan t.from t.year h)) (less_none t.amount))
   where
-    by_back : (b : Bool) (y : ℕ) → y < 2201 → (if b then y - 1 else y) < 2201
-    by_back true y l = omega arith
-    by_back false y l = omega arith
+    not_above : (b : Bool) (n : ℕ) → ((pos 0 -ℤ pos (if b then n else 0)) +ℤ pos 0) ≤ℤ pos 0
+    not_above true n = omega (arith, ints)
+    not_above false n = omega (arith, ints)
 
-pub needed_within : (plan : Plan) (on : Day) (act : Act) → is_day on ≡ true → IsActInForm on act → needed_year plan on act < 2201
-needed_within plan on (Amend a) day form = omega (arith, form.0.to)
-needed_within plan on (Transfer t) day form = omega (arith, form.0.to)
-needed_within plan on (Adopt a) day form = document_within plan on (Adopt a) day
-needed_within plan on (Voucher v) day form = document_within plan on (Voucher v) day
-needed_within plan on act day form = by_default act
-  where
-    by_default : (a : Act) → needed_year plan on act < 2201
-    by_default a = document_within plan on act day
+    other : (m n : ℕ) (b : Bool) → m ≢ n → ((m == n) && b) ≡ false
+    other m n b d = grind (arith, common_steps)
 
--- ---- kind by kind: a change over a history without orders
-
--- what a change on this day asks
-abbrev pub asks : Plan → Day → Act → ℕ → ℕ → ℤ
-asks plan on act line year =
-    pos (removed_by line year act + (if document_year plan on act == year then spent_by plan line (voucher_items act) else 0)) -ℤ pos (added_by line year act)
-
--- the least line of which it asks too much, in the year of the budget that it needs
-abbrev pub exceeds_in : Plan → List Entry → Day → Act → Option Refusal
-exceeds_in plan h on act =
-    first_below (λ line. overspends line (asks plan on act line (needed_year plan on act)) (room plan line (needed_year plan on act) h)) (length plan.lines)
-
-pub exceed_is : (plan : Plan) (h : List Entry) (c : Change) → is_built plan c.act ≡ true → HasOnlyVouchers plan h → IsChangeInForm c →
-    exceed_refusal plan h (entry_with h c) ≡ exceeds_in plan h c.on c.act
-exceed_is plan h c built only form = exceed_in_year plan h (entry_with h c) built only (needed_within plan c.on c.act form.on form.act)
-
-zero_if : (b : Bool) → 0 + (if b then 0 else 0) ≡ 0
-zero_if true = refl
-zero_if false = refl
-
--- an adoption asks nothing
-pub adopt_exceeds : (plan : Plan) (h : List Entry) (on : Day) (a : Adoption) → exceeds_in plan h on (Adopt a) ≡ None
-adopt_exceeds plan h on a =
-    let year = document_year plan on (Adopt a) in
-    none_below (λ line. overspends line (asks plan on (Adopt a) line year) (room plan line year h)) (length plan.lines)
-    (λ line l. idle line (0 + (if year == year then 0 else 0)) (added_by line year (Adopt a)) (room plan line year h) (zero_if (year == year)))
-
-same : (n : ℕ) → (n == n) ≡ true
-same n = grind (arith, common_steps)
-
-other_line : (line n amount : ℕ) (b : Bool) → line ≢ n → (if (n == line) && b then amount else 0) ≡ 0
-other_line line n amount b d = grind (arith, common_steps)
-
--- an amendment down asks of its line what it takes
-pub amend_exceeds : (plan : Plan) (h : List Entry) (on : Day) (a : Amendment) → a.line < length plan.lines →
-    exceeds_in plan h on (Amend a) ≡ overspends a.line (pos (fall_of a.by)) (room plan a.line a.year h)
-amend_exceeds plan h on a within =
-    first_below_only (λ line. overspends line (asks plan on (Amend a) line a.year) (room plan line a.year h)) (length plan.lines) a.line within
-    (λ line d. idle line _ (added_by line a.year (Amend a)) (room plan line a.year h) (nothing line d))
-    ∙ rw (same a.line, same a.year) (by_sign a.by (document_year plan on (Amend a) == a.year))
-  where
-    nothing : (line : ℕ) → line ≢ a.line → removed_by line a.year (Amend a) + (if document_year plan on (Amend a) == a.year then 0 else 0) ≡ 0
-    nothing line d = rw (other_line line a.line (fall_of a.by) (a.year == a.year) d) (zero_if (document_year plan on (Amend a) == a.year))
-
-    less_none : (n : ℕ) (b : Bool) → pos (n + (if b then 0 else 0)) -ℤ pos 0 ≡ pos n
-    less_none n true = omega (arith, ints)
-    less_none n false = omega (arith, ints)
-
-    by_sign : (by : ℤ) (b : Bool) →
-        overspends a.line (pos (fall_of by + (if b then 0 else 0)) -ℤ pos (rise_of by)) (room plan a.line a.year h) ≡ overspends a.line (pos (fall_of by)) (room plan a.line a.year h)
-    by_sign (pos n) b = idle a.line (0 + (if b then 0 else 0)) n (room plan a.line a.year h) (zero_if b) ∙ sym (idle a.line 0 0 (room plan a.line a.year h) refl)
-    by_sign (negsuc n) b = ap (λ x. overspends a.line x (room plan a.line a.year h)) (less_none (suc n) b)
-
--- a transfer asks of the line that it takes from
-pub transfer_exceeds : (plan : Plan) (h : List Entry) (on : Day) (t : LineTransfer) → t.from ≢ t.to → t.from < length plan.lines →
-    exceeds_in plan h on (Transfer t) ≡ overspends t.from (pos t.amount) (room plan t.from t.year h)
-transfer_exceeds plan h on t apart within =
-    first_below_only (λ line. overspends line (asks plan on (Transfer t) line t.year) (room plan line t.year h)) (length plan.lines) t.from within
-    (λ line d. idle line _ (added_by line t.year (Transfer t)) (room plan line t.year h) (nothing line d))
-    ∙ rw (same t.from, same t.year, other_line t.from t.to t.amount true apart) (ap (λ x. overspends t.from x (room plan t.from t.year h)) (less_none t.amount (document_year plan on (Transfer t) == t.year)))
-  where
-    nothing : (line : ℕ) → line ≢ t.from → removed_by line t.year (Transfer t) + (if document_year plan on (Transfer t) == t.year then 0 else 0) ≡ 0
-    nothing line d = rw (other_line line t.from t.amount (t.year == t.year) d) (zero_if (document_year plan on (Transfer t) == t.year))
-
-    less_none : (n : ℕ) (b : Bool) → pos (n + (if b then 0 else 0)) -ℤ pos 0 ≡ pos n
-    less_none n true = omega (arith, ints)
-    less_none n false = omega (arith, ints)
-
--- a voucher asks of each line what its items have there
-pub voucher_exceeds : (plan : Plan) (h : List Entry) (on : Day) (v : Invoice) →
-    exceeds_in plan h on (Voucher v)
-    ≡ first_below (λ line. overspends line (pos (spent_by plan line v.items)) (room plan line (document_year plan on (Voucher v)) h)) (length plan.lines)
-voucher_exceeds plan h on v =
-    rw (same (document_year plan on (Voucher v)))
-    (ap (λ (f : ℕ → Option Refusal). first_below f (length plan.lines))
-    (λ i line. overspends line (less_none (spent_by plan line v.items) i) (room plan line (document_year plan on (Voucher v)) h)))
-  where
-    less_none : (n : ℕ) → pos (0 + n) -ℤ pos 0 ≡ pos n
+    less_none : (n : ℕ) → (pos n -ℤ pos 0) +ℤ pos 0 ≡ pos n
     less_none n = omega (arith, ints)
 
 amendment_is : (act : Act) (a : Amendment) → amendment_of act ≡ Some a → act ≡ Amend a
@@ -217,34 +119,68 @@ transfer_is : (act : Act) (t : LineTransfer) → transfer_of act ≡ Some t → 
 transfer_is (Transfer u) t e = cc
 transfer_is _ t e = cc
 
--- an act that is an amendment, or a transfer, by its projection
-pub exceed_amendment : (plan : Plan) (h : List Entry) (on : Day) (act : Act) (a : Amendment) → amendment_of act ≡ Some a → a.line < length plan.lines →
-    exceeds_in plan h on act ≡ overspends a.line (pos (fall_of a.by)) (room plan a.line a.year h)
-exceed_amendment plan h on act a is within = ap (exceeds_in plan h on) (amendment_is act a is) ∙ amend_exceeds plan h on a within
+-- what an act asks, over these documents and with this number
+abbrev asks_of : Plan → Documents → Entry → Act → ℕ → ℕ → ℤ
+asks_of plan s e act line year = (pos (removed_by line year act) -ℤ pos (added_by line year act)) +ℤ asks_of_moves plan line year (moves_of plan s e.drawn.number e.change.on act)
 
-pub exceed_transfer : (plan : Plan) (h : List Entry) (on : Day) (act : Act) (t : LineTransfer) → transfer_of act ≡ Some t → IsActInForm on act → t.from < length plan.lines →
-    exceeds_in plan h on act ≡ overspends t.from (pos t.amount) (room plan t.from t.year h)
-exceed_transfer plan h on act t is form within =
-    let same : act ≡ Transfer t = transfer_is act t is in
-    let apart : IsYear t.year × (t.from ≢ t.to) = subst (λ a. IsActInForm on a) same form in
-    ap (exceeds_in plan h on) same ∙ transfer_exceeds plan h on t apart.1 within
+-- an amendment down asks of its line what it takes
+pub exceed_amendment : (plan : Plan) (h : List Entry) (e : Entry) (a : Amendment) → IsLegal plan h → is_built plan e.change.act ≡ true → IsActInForm e.change.on e.change.act →
+    amendment_of e.change.act ≡ Some a → a.line < length plan.lines → exceed_refusal plan h e ≡ overspends a.line (pos (fall_of a.by)) (room plan a.line a.year h)
+exceed_amendment plan h e a legal built form is within =
+    let same : e.change.act ≡ Amend a = amendment_is e.change.act a is in
+    let f : IsActInForm e.change.on (Amend a) = subst (λ (x : Act). IsActInForm e.change.on x) same form in
+    exceed_is plan h e legal built form
+    ∙ ap (λ (x : Act). least_excess plan h (asks_of plan (documents_of plan h) e x)) same
+    ∙ amend_excess plan h a within (omega (arith, f.0.to))
 
--- every other act that the office knows asks what its voucher items ask, which for an adoption is nothing
-pub exceed_rest : (plan : Plan) (h : List Entry) (on : Day) (act : Act) → is_built plan act ≡ true → amendment_of act ≡ None → transfer_of act ≡ None →
-    exceeds_in plan h on act
-    ≡ first_below (λ line. overspends line (pos (spent_by plan line (voucher_items act))) (room plan line (document_year plan on act) h)) (length plan.lines)
-exceed_rest plan h on (Adopt a) built na nt =
-    adopt_exceeds plan h on a
-    ∙ sym (none_below (λ line. overspends line (pos 0) (room plan line (document_year plan on (Adopt a)) h)) (length plan.lines) (λ line l. refl))
-exceed_rest plan h on (Voucher v) built na nt = voucher_exceeds plan h on v
-exceed_rest plan h on (Amend a) built na nt = cc
-exceed_rest plan h on (Transfer t) built na nt = cc
-exceed_rest plan h on _ built na nt = cc
+-- a transfer asks of the line that it takes from
+pub exceed_transfer : (plan : Plan) (h : List Entry) (e : Entry) (t : LineTransfer) → IsLegal plan h → is_built plan e.change.act ≡ true → IsActInForm e.change.on e.change.act →
+    transfer_of e.change.act ≡ Some t → t.from < length plan.lines → exceed_refusal plan h e ≡ overspends t.from (pos t.amount) (room plan t.from t.year h)
+exceed_transfer plan h e t legal built form is within =
+    let same : e.change.act ≡ Transfer t = transfer_is e.change.act t is in
+    let f : IsYear t.year × (t.from ≢ t.to) = subst (λ (x : Act). IsActInForm e.change.on x) same form in
+    exceed_is plan h e legal built form
+    ∙ ap (λ (x : Act). least_excess plan h (asks_of plan (documents_of plan h) e x)) same
+    ∙ transfer_excess plan h t f.1 within (omega (arith, f.0.to))
+
+-- every other act that the office knows asks what its moves ask, which for an adoption is nothing
+pub exceed_rest : (plan : Plan) (h : List Entry) (e : Entry) → IsLegal plan h → is_built plan e.change.act ≡ true → IsActInForm e.change.on e.change.act →
+    amendment_of e.change.act ≡ None → transfer_of e.change.act ≡ None →
+    exceed_refusal plan h e ≡ least_excess plan h (λ line year. asks_of_moves plan line year (moves_of plan (documents_of plan h) e.drawn.number e.change.on e.change.act))
+exceed_rest plan h e legal built form na nt = exceed_is plan h e legal built form ∙ by_act e.change.act built na nt
+  where
+    less_none : (z : ℤ) → (pos 0 -ℤ pos 0) +ℤ z ≡ z
+    less_none z = omega (arith, ints)
+
+    below : (n : ℕ) → ((pos 0 -ℤ pos n) +ℤ pos 0) ≤ℤ pos 0
+    below n = omega (arith, ints)
+
+    as_moves : (act : Act) → ((line year : ℕ) → removed_by line year act ≡ 0) → ((line year : ℕ) → added_by line year act ≡ 0) →
+        least_excess plan h (asks_of plan (documents_of plan h) e act) ≡ least_excess plan h (λ line year. asks_of_moves plan line year (moves_of plan (documents_of plan h) e.drawn.number e.change.on act))
+    as_moves act r a = ap (least_excess plan h)
+        (λ i line year. ((λ k. (pos (r line year k) -ℤ pos (a line year k)) +ℤ asks_of_moves plan line year (moves_of plan (documents_of plan h) e.drawn.number e.change.on act))
+        ∙ less_none (asks_of_moves plan line year (moves_of plan (documents_of plan h) e.drawn.number e.change.on act))) i)
+
+    by_act : (act : Act) → is_built plan act ≡ true → amendment_of act ≡ None → transfer_of act ≡ None →
+        least_excess plan h (asks_of plan (documents_of plan h) e act) ≡ least_excess plan h (λ line year. asks_of_moves plan line year (moves_of plan (documents_of plan h) e.drawn.number e.change.on act))
+    by_act (Adopt a) built na nt =
+        none_excess plan h (asks_of plan (documents_of plan h) e (Adopt a)) (λ line year. below (added_by line year (Adopt a)))
+        ∙ sym (none_excess plan h (λ line year. pos 0) (λ line year. omega (arith, ints)))
+    by_act (Amend a) built na nt = cc
+    by_act (Transfer t) built na nt = cc
+    by_act (Requisition r) built na nt = as_moves (Requisition r) (λ l y. refl) (λ l y. refl)
+    by_act (Withdraw n) built na nt = as_moves (Withdraw n) (λ l y. refl) (λ l y. refl)
+    by_act (Order o) built na nt = as_moves (Order o) (λ l y. refl) (λ l y. refl)
+    by_act (ChangeOrder c) built na nt = as_moves (ChangeOrder c) (λ l y. refl) (λ l y. refl)
+    by_act (CancelOrder n) built na nt = as_moves (CancelOrder n) (λ l y. refl) (λ l y. refl)
+    by_act (Voucher v) built na nt = as_moves (Voucher v) (λ l y. refl) (λ l y. refl)
+    by_act (VoidVoucher n) built na nt = as_moves (VoidVoucher n) (λ l y. refl) (λ l y. refl)
+    by_act _ built na nt = cc
 
 -- ---- the lines that a named act names are there
 
-is_there : (plan : Plan) (fund n : ℕ) → unknown plan (line_name fund n) ≡ None → n < length plan.lines
-is_there plan fund n e = by_line (line_at plan n) refl (not_false (is_line_of fund (line_at plan n)) (refuse_none _ (refusal.UnknownName kind.Line n) e))
+is_there : (plan : Plan) (s : Documents) (fund n : ℕ) → unknown plan s (line_name fund n) ≡ None → n < length plan.lines
+is_there plan s fund n e = by_line (line_at plan n) refl (not_false (is_line_of fund (line_at plan n)) (refuse_none _ (refusal.UnknownName kind.Line n) e))
   where
     not_false : (b : Bool) → not b ≡ false → b ≡ true
     not_false true e = refl
@@ -254,16 +190,16 @@ is_there plan fund n e = by_line (line_at plan n) refl (not_false (is_line_of fu
     by_line None e t = cc
     by_line (Some l) e t = slice_get_within plan.lines n l e
 
-pub amended_line : (plan : Plan) (act : Act) (a : Amendment) → amendment_of act ≡ Some a → name_refusal plan act ≡ None → a.line < length plan.lines
-amended_line plan act a is none =
+pub amended_line : (plan : Plan) (s : Documents) (act : Act) (a : Amendment) → amendment_of act ≡ Some a → name_refusal plan s act ≡ None → a.line < length plan.lines
+amended_line plan s act a is none =
     let same : act ≡ Amend a = amendment_is act a is in
-    let named : name_refusal plan (Amend a) ≡ None = subst (λ x. name_refusal plan x ≡ None) same none in
-    let fund = or_else_none (unknown plan (fund_name a.fund)) (or_else (unknown plan (line_name a.fund a.line)) None) named in
-    is_there plan a.fund a.line (or_else_none (unknown plan (line_name a.fund a.line)) None fund.1).0
+    let named : name_refusal plan s (Amend a) ≡ None = subst (λ x. name_refusal plan s x ≡ None) same none in
+    let fund = or_else_none (unknown plan s (fund_name a.fund)) (or_else (unknown plan s (line_name a.fund a.line)) None) named in
+    is_there plan s a.fund a.line (or_else_none (unknown plan s (line_name a.fund a.line)) None fund.1).0
 
-pub transferred_line : (plan : Plan) (act : Act) (t : LineTransfer) → transfer_of act ≡ Some t → name_refusal plan act ≡ None → t.from < length plan.lines
-transferred_line plan act t is none =
+pub transferred_line : (plan : Plan) (s : Documents) (act : Act) (t : LineTransfer) → transfer_of act ≡ Some t → name_refusal plan s act ≡ None → t.from < length plan.lines
+transferred_line plan s act t is none =
     let same : act ≡ Transfer t = transfer_is act t is in
-    let named : name_refusal plan (Transfer t) ≡ None = subst (λ x. name_refusal plan x ≡ None) same none in
-    let fund = or_else_none (unknown plan (fund_name t.fund)) (or_else (unknown plan (line_name t.fund t.from)) (or_else (unknown plan (line_name t.fund t.to)) None)) named in
-    is_there plan t.fund t.from (or_else_none (unknown plan (line_name t.fund t.from)) (or_else (unknown plan (line_name t.fund t.to)) None) fund.1).0
+    let named : name_refusal plan s (Transfer t) ≡ None = subst (λ x. name_refusal plan s x ≡ None) same none in
+    let fund = or_else_none (unknown plan s (fund_name t.fund)) (or_else (unknown plan s (line_name t.fund t.from)) (or_else (unknown plan s (line_name t.fund t.to)) None)) named in
+    is_there plan s t.fund t.from (or_else_none (unknown plan s (line_name t.fund t.from)) (or_else (unknown plan s (line_name t.fund t.to)) None) fund.1).0

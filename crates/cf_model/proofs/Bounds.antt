@@ -1,31 +1,27 @@
 -- Sums over a legal history are small, and nothing of it is closed.
-use Rattle.std.proofs.Common.{◌≡◌, ℕ, zero, suc, ◌+◌, ◌*◌, ◌^◌, ◌<◌, ◌≤◌, Bool, true, false, ◌==◌, if◌then◌else◌, not, ◌&&◌, ◌||◌, nat_le, nat_lt, List, [], ◌∷◌, ◌++◌, length, map, sum_by, Option, Some, None, ℤ, pos, negsuc, unsigned_abs, refl, arith, ap, ◌∙◌, take, get_or, length-append, length-take}
+use Rattle.std.proofs.Common.{◌≡◌, ℕ, zero, suc, ◌+◌, ◌*◌, ◌^◌, ◌<◌, ◌≤◌, Bool, true, false, ◌==◌, if◌then◌else◌, ◌&&◌, ◌||◌, nat_lt, List, [], ◌∷◌, ◌++◌, length, map, None, ℤ, pos, negsuc, ◌-ℤ◌, ◌≤ℤ◌, unsigned_abs, refl, subst, arith, get_or, length-append}
 use Rattle.std.specs.List.{list_any, AllByRecursion}
-use Rattle.std.proofs.lemmas.Grind.{common_steps}
+use Rattle.std.proofs.lemmas.Int.{ints}
 use Rattle.std.proofs.lemmas.List.Sums.{sum_by-cons}
-use Rattle.std.proofs.lemmas.List.{take_more}
 use Rattle.cf_base.specs.declared.calendar.Month.{Month}
-use Rattle.cf_base.specs.Calendar.{is_day, year_of_month}
+use Rattle.cf_base.specs.Calendar.{year_of_month}
 use Rattle.cf_calls.specs.declared.acts.Act.{Act}
-use Rattle.cf_calls.specs.declared.acts.Act.TheVariants.{Adopt, Amend, Transfer, Voucher}
+use Rattle.cf_calls.specs.declared.acts.Act.TheVariants.{Adopt, Amend, Transfer, Requisition, Withdraw, Order, ChangeOrder, CancelOrder, Voucher, VoidVoucher}
 use Rattle.cf_calls.specs.declared.entry.Entry.{Entry}
 use Rattle.cf_calls.specs.declared.items.LineAmount.{LineAmount}
-use Rattle.cf_calls.specs.declared.items.SourceAmount.{SourceAmount}
-use Rattle.cf_calls.specs.declared.items.VoucherItem.{VoucherItem}
-use Rattle.cf_calls.specs.declared.refusal.Refusal.{Refusal}
 use Rattle.cf_calls.specs.declared.refusal.Refusal.TheVariants as refusal
-use Rattle.cf_calls.specs.Acts.{voucher_items, closes_month, closes_year}
+use Rattle.cf_calls.specs.Acts.{closes_month, closes_year}
 use Rattle.cf_calls.specs.Form.{IsActInForm, IsChangeInForm}
 use Rattle.cf_chart.specs.Plan.{Plan}
-use Rattle.cf_model.specs.Calendar.{is_month_closed, is_year_closed, open_year, first_failing, document_year}
-use Rattle.cf_model.specs.LineNumbers.{original, added, removed, expended, amount_for, adopted_by, added_by, removed_by, rise_of, fall_of, is_on}
-use Rattle.cf_model.specs.Rules.{Amount, amount, first_refusal, refuse_if, or_else, amount_refusal, bad_amount}
+use Rattle.cf_model.specs.Calendar.{is_month_closed, is_year_closed, open_year, first_failing}
+use Rattle.cf_model.specs.LineNumbers.{original, added, removed, held, encumbered, expended, room, amount_for, adopted_by, added_by, removed_by, rise_of, fall_of}
+use Rattle.cf_model.specs.Rules.{Amount, amount, first_refusal, amount_refusal, bad_amount}
 use Rattle.cf_model.specs.Step.{Adds, IsLegal, is_built}
 use Rattle.cf_model.proofs.Accepted.{accepted}
 use Rattle.cf_model.proofs.First.{or_else_none, refuse_none}
-use Rattle.cf_model.proofs.Legal.{legal_induction, legal_take}
-use Rattle.cf_model.proofs.Plain.{IsPlain, built_is_plain, original_push, added_push, removed_push, expended_push}
-use Rattle.cf_model.specs.LineNumbers.{spent, spent_by}
+use Rattle.cf_model.proofs.Legal.{legal_induction}
+use Rattle.cf_model.proofs.Changed.{original_push, added_push, removed_push, plain_appropriated, nothing_carried}
+use Rattle.cf_model.proofs.Room.{room_now}
 
 small : (a : ℕ) → bad_amount (amount a) ≡ None → a ≤ 10000000000000
 small a e = let b = refuse_none _ (refusal.AmountRange a) e in grind arith
@@ -42,14 +38,6 @@ rows_small line (r ∷ rows) rest e =
     let here = zero_or (r.line == line) r.amount 10000000000000 (small r.amount both.0) in
     let more : amount_for line rows ≤ length rows * 10000000000000 = rows_small line rows rest both.1 in
     rw (sum_by-cons (λ (r : LineAmount). if r.line == line then r.amount else 0) r rows) (omega (arith, here, more))
-
-items_small : (plan : Plan) (line : ℕ) (items : List VoucherItem) → first_refusal bad_amount (map (λ i. amount i.account.amount) items) ≡ None → spent_by plan line items ≤ length items * 10000000000000
-items_small plan line [] e = omega arith
-items_small plan line (i ∷ items) e =
-    let both = or_else_none (bad_amount (amount i.account.amount)) (first_refusal bad_amount (map (λ i. amount i.account.amount) items)) e in
-    let here = zero_or (is_on plan line i.account) i.account.amount 10000000000000 (small i.account.amount both.0) in
-    let more : spent_by plan line items ≤ length items * 10000000000000 = items_small plan line items both.1 in
-    rw (sum_by-cons (λ (i : VoucherItem). if is_on plan line i.account then i.account.amount else 0) i items) (omega (arith, here, more))
 
 sizes : (by : ℤ) → unsigned_abs by ≤ 10000000000000 → (rise_of by ≤ 10000000000000) × (fall_of by ≤ 10000000000000)
 sizes (pos n) l = (l, omega arith)
@@ -81,40 +69,35 @@ act_small plan line year e (Transfer t) built form none =
       added = zero_or ((t.to == line) && (t.year == year)) t.amount 40960000000000000 (omega (arith, size));
       removed = zero_or ((t.from == line) && (t.year == year)) t.amount 10000000000000 size;
     }
+act_small plan line year e (Requisition r) built form none = record { adopted = omega arith; added = omega arith; removed = omega arith }
+act_small plan line year e (Withdraw n) built form none = record { adopted = omega arith; added = omega arith; removed = omega arith }
+act_small plan line year e (Order o) built form none = record { adopted = omega arith; added = omega arith; removed = omega arith }
+act_small plan line year e (ChangeOrder c) built form none = record { adopted = omega arith; added = omega arith; removed = omega arith }
+act_small plan line year e (CancelOrder n) built form none = record { adopted = omega arith; added = omega arith; removed = omega arith }
 act_small plan line year e (Voucher v) built form none = record { adopted = omega arith; added = omega arith; removed = omega arith }
+act_small plan line year e (VoidVoucher n) built form none = record { adopted = omega arith; added = omega arith; removed = omega arith }
 act_small plan line year e _ built form none = cc
-
-pub spent_by_small : (plan : Plan) (line : ℕ) (e : Entry) (a : Act) → is_built plan a ≡ true → IsActInForm e.change.on a → amount_refusal a ≡ None → spent_by plan line (voucher_items a) ≤ 320000000000000
-spent_by_small plan line e (Voucher v) built form none = omega (arith, items_small plan line v.items none, form.count.to)
-spent_by_small plan line e (Adopt a) built form none = omega arith
-spent_by_small plan line e (Amend a) built form none = omega arith
-spent_by_small plan line e (Transfer t) built form none = omega arith
-spent_by_small plan line e _ built form none = cc
 
 -- the sums of a line and year, by the number of entries
 pub record AreSmall (plan : Plan) (history : List Entry) : Type 0 where
   pub original : (line year : ℕ) → original line year history ≤ length history * 40960000000000000
   pub added : (line year : ℕ) → added line year history ≤ length history * 40960000000000000
   pub removed : (line year : ℕ) → removed line year history ≤ length history * 10000000000000
-  pub expended : (line year : ℕ) → expended plan line year history ≤ length history * 320000000000000
 
 pub are_small : (plan : Plan) (history : List Entry) → IsLegal plan history → AreSmall plan history
 are_small plan history legal = legal_induction plan (AreSmall plan) start step history legal
   where
     start : AreSmall plan []
-    start = record { original = λ l y. omega arith; added = λ l y. omega arith; removed = λ l y. omega arith; expended = λ l y. omega arith }
+    start = record { original = λ l y. omega arith; added = λ l y. omega arith; removed = λ l y. omega arith }
 
     step : (h : List Entry) (e : Entry) → AreSmall plan h → Adds plan h e → AreSmall plan (h ++ e ∷ [])
     step h e s adds =
         let a = accepted plan h e adds in
         let acts = λ (l : ℕ) (y : ℕ). act_small plan l y e e.change.act a.built adds.form.act a.amounts in
-        let spends = λ (l : ℕ). spent_by_small plan l e e.change.act a.built adds.form.act a.amounts in
         record {
           original = λ l y. rw (original_push l y h e, length-append h (e ∷ [])) (omega (arith, s.original l y, (acts l y).adopted));
           added = λ l y. rw (added_push l y h e, length-append h (e ∷ [])) (omega (arith, s.added l y, (acts l y).added));
           removed = λ l y. rw (removed_push l y h e, length-append h (e ∷ [])) (omega (arith, s.removed l y, (acts l y).removed));
-          expended = λ l y. rw (expended_push plan l y h e (built_is_plain plan e a.built), length-append h (e ∷ []))
-              (omega (arith, s.expended l y, zero_or (document_year plan e.change.on e.change.act == y) (spent_by plan l (voucher_items e.change.act)) 320000000000000 (spends l)));
         }
 
 -- what holds of each entry of a legal history
@@ -138,7 +121,13 @@ closes_none : (plan : Plan) (a : Act) → is_built plan a ≡ true → ((m : Mon
 closes_none plan (Adopt a) built = (λ m. refl, λ y. refl)
 closes_none plan (Amend a) built = (λ m. refl, λ y. refl)
 closes_none plan (Transfer t) built = (λ m. refl, λ y. refl)
+closes_none plan (Requisition r) built = (λ m. refl, λ y. refl)
+closes_none plan (Withdraw n) built = (λ m. refl, λ y. refl)
+closes_none plan (Order o) built = (λ m. refl, λ y. refl)
+closes_none plan (ChangeOrder c) built = (λ m. refl, λ y. refl)
+closes_none plan (CancelOrder n) built = (λ m. refl, λ y. refl)
 closes_none plan (Voucher v) built = (λ m. refl, λ y. refl)
+closes_none plan (VoidVoucher n) built = (λ m. refl, λ y. refl)
 closes_none plan _ built = cc
 
 no_month : (plan : Plan) (h : List Entry) → AllByRecursion (IsSound plan) h → (m : Month) → list_any (λ e. closes_month m e.change.act) h ≡ false
@@ -170,7 +159,6 @@ pub record IsReadable (plan : Plan) (history : List Entry) : Type 0 where
   pub original : (line year : ℕ) → original line year history < 2 ^ 100
   pub added : (line year : ℕ) → added line year history < 2 ^ 100
   pub removed : (line year : ℕ) → removed line year history < 2 ^ 100
-  pub expended : (line year : ℕ) → expended plan line year history < 2 ^ 100
 
 pub readable : (plan : Plan) (history : List Entry) → IsLegal plan history → length history ≤ 1048576 → IsReadable plan history
 readable plan history legal few =
@@ -179,8 +167,26 @@ readable plan history legal few =
       original = λ l y. omega (arith, s.original l y);
       added = λ l y. omega (arith, s.added l y);
       removed = λ l y. omega (arith, s.removed l y);
-      expended = λ l y. omega (arith, s.expended l y);
     }
+
+-- what documents have on a line of the chart is small: it has its place in the appropriation
+pub record IsCovered (plan : Plan) (history : List Entry) (line year : ℕ) : Type 0 where
+  pub held : held plan line year history < 2 ^ 100
+  pub encumbered : encumbered plan line year history < 2 ^ 100
+  pub expended : expended plan line year history < 2 ^ 100
+
+pub covered : (plan : Plan) (history : List Entry) (line year : ℕ) → IsLegal plan history → length history ≤ 1048576 → line < length plan.lines → year < 2201 → IsCovered plan history line year
+covered plan history line year legal few l y =
+    let left : pos 0 ≤ℤ room plan line year history = room_now plan history legal line year l y in
+    let free : pos 0 ≤ℤ ((pos (added line year history) -ℤ pos (removed line year history)) -ℤ pos (held plan line year history + encumbered plan line year history + expended plan line year history)) =
+    subst (λ (z : ℤ). pos 0 ≤ℤ (z -ℤ pos (held plan line year history + encumbered plan line year history + expended plan line year history))) (plain_appropriated plan line year history (nothing_carried plan history legal)) left in
+    let most = (readable plan history legal few).added line year in
+    let all : held plan line year history + encumbered plan line year history + expended plan line year history ≤ added line year history =
+    at_most (added line year history) (removed line year history) (held plan line year history + encumbered plan line year history + expended plan line year history) free in
+    record { held = omega (arith, all, most); encumbered = omega (arith, all, most); expended = omega (arith, all, most) }
+  where
+    at_most : (a r x : ℕ) → pos 0 ≤ℤ ((pos a -ℤ pos r) -ℤ pos x) → x ≤ a
+    at_most a r x l = omega (arith, ints, l)
 
 -- ---- one entry more, at an index
 
@@ -191,22 +197,3 @@ sound_at plan (e ∷ h) (suc i) d all l = sound_at plan h i d all.1 (omega arith
 
 pub legal_sound : (plan : Plan) (h : List Entry) (i : ℕ) (d : Entry) → IsLegal plan h → i < length h → IsSound plan (get_or h i d)
 legal_sound plan h i d legal l = sound_at plan h i d (all_sound plan h legal) l
-
-pub expended_more : (plan : Plan) (line year : ℕ) (h : List Entry) (i : ℕ) (d : Entry) → IsLegal plan h → i < length h →
-    expended plan line year (take (i + 1) h) ≡ expended plan line year (take i h) + spent plan line year (get_or h i d)
-expended_more plan line year h i d legal l =
-    rw (take_more h i d l) (expended_push plan line year (take i h) (get_or h i d) (built_is_plain plan (get_or h i d) (legal_sound plan h i d legal l).built))
-
--- what an entry of a legal history spends is small
-pub spent_fits : (plan : Plan) (line year : ℕ) (h : List Entry) (i : ℕ) (d : Entry) → IsLegal plan h → i < length h → spent plan line year (get_or h i d) ≤ 320000000000000
-spent_fits plan line year h i d legal l =
-    let e = get_or h i d in
-    let s = legal_sound plan h i d legal l in
-    zero_or (document_year plan e.change.on e.change.act == year) (spent_by plan line (voucher_items e.change.act)) 320000000000000
-    (spent_by_small plan line e e.change.act s.built s.form.act s.amounts)
-
--- a front of a legal history has spent little
-pub front_small : (plan : Plan) (line year : ℕ) (h : List Entry) (i : ℕ) → IsLegal plan h → length h ≤ 1048576 → expended plan line year (take i h) < 2 ^ 99
-front_small plan line year h i legal few =
-    let s = (are_small plan (take i h) (legal_take plan h i legal)).expended line year in
-    omega (arith, s, length-take i h)

@@ -1,8 +1,14 @@
 pub mod Accepted
 pub mod Asked
 pub mod Bounds
+pub mod Cases
+pub mod Changed
+pub mod Encumbered
 pub mod First
 pub mod Legal
-pub mod Plain
+pub mod Moved
 pub mod Room
 pub mod Stripped
+pub mod Sums
+pub mod Tidy
+pub mod Years

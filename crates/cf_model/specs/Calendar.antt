@@ -1,5 +1,5 @@
 -- The fiscal calendar of a history (GASB Codification 1700: the fiscal period).
-use Rattle.std.specs.Prelude.{ℕ, zero, suc, ◌+◌, ◌-◌, ◌*◌, Bool, true, false, if◌then◌else◌, ◌==◌, ◌||◌, ◌&&◌, nat_lt, List, length, Option, Some, None}
+use Rattle.std.specs.Prelude.{ℕ, zero, suc, ◌+◌, ◌-◌, Bool, false, if◌then◌else◌, ◌==◌, ◌||◌, nat_lt, List, length, Option, Some, None}
 use Rattle.std.specs.List.{list_any}
 use Rattle.cf_base.specs.declared.calendar.Day.{Day}
 use Rattle.cf_base.specs.declared.calendar.Month.{Month}

@@ -1,6 +1,9 @@
 pub mod Calendar
 pub mod Documents
+pub mod DocumentRules
+pub mod DocumentsShown
 pub mod LineNumbers
+pub mod Moves
 pub mod OrderItems
 pub mod Rules
 pub mod State

@@ -1,16 +1,14 @@
 -- The rules, each as the refusal that it gives, by the first of the elements that break it.
-use Rattle.std.specs.Prelude.{ℕ, zero, suc, ◌+◌, ◌-◌, Bool, true, false, not, if◌then◌else◌, ◌==◌, ◌||◌, ◌&&◌, nat_lt, nat_le, List, [], ◌∷◌, ◌++◌, length, Option, Some, None, is_some, map, ℤ, pos, ◌-ℤ◌, int_lt, unsigned_abs}
+use Rattle.std.specs.Prelude.{ℕ, zero, suc, ◌+◌, Bool, false, not, if◌then◌else◌, ◌==◌, ◌||◌, ◌&&◌, nat_lt, nat_le, List, [], ◌∷◌, ◌++◌, length, Option, Some, None, is_some, map, ℤ, pos, ◌-ℤ◌, int_lt, unsigned_abs}
 use Rattle.std.specs.List.{list_any}
 use Rattle.cf_base.specs.declared.calendar.Day.{Day}
-use Rattle.cf_base.specs.declared.calendar.Month.{Month}
 use Rattle.cf_base.specs.Calendar.{month_of_day}
 use Rattle.cf_calls.specs.declared.acts.Act.{Act}
-use Rattle.cf_calls.specs.declared.acts.Act.TheVariants.{Adopt, Amend, Transfer, Requisition, Order, ChangeOrder, Voucher, Bill, Collect, Receive, WriteOff, Asset, Issue, Leave, Interfund}
+use Rattle.cf_calls.specs.declared.acts.Act.TheVariants.{Adopt, Amend, Transfer, Requisition, Withdraw, Order, ChangeOrder, CancelOrder, Voucher, VoidVoucher, Bill, Collect, Receive, WriteOff, Asset, Issue, Leave, Interfund}
 use Rattle.cf_calls.specs.declared.acts.AssetAct.{AssetAct}
 use Rattle.cf_calls.specs.declared.acts.AssetAct.TheVariants.{Donate, Dispose}
 use Rattle.cf_calls.specs.declared.acts.LeaveAct.{LeaveAct}
 use Rattle.cf_calls.specs.declared.acts.LeaveAct.TheVariants.{Earn, Use, Mature}
-use Rattle.cf_calls.specs.declared.call.Change.{Change}
 use Rattle.cf_calls.specs.declared.entry.Entry.{Entry}
 use Rattle.cf_calls.specs.declared.items.AccountItem.{AccountItem}
 use Rattle.cf_calls.specs.declared.items.VoucherItem.{VoucherItem}
@@ -29,6 +27,8 @@ use Rattle.cf_chart.specs.declared.rows.Object.{Object}
 use Rattle.cf_chart.specs.declared.rows.RevenueSource.{RevenueSource}
 use Rattle.cf_chart.specs.Plan.{Plan, fund_at, department_at, object_at, source_at, line_at, desk_at, line_of, is_spending_kind}
 use Rattle.cf_model.specs.Calendar.{year_of_day, document_year, is_month_closed, open_year}
+use Rattle.cf_model.specs.Documents.{Documents, Expenditure, documents_of, is_drawn, voucher_at}
+use Rattle.cf_model.specs.OrderItems.{OrderItem, item_named}
 use Rattle.cf_model.specs.LineNumbers.{room, last_year}
 
 -- ---- the first of several
@@ -136,19 +136,45 @@ amount_refusal act = first_refusal bad_amount (amounts_of act)
 
 -- ---- names
 
--- what an act names of the chart
+-- what an act names of the chart and of the documents; an account's object is one that documents may use, or any
 pub data Name : Type 0 where
   fund_name : ℕ → Name
   line_name : ℕ → ℕ → Name
   source_name : ℕ → ℕ → Name
   account_name : AccountItem → Name
+  any_account_name : ℕ → ℕ → ℕ → Name
+  requisition_name : ℕ → Name
+  order_name : ℕ → Name
+  voucher_name : ℕ → Name
+
+abbrev pub requisition_names : Option ℕ → List Name
+requisition_names None = []
+requisition_names (Some n) = requisition_name n ∷ []
+
+abbrev pub charge_names : Charge → List Name
+charge_names Direct = []
+charge_names (OnOrder order item how) = order_name order ∷ []
+
+-- each item of a voucher names its account, then its order
+abbrev pub item_names : VoucherItem → List Name
+item_names i = account_name i.account ∷ charge_names i.charge
+
+abbrev pub voucher_names : List VoucherItem → List Name
+voucher_names [] = []
+voucher_names (i ∷ items) = item_names i ++ voucher_names items
 
 -- the names of an act, in the order of its fields, for the acts that the office knows
 abbrev pub names_of : Act → List Name
 names_of (Adopt a) = fund_name a.fund ∷ (map (λ r. line_name a.fund r.line) a.lines ++ map (λ r. source_name a.fund r.source) a.estimates)
 names_of (Amend a) = fund_name a.fund ∷ line_name a.fund a.line ∷ []
 names_of (Transfer t) = fund_name t.fund ∷ line_name t.fund t.from ∷ line_name t.fund t.to ∷ []
-names_of (Voucher v) = map (λ i. account_name i.account) v.items
+names_of (Requisition r) = map account_name r.items
+names_of (Withdraw n) = requisition_name n ∷ []
+names_of (Order o) = requisition_names o.requisition ++ map account_name o.items
+names_of (ChangeOrder c) = order_name c.order ∷ any_account_name c.fund c.dept c.object ∷ []
+names_of (CancelOrder n) = order_name n ∷ []
+names_of (Voucher v) = voucher_names v.items
+names_of (VoidVoucher n) = voucher_name n ∷ []
 names_of _ = []
 
 abbrev pub unknown_if : Bool → NameKind → ℕ → Option Refusal
@@ -167,23 +193,27 @@ abbrev pub is_spending : Option Object → Bool
 is_spending None = false
 is_spending (Some o) = is_spending_kind o.kind
 
--- an account is tested whole: its fund, its department, its object and the object's kind, its control line
-abbrev pub unknown_account : Plan → AccountItem → Option Refusal
-unknown_account plan i =
-    or_else (unknown_if (not (is_some (fund_at plan i.fund))) kind.Fund i.fund)
-    (or_else (unknown_if (not (is_some (department_at plan i.dept))) kind.Dept i.dept)
-    (or_else (unknown_if (not (is_spending (object_at plan i.object))) kind.Object i.object)
-    (unknown_if (not (is_some (line_of plan i.fund i.dept i.object))) kind.Line i.object)))
+-- an account is tested whole: its fund, its department, its object, its control line
+abbrev pub unknown_account : Plan → (Option Object → Bool) → ℕ → ℕ → ℕ → Option Refusal
+unknown_account plan is_fit fund dept object =
+    or_else (unknown_if (not (is_some (fund_at plan fund))) kind.Fund fund)
+    (or_else (unknown_if (not (is_some (department_at plan dept))) kind.Dept dept)
+    (or_else (unknown_if (not (is_fit (object_at plan object))) kind.Object object)
+    (unknown_if (not (is_some (line_of plan fund dept object))) kind.Line object)))
 
-abbrev pub unknown : Plan → Name → Option Refusal
-unknown plan (fund_name n) = unknown_if (not (is_some (fund_at plan n))) kind.Fund n
-unknown plan (line_name fund n) = unknown_if (not (is_line_of fund (line_at plan n))) kind.Line n
-unknown plan (source_name fund n) = unknown_if (not (is_source_of fund (source_at plan n))) kind.Source n
-unknown plan (account_name i) = unknown_account plan i
+abbrev pub unknown : Plan → Documents → Name → Option Refusal
+unknown plan s (fund_name n) = unknown_if (not (is_some (fund_at plan n))) kind.Fund n
+unknown plan s (line_name fund n) = unknown_if (not (is_line_of fund (line_at plan n))) kind.Line n
+unknown plan s (source_name fund n) = unknown_if (not (is_source_of fund (source_at plan n))) kind.Source n
+unknown plan s (account_name i) = unknown_account plan is_spending i.fund i.dept i.object
+unknown plan s (any_account_name fund dept object) = unknown_account plan (λ o. is_some o) fund dept object
+unknown plan s (requisition_name n) = unknown_if (not (is_drawn s.requisitions n)) kind.Requisition n
+unknown plan s (order_name n) = unknown_if (not (is_drawn s.orders n)) kind.Order n
+unknown plan s (voucher_name n) = unknown_if (not (is_drawn s.vouchers n)) kind.Voucher n
 
 -- there is nothing of a name
-abbrev pub name_refusal : Plan → Act → Option Refusal
-name_refusal plan act = first_refusal (unknown plan) (names_of act)
+abbrev pub name_refusal : Plan → Documents → Act → Option Refusal
+name_refusal plan s act = first_refusal (unknown plan s) (names_of act)
 
 -- ---- months and years
 
@@ -206,17 +236,27 @@ not_open u year = refuse_if (nat_lt (u + 2) year || nat_lt 2199 year) (refusal.Y
 abbrev pub year_refusal : Plan → List Entry → Day → Act → Option Refusal
 year_refusal plan history on act = first_refusal (not_open (open_year plan history)) (year_of_day plan on ∷ stated_years act)
 
--- the years that an act posts to, for the acts that the office knows
-abbrev pub posted_years : Plan → Day → Act → List ℕ
-posted_years plan on (Voucher v) = document_year plan on (Voucher v) ∷ []
-posted_years plan on act = stated_years act
+abbrev pub item_years : Option OrderItem → List ℕ
+item_years None = []
+item_years (Some i) = i.year ∷ []
+
+abbrev pub voucher_years : Option Expenditure → List ℕ
+voucher_years None = []
+voucher_years (Some x) = x.year ∷ []
+
+-- the years that an act posts to, for the acts that the office knows; a changed item's year counts whatever account is named
+abbrev pub posted_years : Plan → Documents → Day → Act → List ℕ
+posted_years plan s on (Voucher v) = document_year plan on (Voucher v) ∷ []
+posted_years plan s on (ChangeOrder c) = item_years (item_named c.order c.item s.items)
+posted_years plan s on (VoidVoucher n) = voucher_years (voucher_at n s.expenditures)
+posted_years plan s on act = stated_years act
 
 abbrev pub closed_year : ℕ → ℕ → Option Refusal
 closed_year u year = refuse_if (nat_lt year u) (refusal.YearClosed year)
 
 -- the year that the call posts to is closed
 abbrev pub closed_refusal : Plan → List Entry → Day → Act → Option Refusal
-closed_refusal plan history on act = first_refusal (closed_year (open_year plan history)) (posted_years plan on act)
+closed_refusal plan history on act = first_refusal (closed_year (open_year plan history)) (posted_years plan (documents_of plan history) on act)
 
 -- ---- adopted budgets (GASB Codification 1700: the annual budget is adopted)
 
@@ -249,6 +289,8 @@ direct_funds (i ∷ items) = funds_if_direct i.charge i.account.fund ++ direct_f
 abbrev pub needed_funds : Act → List ℕ
 needed_funds (Amend a) = a.fund ∷ []
 needed_funds (Transfer t) = t.fund ∷ []
+needed_funds (Requisition r) = map (λ i. i.fund) r.items
+needed_funds (Order o) = map (λ i. i.fund) o.items
 needed_funds (Voucher v) = direct_funds v.items
 needed_funds _ = []
 

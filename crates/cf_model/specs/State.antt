@@ -1,5 +1,5 @@
 -- What a contract sees of an office: its chart and its history.
-use Rattle.std.specs.Prelude.{◌≡◌, ◌≤◌, List, [], length, take, ℕ}
+use Rattle.std.specs.Prelude.{◌≤◌, List, [], length, take, ℕ}
 use Rattle.cf_calls.specs.declared.entry.Entry.{Entry}
 use Rattle.cf_chart.specs.Plan.{Plan}
 use Rattle.cf_model.specs.LineNumbers.{HasRoom}

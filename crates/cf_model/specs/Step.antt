@@ -1,8 +1,8 @@
 -- The office's step: what it answers to a call over a history, and which entries it adds.
-use Rattle.std.specs.Prelude.{◌≡◌, ℕ, ◌+◌, ◌-◌, Bool, true, false, not, if◌then◌else◌, ◌&&◌, nat_lt, List, [], ◌∷◌, ◌++◌, length, Option, Some, None, is_some, slice_get}
-use Rattle.std.specs.List.{list_all, count_by}
+use Rattle.std.specs.Prelude.{◌≡◌, ℕ, ◌+◌, ◌-◌, Bool, true, false, not, if◌then◌else◌, List, [], ◌∷◌, ◌++◌, length, Option, Some, None, is_some, option_map, slice_get}
+use Rattle.std.specs.List.{list_all}
 use Rattle.cf_calls.specs.declared.acts.Act.{Act}
-use Rattle.cf_calls.specs.declared.acts.Act.TheVariants.{Adopt, Amend, Transfer, Voucher}
+use Rattle.cf_calls.specs.declared.acts.Act.TheVariants.{Adopt, Amend, Transfer, Requisition, Withdraw, Order, ChangeOrder, CancelOrder, Voucher, VoidVoucher}
 use Rattle.cf_calls.specs.declared.call.Call.{Call}
 use Rattle.cf_calls.specs.declared.call.Call.TheVariants as call
 use Rattle.cf_calls.specs.declared.call.Change.{Change}
@@ -10,8 +10,7 @@ use Rattle.cf_calls.specs.declared.call.Look.{Look}
 use Rattle.cf_calls.specs.declared.entry.Drawn.{Drawn}
 use Rattle.cf_calls.specs.declared.entry.Entry.{Entry}
 use Rattle.cf_calls.specs.declared.items.VoucherItem.{VoucherItem}
-use Rattle.cf_calls.specs.declared.items.Charge.{Charge}
-use Rattle.cf_calls.specs.declared.items.Charge.TheVariants.{Direct, OnOrder}
+use Rattle.cf_calls.specs.declared.names.NameKind.{NameKind}
 use Rattle.cf_calls.specs.declared.names.NameKind.TheVariants as kind
 use Rattle.cf_calls.specs.declared.read.Read.{Read}
 use Rattle.cf_calls.specs.declared.read.Read.TheVariants as read
@@ -21,54 +20,61 @@ use Rattle.cf_calls.specs.declared.reply.Body.{Body}
 use Rattle.cf_calls.specs.declared.reply.Body.TheVariants.{Done, Refused, Shown as Showing}
 use Rattle.cf_calls.specs.declared.reply.Made.{Made}
 use Rattle.cf_calls.specs.declared.reply.Made.TheVariants as made
-use Rattle.cf_calls.specs.declared.reply.Reply.{Reply}
 use Rattle.cf_calls.specs.declared.reply.Verdict.{Verdict}
 use Rattle.cf_calls.specs.declared.reply.Verdict.TheVariants.{Accept, Repeat, Refuse, Unbuilt}
 use Rattle.cf_calls.specs.declared.shown.Shown.{Shown}
 use Rattle.cf_calls.specs.declared.shown.Shown.TheVariants as shown
-use Rattle.cf_calls.specs.Acts.{is_voucher}
 use Rattle.cf_calls.specs.Form.{IsChangeInForm}
 use Rattle.cf_calls.specs.Same.{same_call, same_key}
 use Rattle.cf_chart.specs.declared.rows.Object.{Object}
 use Rattle.cf_chart.specs.Plan.{Plan, line_at, object_at, is_capital_kind}
+use Rattle.cf_model.specs.Documents.{Documents, documents_of}
+use Rattle.cf_model.specs.DocumentRules.{document_rules}
+use Rattle.cf_model.specs.DocumentsShown.{requisition_shown, order_shown, voucher_shown}
 use Rattle.cf_model.specs.LineNumbers.{numbers}
-use Rattle.cf_model.specs.Rules.{first_of, refuse_if, place_from, desk_refusal, ahead_refusal, role_refusal, full_refusal, amount_refusal, name_refusal, period_refusal, year_refusal, closed_refusal, adopted_refusal, unadopted_refusal, exceed_refusal}
+use Rattle.cf_model.specs.Rules.{first_of, place_from, desk_refusal, ahead_refusal, role_refusal, full_refusal, amount_refusal, name_refusal, period_refusal, year_refusal, closed_refusal, adopted_refusal, unadopted_refusal, exceed_refusal}
 
 -- ---- the changes that the office knows
-
-abbrev pub is_direct : Charge → Bool
-is_direct Direct = true
-is_direct (OnOrder o i h) = false
 
 abbrev pub is_capital : Option Object → Bool
 is_capital None = false
 is_capital (Some o) = is_capital_kind o.kind
 
--- an item that draws no asset and liquidates nothing
-abbrev pub is_plain_item : Plan → VoucherItem → Bool
-is_plain_item plan i = is_direct i.charge && not (is_capital (object_at plan i.account.object))
+-- an item that draws no asset
+abbrev pub is_current : Plan → VoucherItem → Bool
+is_current plan i = not (is_capital (object_at plan i.account.object))
 
--- adoptions, amendments, transfers, and direct vouchers of the year on objects that aren't capital
+-- the council's calls, requisitions, orders and vouchers, but for voucher items on capital objects
 abbrev pub is_built : Plan → Act → Bool
 is_built plan (Adopt a) = true
 is_built plan (Amend a) = true
 is_built plan (Transfer t) = true
-is_built plan (Voucher v) = not v.back && list_all (is_plain_item plan) v.items
+is_built plan (Requisition r) = true
+is_built plan (Withdraw n) = true
+is_built plan (Order o) = true
+is_built plan (ChangeOrder c) = true
+is_built plan (CancelOrder n) = true
+is_built plan (Voucher v) = list_all (is_current plan) v.items
+is_built plan (VoidVoucher n) = true
 is_built plan _ = false
 
 -- ---- what an accepted change draws and makes
 
 -- the numbers that an act draws: the next of its kind, from 1
-abbrev pub draws : List Entry → Act → Drawn
-draws history (Voucher v) = record { number = count_by (λ e. is_voucher e.change.act) history + 1; second = 1 }
-draws history _ = record { number = 0; second = 0 }
+abbrev pub draws : Documents → Act → Drawn
+draws s (Requisition r) = record { number = s.requisitions + 1; second = 0 }
+draws s (Order o) = record { number = s.orders + 1; second = 0 }
+draws s (Voucher v) = record { number = s.vouchers + 1; second = 1 }
+draws s _ = record { number = 0; second = 0 }
 
--- the entry of a change over a history
-abbrev pub entry_with : List Entry → Change → Entry
-entry_with history c = record { change = record c { after = None }; drawn = draws history c.act }
+-- the entry of a change over the documents of a history
+abbrev pub entry_with : Documents → Change → Entry
+entry_with s c = record { change = record c { after = None }; drawn = draws s c.act }
 
 -- what an entry made
 abbrev pub made_by : Drawn → Act → Made
+made_by drawn (Requisition r) = made.Requisition drawn.number
+made_by drawn (Order o) = made.Order drawn.number
 made_by drawn (Voucher v) = made.Voucher drawn.number drawn.second 0
 made_by drawn _ = made.Nothing
 
@@ -109,7 +115,7 @@ call_rules plan history c =
     role_refusal plan c.desk c.act
     ∷ full_refusal (length history)
     ∷ amount_refusal c.act
-    ∷ name_refusal plan c.act
+    ∷ name_refusal plan (documents_of plan history) c.act
     ∷ []
 
 -- .. of periods and adopted budgets ..
@@ -122,9 +128,13 @@ period_rules plan history c =
     ∷ unadopted_refusal plan history c.on c.act
     ∷ []
 
--- .. and of room
+-- .. of the states of documents, and of room
+abbrev pub last_rules : Plan → List Entry → Change → List (Option Refusal)
+last_rules plan history c =
+    document_rules plan (documents_of plan history) c.on c.desk c.act ++ exceed_refusal plan history (entry_with (documents_of plan history) c) ∷ []
+
 abbrev pub later_rules : Plan → List Entry → Change → List (Option Refusal)
-later_rules plan history c = call_rules plan history c ++ (period_rules plan history c ++ exceed_refusal plan history (entry_with history c) ∷ [])
+later_rules plan history c = call_rules plan history c ++ (period_rules plan history c ++ last_rules plan history c)
 
 abbrev pub verdict_by : Drawn → Option Refusal → Verdict
 verdict_by drawn None = Accept drawn
@@ -132,7 +142,7 @@ verdict_by drawn (Some r) = Refuse r
 
 abbrev pub verdict_new : Plan → List Entry → Change → Option ℕ → Verdict
 verdict_new plan history c (Some was) = verdict_known history c was
-verdict_new plan history c None = verdict_by (draws history c.act) (first_of (later_rules plan history c))
+verdict_new plan history c None = verdict_by (draws (documents_of plan history) c.act) (first_of (later_rules plan history c))
 
 abbrev pub verdict_after : Plan → List Entry → Change → Option Refusal → Verdict
 verdict_after plan history c (Some r) = Refuse r
@@ -182,13 +192,24 @@ abbrev pub line_shown : Plan → List Entry → ℕ → ℕ → Body
 line_shown plan history line year =
     if is_some (line_at plan line) then Showing (shown.Line (numbers plan line year history)) else Refused (refusal.UnknownName kind.Line line)
 
+abbrev pub or_refused : NameKind → ℕ → Option Shown → Body
+or_refused kind id None = Refused (refusal.UnknownName kind id)
+or_refused kind id (Some s) = Showing s
+
 abbrev pub unless_refused : Option Refusal → Body → Body
 unless_refused None body = body
 unless_refused (Some r) body = Refused r
 
+-- what a look shows of a history, but for what its caller has seen
+abbrev pub shown_of : Plan → List Entry → Read → Option Body
+shown_of plan history (read.Line line year) = Some (line_shown plan history line year)
+shown_of plan history (read.Requisition n) = Some (or_refused kind.Requisition n (requisition_shown plan n (documents_of plan history).holds))
+shown_of plan history (read.Order n) = Some (or_refused kind.Order n (order_shown plan n (documents_of plan history).items))
+shown_of plan history (read.Voucher n) = Some (or_refused kind.Voucher n (voucher_shown n (documents_of plan history).expenditures))
+shown_of plan history _ = None
+
 abbrev pub read_body : Plan → List Entry → Option ℕ → Read → Option Body
-read_body plan history after (read.Line line year) = Some (unless_refused (ahead_refusal after (length history)) (line_shown plan history line year))
-read_body plan history after _ = None
+read_body plan history after r = option_map (unless_refused (ahead_refusal after (length history))) (shown_of plan history r)
 
 -- what a look shows
 abbrev pub look_body : Plan → List Entry → Look → Option Body

@@ -1,8 +1,12 @@
-pub mod Registers
-pub mod Texts
-pub mod Tied
+pub mod Asks
+pub mod Cleared
 pub mod Least
+pub mod Makes
 pub mod Moved
 pub mod Numbers
 pub mod Options
+pub mod Registers
+pub mod Taken
+pub mod Texts
+pub mod Tied
 pub mod Verdicts

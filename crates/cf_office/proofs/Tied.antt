@@ -1,45 +1,46 @@
 -- A table that stands for a history goes on standing for it.
 use Rattle.std.proofs.Common.{◌≡◌, ℕ, ◌+◌, ◌<◌, ◌≤◌, ◌^◌, Bool, true, false, ◌&&◌, nat_lt, List, [], ◌∷◌, ◌++◌, length, length-append, ℤ, pos, ◌+ℤ◌, ◌-ℤ◌, ◌≤ℤ◌, refl, sym, ap, subst, ◌∙◌, arith, FitsSigned, get_or}
 use Rattle.std.specs.Int.{w128}
-use Rattle.std.specs.List.{list_all, All}
+use Rattle.std.specs.List.{All}
 use Rattle.std.proofs.lemmas.Grind.{common_steps}
 use Rattle.std.proofs.lemmas.Int.{ints}
 use Rattle.std.proofs.lemmas.List.Sums.{AllPass-from_list_all}
 use Rattle.cf_calls.specs.declared.entry.Entry.{Entry}
 use Rattle.cf_chart.specs.Plan.{Plan}
 use Rattle.cf_budget.specs.declared.changes.LineChange.{LineChange}
-use Rattle.cf_budget.specs.declared.row.Row.{Row}
 use Rattle.cf_budget.specs.Changes.{Applies, CanApply, changes_at}
 use Rattle.cf_budget.specs.Tables.{Table, row_at, has_row, row_plus, zero_row, numbers_of, SameRows, Fits}
-use Rattle.cf_model.specs.LineNumbers.{original, added, removed, appropriated, held, encumbered, expended, room, numbers, adopted_by, added_by, removed_by, spent}
-use Rattle.cf_model.specs.Step.{Adds, IsLegal}
+use Rattle.cf_model.specs.LineNumbers.{original, added, removed, appropriated, held, encumbered, expended, room, numbers, adopted_by, added_by, removed_by}
+use Rattle.cf_model.specs.Documents.{documents_of}
+use Rattle.cf_model.specs.Moves.{Move, moves_of, moved_sum}
+use Rattle.cf_model.specs.Step.{Adds, IsLegal, draws}
 use Rattle.cf_model.proofs.Accepted.{accepted, accepted_fits}
 use Rattle.cf_model.proofs.Bounds.{readable}
 use Rattle.cf_model.proofs.Legal.{legal_push}
-use Rattle.cf_model.proofs.Plain.{HasOnlyVouchers, only_vouchers, built_is_plain, original_push, added_push, removed_push, expended_push}
+use Rattle.cf_model.proofs.Changed.{original_push, added_push, removed_push, held_push, encumbered_push, expended_push, plain_appropriated, nothing_carried}
 use Rattle.cf_model.proofs.Room.{room_now}
 use Rattle.cf_office.specs.Moved.{IsTableOf, row_of, moved_by, Make, is_inside}
-use Rattle.cf_office.proofs.Numbers.{nothing_held, nothing_encumbered, plain_appropriated}
 
 two : (a b : ℕ) → pos a +ℤ pos b ≡ pos (a + b)
 two a b = omega (arith, ints)
 
 -- an entry's changes lead from a history's row to the next one's
 pub row_push : (plan : Plan) (h : List Entry) (e : Entry) (line year : ℕ) → IsLegal plan h → Adds plan h e →
-    row_plus (row_of plan h line year) (moved_by plan e line year) ≡ row_of plan (h ++ e ∷ []) line year
+    row_plus (row_of plan h line year) (moved_by plan (documents_of plan h) e.change.on e.change.act line year) ≡ row_of plan (h ++ e ∷ []) line year
 row_push plan h e line year legal adds =
-    let before = only_vouchers plan h legal in
-    let after = only_vouchers plan (h ++ e ∷ []) (legal_push plan h e legal adds) in
+    let a = accepted plan h e adds in
+    let before = nothing_carried plan h legal in
+    let after = nothing_carried plan (h ++ e ∷ []) (legal_push plan h e legal adds) in
+    let number : (draws (documents_of plan h) e.change.act).number ≡ e.drawn.number = ap (λ (x : Entry). x.drawn.number) (sym a.entry) in
     let first = two (original line year h) (adopted_by line year e.change.act) ∙ ap pos (sym (original_push line year h e)) in
     let second : appropriated plan line year h +ℤ (pos (added_by line year e.change.act) -ℤ pos (removed_by line year e.change.act)) ≡ appropriated plan line year (h ++ e ∷ []) =
     rw (plain_appropriated plan line year h before, plain_appropriated plan line year (h ++ e ∷ []) after, added_push line year h e, removed_push line year h e)
     (regroup (added line year h) (removed line year h) (added_by line year e.change.act) (removed_by line year e.change.act)) in
-    let none_held : pos (held plan line year h) +ℤ pos 0 ≡ pos (held plan line year (h ++ e ∷ [])) =
-    rw (nothing_held plan line year h before, nothing_held plan line year (h ++ e ∷ []) after) (two 0 0) in
-    let none_encumbered : pos (encumbered plan line year h) +ℤ pos 0 ≡ pos (encumbered plan line year (h ++ e ∷ [])) =
-    rw (nothing_encumbered plan line year h before, nothing_encumbered plan line year (h ++ e ∷ []) after) (two 0 0) in
-    let last = two (expended plan line year h) (spent plan line year e) ∙ ap pos (sym (expended_push plan line year h e (built_is_plain plan e (accepted plan h e adds).built))) in
-    λ i. record { original = first i; appropriated = second i; held = none_held i; encumbered = none_encumbered i; expended = last i }
+    let moved : (Move → ℤ) → ℕ → ℤ = λ f n. moved_sum f plan line year (moves_of plan (documents_of plan h) n e.change.on e.change.act) in
+    let third = ap (λ n. pos (held plan line year h) +ℤ moved (λ m. m.held) n) number ∙ sym (held_push plan line year h e a.built) in
+    let fourth = ap (λ n. pos (encumbered plan line year h) +ℤ moved (λ m. m.encumbered) n) number ∙ sym (encumbered_push plan line year h e a.built adds.form.act legal) in
+    let fifth = ap (λ n. pos (expended plan line year h) +ℤ moved (λ m. m.expended) n) number ∙ sym (expended_push plan line year h e a.built) in
+    λ i. record { original = first i; appropriated = second i; held = third i; encumbered = fourth i; expended = fifth i }
   where
     regroup : (a r b s : ℕ) → (pos a -ℤ pos r) +ℤ (pos b -ℤ pos s) ≡ pos (a + b) -ℤ pos (r + s)
     regroup a r b s = omega (arith, ints)
@@ -80,7 +81,7 @@ row_fits plan h line year legal few l y =
         room = subst (λ (z : ℤ). pos 0 ≤ℤ z) (sym (joined (appropriated plan line year h) (held plan line year h) (encumbered plan line year h) (expended plan line year h))) left;
       };
       original = fits_small (original line year h) (r.original line year);
-      appropriated = subst (λ (z : ℤ). FitsSigned w128 z) (sym (plain_appropriated plan line year h (only_vouchers plan h legal))) (fits_less (added line year h) (removed line year h) (r.added line year) (r.removed line year));
+      appropriated = subst (λ (z : ℤ). FitsSigned w128 z) (sym (plain_appropriated plan line year h (nothing_carried plan h legal))) (fits_less (added line year h) (removed line year h) (r.added line year) (r.removed line year));
     }
 
 both : (a b : Bool) → (a && b) ≡ true → (a ≡ true) × (b ≡ true)
@@ -91,7 +92,7 @@ lower : (m n : ℕ) → nat_lt m n ≡ true → m < n
 lower m n e = grind (arith, common_steps)
 
 -- a table of the history can take the changes of an entry that the rules accept
-pub takes : (plan : Plan) (h : List Entry) (e : Entry) (table : Table) (changes : List LineChange) → IsLegal plan h → IsTableOf plan h table → Adds plan h e → Make plan (moved_by plan e) changes →
+pub takes : (plan : Plan) (h : List Entry) (e : Entry) (table : Table) (changes : List LineChange) → IsLegal plan h → IsTableOf plan h table → Adds plan h e → Make plan (moved_by plan (documents_of plan h) e.change.on e.change.act) changes →
     All (λ (c : LineChange). has_row table c.line.number c.year ≡ true) changes → CanApply table changes
 takes plan h e table changes legal is adds make rows = record {
   apart = make.apart;
@@ -108,7 +109,7 @@ takes plan h e table changes legal is adds make rows = record {
 }
 
 -- a table with the changes made is that of the longer history
-pub tied : (plan : Plan) (h : List Entry) (e : Entry) (old new : Table) (changes : List LineChange) → IsLegal plan h → IsTableOf plan h old → Adds plan h e → Make plan (moved_by plan e) changes →
+pub tied : (plan : Plan) (h : List Entry) (e : Entry) (old new : Table) (changes : List LineChange) → IsLegal plan h → IsTableOf plan h old → Adds plan h e → Make plan (moved_by plan (documents_of plan h) e.change.on e.change.act) changes →
     Applies old new changes → IsTableOf plan (h ++ e ∷ []) new
 tied plan h e old new changes legal is adds make applies line year =
     applies line year ∙ (λ i. row_plus (is line year i) (make.made line year i)) ∙ row_push plan h e line year legal adds

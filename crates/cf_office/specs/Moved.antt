@@ -1,18 +1,25 @@
 -- What an entry changes of line numbers.
-use Rattle.std.specs.Prelude.{◌≡◌, ℕ, Bool, true, if◌then◌else◌, ◌==◌, ◌&&◌, nat_lt, List, [], ◌∷◌, ◌++◌, length, map, ℤ, pos, ◌-ℤ◌}
-use Rattle.std.specs.List.{list_all}
-use Rattle.cf_calls.specs.declared.entry.Entry.{Entry}
+use Rattle.std.specs.Prelude.{◌≡◌, ℕ, Bool, true, if◌then◌else◌, ◌&&◌, nat_lt, ◌<◌, List, [], ◌∷◌, length, map, Option, None, Some, ℤ, pos, ◌≤ℤ◌, ◌+ℤ◌, ◌-ℤ◌}
+use Rattle.std.specs.List.{list_all, AllByRecursion}
+use Rattle.cf_base.specs.declared.calendar.Day.{Day}
+use Rattle.cf_base.specs.Calendar.{is_day}
+use Rattle.cf_calls.specs.declared.acts.Act.{Act}
 use Rattle.cf_calls.specs.declared.acts.Amendment.{Amendment}
 use Rattle.cf_calls.specs.declared.acts.LineTransfer.{LineTransfer}
+use Rattle.cf_calls.specs.declared.entry.Entry.{Entry}
 use Rattle.cf_calls.specs.declared.items.LineAmount.{LineAmount}
-use Rattle.cf_calls.specs.declared.items.VoucherItem.{VoucherItem}
-use Rattle.cf_calls.specs.Form.{is_distinct}
+use Rattle.cf_calls.specs.Form.{is_distinct, IsActInForm}
 use Rattle.cf_chart.specs.Plan.{Plan}
 use Rattle.cf_budget.specs.declared.changes.LineChange.{LineChange}
 use Rattle.cf_budget.specs.declared.row.Row.{Row}
 use Rattle.cf_budget.specs.Changes.{changes_at, same_place}
-use Rattle.cf_budget.specs.Tables.{Table, row_at, adopt_row, amend_row, spend_row}
-use Rattle.cf_model.specs.LineNumbers.{original, appropriated, held, encumbered, expended, adopted_by, added_by, removed_by, spent, spent_by}
+use Rattle.cf_budget.specs.Tables.{Table, row_at, zero_row, adopt_row, amend_row}
+use Rattle.cf_model.specs.Documents.{Documents}
+use Rattle.cf_model.specs.DocumentRules.{state_refusal, on_order_refusal, open_refusal}
+use Rattle.cf_model.specs.LineNumbers.{original, appropriated, held, encumbered, expended, adopted_by, added_by, removed_by, counts}
+use Rattle.cf_model.specs.Moves.{Move, moves_of, moved_sum}
+use Rattle.cf_model.specs.Step.{draws, is_built}
+use Rattle.cf_orders.specs.declared.moves.LineMove.{LineMove}
 
 -- the row of a line and year of a history
 abbrev pub row_of : Plan → List Entry → ℕ → ℕ → Row
@@ -28,14 +35,60 @@ row_of plan history line year = record {
 abbrev pub IsTableOf : Plan → List Entry → Table → Type 0
 IsTableOf plan history table = (line year : ℕ) → row_at table line year ≡ row_of plan history line year
 
--- what an entry changes of a line and year
-abbrev pub moved_by : Plan → Entry → ℕ → ℕ → Row
-moved_by plan e line year = record {
-  original = pos (adopted_by line year e.change.act);
-  appropriated = pos (added_by line year e.change.act) -ℤ pos (removed_by line year e.change.act);
-  held = pos 0;
-  encumbered = pos 0;
-  expended = pos (spent plan line year e);
+-- the moves of an act of this day over these documents
+abbrev pub act_moves : Plan → Documents → Day → Act → List Move
+act_moves plan s on act = moves_of plan s (draws s act).number on act
+
+-- an act that the rules before that of room allow
+pub record IsCleared (plan : Plan) (s : Documents) (on : Day) (act : Act) : Type 0 where
+  pub day : is_day on ≡ true
+  pub form : IsActInForm on act
+  pub built : is_built plan act ≡ true
+  pub states : state_refusal plan s on act ≡ None
+  pub on_order : on_order_refusal s act ≡ None
+  pub opens : open_refusal s act ≡ None
+  pub years : AllByRecursion (λ m. m.year < 2201) (act_moves plan s on act)
+
+-- what a move asks of a line and year
+abbrev pub asks_of : Plan → ℕ → ℕ → LineMove → ℤ
+asks_of plan line year m = if counts plan line year m.account m.year then (m.held +ℤ m.encumbered) +ℤ m.expended else pos 0
+
+abbrev pub asks_if : Plan → ℕ → ℕ → Option LineMove → ℤ
+asks_if plan line year None = pos 0
+asks_if plan line year (Some m) = asks_of plan line year m
+
+-- three numbers, each of which fits 64 bits
+pub record IsMoveSmall (z : ℤ) : Type 0 where
+  pub least : (pos 0 -ℤ pos 55340232221128654848) ≤ℤ z
+  pub most : z ≤ℤ pos 55340232221128654848
+
+-- what a move makes of its line and year
+abbrev pub move_row : LineMove → Row
+move_row m = record zero_row { held = m.held; encumbered = m.encumbered; expended = m.expended }
+
+abbrev pub row_at_move : Plan → ℕ → ℕ → LineMove → Row
+row_at_move plan line year m = if counts plan line year m.account m.year then move_row m else zero_row
+
+abbrev pub row_if : Plan → ℕ → ℕ → Option LineMove → Row
+row_if plan line year None = zero_row
+row_if plan line year (Some m) = row_at_move plan line year m
+
+-- what moves make of a line and year
+abbrev pub moves_row : Plan → List Move → ℕ → ℕ → Row
+moves_row plan moves line year = record zero_row {
+  held = moved_sum (λ m. m.held) plan line year moves;
+  encumbered = moved_sum (λ m. m.encumbered) plan line year moves;
+  expended = moved_sum (λ m. m.expended) plan line year moves;
+}
+
+-- what an act changes of a line and year, over these documents
+abbrev pub moved_by : Plan → Documents → Day → Act → ℕ → ℕ → Row
+moved_by plan s on act line year = record {
+  original = pos (adopted_by line year act);
+  appropriated = pos (added_by line year act) -ℤ pos (removed_by line year act);
+  held = moved_sum (λ m. m.held) plan line year (act_moves plan s on act);
+  encumbered = moved_sum (λ m. m.encumbered) plan line year (act_moves plan s on act);
+  expended = moved_sum (λ m. m.expended) plan line year (act_moves plan s on act);
 }
 
 -- a line of the chart, in a year that has numbers
@@ -60,7 +113,3 @@ amendment_changes a = change_of a.line a.year (amend_row a.by) ∷ []
 
 abbrev pub transfer_changes : LineTransfer → List LineChange
 transfer_changes t = change_of t.to t.year (amend_row (pos t.amount)) ∷ change_of t.from t.year (amend_row (pos 0 -ℤ pos t.amount)) ∷ []
-
--- what a voucher's items of a year change
-abbrev pub spends : Plan → ℕ → List VoucherItem → ℕ → ℕ → Row
-spends plan year items line z = spend_row (if year == z then spent_by plan line items else 0)

@@ -10,6 +10,7 @@ use crate::rest::Rest;
 use cf_budget::Lines;
 use cf_calls::{Change, Entry, LineNumbers, Made};
 use cf_chart::{Chart, LineId};
+use cf_orders::Orders;
 use std::alloc::{AllocError, Global};
 use std::marker::Model;
 
@@ -84,8 +85,8 @@ impl History for BookOffice {
         self.rest.adopted(fund, year)
     }
 
-    fn vouchers(&self) -> u32 {
-        self.rest.vouchers()
+    fn orders(&self) -> &Orders {
+        self.rest.orders()
     }
 
     fn numbers(&self, line: u16, year: u16) -> LineNumbers {

@@ -1,35 +1,40 @@
 //! Budgetary control: whether more is asked of a control line than it has room for.
 
-ghost use Rattle.std.specs.Prelude.{ℕ, ◌≡◌, ◌<◌, ◌≤◌, ◌^◌, ◌&&◌, None, Some, true, pos, negsuc, length, Option, unsigned_abs, sum_by, if◌then◌else◌};
-ghost use Rattle.cf_calls.specs.Form.{IsChangeInForm};
+ghost use Rattle.std.specs.Prelude.{ℕ, ◌≡◌, ◌<◌, None, true, pos, length, IfSome};
+ghost use Rattle.cf_base.specs.Calendar.{is_day};
+ghost use Rattle.cf_calls.specs.Form.{IsChangeInForm, IsActInForm};
 ghost use Rattle.cf_calls.specs.Acts.{amendment_of, transfer_of};
 ghost use Rattle.cf_chart.specs.Plan.{line_of};
+ghost use Rattle.cf_model.specs.DocumentRules.{document_refusal};
+ghost use Rattle.cf_model.specs.Documents.{documents_of};
 ghost use Rattle.cf_model.specs.LineNumbers as numbers;
+ghost use Rattle.cf_model.specs.Moves.{asks_of_moves};
 ghost use Rattle.cf_model.specs.Rules as spec;
 ghost use Rattle.cf_model.specs.Step as step;
-ghost use Rattle.cf_model.specs.LineNumbers.{spent_by};
-ghost use Rattle.cf_office.specs.Least.{lesser as spec_lesser, least_from, excess_at, refusal_in};
+ghost use Rattle.cf_orders.specs.Register.{IsSmall};
+ghost use Rattle.cf_office.specs.Least.{is_before as spec_is_before, lesser as spec_lesser, least_from, excess_at, excess_if as spec_excess_if, refusal_in};
+ghost use Rattle.cf_office.specs.Moved.{act_moves, IsCleared, IsMoveSmall, asks_of, asks_if as spec_asks_if};
 
 use crate::history::History;
-use crate::rules::document_year;
+use cf_base::Day;
 use cf_calls::acts::{Amendment, LineTransfer};
-use cf_calls::items::{AccountItem, VoucherItem};
-use cf_calls::{Change, Refusal};
+use cf_calls::items::AccountItem;
+use cf_calls::{Act, Change, Refusal};
 use cf_chart::Chart;
+use cf_orders::{LineMove, Orders};
 
-/// A line of which too much is asked, with its refusal.
+/// A line and fiscal year of which too much is asked, with its refusal.
 #[derive(Clone, Copy, Debug, PartialEq, Eq)]
 pub struct Excess {
     pub line: u16,
+    pub year: u16,
     pub refusal: Refusal,
 }
 
 /// The refusal of a line of which so much is asked, in cents.
-fn line_refusal(line: u16, asked: u128, room: i128) -> Option<Refusal>
-    requires { asked < 2 ^ 100 }
-    ensures { result ≡ spec.overspends line (pos asked) room }
+fn line_refusal(line: u16, asked: i128, room: i128) -> Option<Refusal>
+    ensures { result ≡ spec.overspends line asked room }
 {
-    let asked = asked as i128;
     if asked > 0 && asked > room {
         Some(Refusal::Exceeds { line, asked, room })
     } else {
@@ -54,75 +59,120 @@ fn is_on(chart: &Chart, item: &AccountItem, line: u16) -> bool
     }
 }
 
-/// What a voucher's items have on a line, in cents.
-pub fn items_on_line(chart: &Chart, items: &[VoucherItem], line: u16) -> u128
-    requires { spent_by chart.now line items.now < 2 ^ 100 }
-    ensures { result ≡ spent_by chart.now line items.now }
+/// What a move asks of a line and year, in cents.
+fn move_asks(chart: &Chart, moved: &LineMove, line: u16, year: u16) -> i128
+    requires { IsSmall moved.now }
+    ensures value { result ≡ asks_of chart.now line year moved.now }
+    ensures small { IsMoveSmall result }
+{
+    if moved.year == year && is_on(chart, &moved.account, line) {
+        moved.held + moved.encumbered + moved.expended
+    } else {
+        0
+    }
+}
+
+/// What a move asks, where there is one.
+fn asks_if(chart: &Chart, moved: Option<LineMove>, line: u16, year: u16) -> i128
+    requires { IfSome moved IsSmall }
+    ensures value { result ≡ spec_asks_if chart.now line year moved }
+    ensures small { IsMoveSmall result }
+{
+    match moved {
+        Some(moved) => move_asks(chart, &moved, line, year),
+        None => 0,
+    }
+}
+
+/// What an act's moves ask of a line and year, in cents.
+fn moves_ask(chart: &Chart, orders: &Orders, on: Day, act: &Act, line: u16, year: u16) -> i128
+    requires { IsCleared chart.now orders.now.documents on act.now }
+    ensures { result ≡ asks_of_moves chart.now line year (act_moves chart.now orders.now.documents on act.now) }
 {
     let mut total = 0;
-    for item in items {
-        if is_on(chart, &item.account, line) {
-            total += u128::from(item.account.amount);
-        }
+    for nth in 0..orders.moves(act) {
+        total += asks_if(chart, orders.move_at(chart, on, act, nth), line, year);
     }
     total
+}
+
+fn is_before(one: &Excess, other: &Excess) -> bool
+    ensures { result ≡ spec_is_before one.now other.now }
+{
+    one.line < other.line || (one.line == other.line && one.year < other.year)
 }
 
 fn lesser(first: Option<Excess>, second: Option<Excess>) -> Option<Excess>
     ensures { result ≡ spec_lesser first second }
 {
     match (first, second) {
-        (Some(one), Some(other)) => Some(if other.line < one.line { other } else { one }),
+        (Some(one), Some(other)) => Some(if is_before(&other, &one) { other } else { one }),
         (Some(one), None) => Some(one),
         (None, other) => other,
     }
 }
 
-/// What the voucher's items ask too much of on one item's line.
-fn item_excess<H: History>(
-    history: &H,
-    year: u16,
-    items: &[VoucherItem],
-    item: &VoucherItem,
-) -> Option<Excess>
-    requires { (line : ℕ) → spent_by (H.plan history.now) line items.now < 2 ^ 100 }
-    ensures { result ≡ excess_at
-        (λ line. spec.overspends line (pos (spent_by (H.plan history.now) line items.now)) (numbers.room (H.plan history.now) line year (H.entries history.now)))
-        (line_of (H.plan history.now) item.now.account.fund item.now.account.dept item.now.account.object) }
+/// The same, where there is such a move.
+fn excess_if<H: History>(history: &H, on: Day, act: &Act, moved: Option<LineMove>) -> Option<Excess>
+    requires cleared { IsCleared (H.plan history.now) (documents_of (H.plan history.now) (H.entries history.now)) on act.now }
+    requires year { IfSome moved (λ m. m.year < 2201) }
+    ensures { result ≡ spec_excess_if (H.plan history.now)
+        (λ line year. spec.overspends line (asks_of_moves (H.plan history.now) line year (act_moves (H.plan history.now) (documents_of (H.plan history.now) (H.entries history.now)) on act.now)) (numbers.room (H.plan history.now) line year (H.entries history.now)))
+        moved }
 {
-    let chart = history.chart();
-    let account = &item.account;
-    let line = chart
-        .line_of(account.fund, account.dept, account.object)?
-        .number;
-    let asked = items_on_line(chart, items, line);
-    let refusal = line_refusal(line, asked, history.numbers(line, year).room)?;
-    Some(Excess { line, refusal })
+    match moved {
+        Some(moved) => move_excess(history, on, act, &moved),
+        None => None,
+    }
 }
 
-/// The least line of which a voucher's items ask too much.
-#[tactic(auto, using(crate::proofs::Least::leasts))]
-fn least_excess<H: History>(history: &H, year: u16, items: &[VoucherItem]) -> Option<Excess>
-    requires { (line : ℕ) → spent_by (H.plan history.now) line items.now < 2 ^ 100 }
-    ensures { result ≡ least_from (λ i. excess_at
-        (λ line. spec.overspends line (pos (spent_by (H.plan history.now) line items.now)) (numbers.room (H.plan history.now) line year (H.entries history.now)))
-        (line_of (H.plan history.now) i.account.fund i.account.dept i.account.object)) None items.now }
+/// What an act's moves ask too much of on the line and year of one of them.
+fn move_excess<H: History>(history: &H, on: Day, act: &Act, moved: &LineMove) -> Option<Excess>
+    requires cleared { IsCleared (H.plan history.now) (documents_of (H.plan history.now) (H.entries history.now)) on act.now }
+    requires year { moved.now.year < 2201 }
+    ensures { result ≡ excess_at
+        (λ line year. spec.overspends line (asks_of_moves (H.plan history.now) line year (act_moves (H.plan history.now) (documents_of (H.plan history.now) (H.entries history.now)) on act.now)) (numbers.room (H.plan history.now) line year (H.entries history.now)))
+        (line_of (H.plan history.now) moved.now.account.fund moved.now.account.dept moved.now.account.object) moved.now.year }
 {
+    let account = &moved.account;
+    let year = moved.year;
+    let line = history
+        .chart()
+        .line_of(account.fund, account.dept, account.object)?
+        .number;
+    let asked = moves_ask(history.chart(), history.orders(), on, act, line, year);
+    let refusal = line_refusal(line, asked, history.numbers(line, year).room)?;
+    Some(Excess {
+        line,
+        year,
+        refusal,
+    })
+}
+
+/// The least line, and its least year, of which an act's moves ask too much.
+fn least_excess<H: History>(history: &H, on: Day, act: &Act) -> Option<Excess>
+    requires { IsCleared (H.plan history.now) (documents_of (H.plan history.now) (H.entries history.now)) on act.now }
+    ensures { result ≡ least_from (λ m. excess_at
+        (λ line year. spec.overspends line (asks_of_moves (H.plan history.now) line year (act_moves (H.plan history.now) (documents_of (H.plan history.now) (H.entries history.now)) on act.now)) (numbers.room (H.plan history.now) line year (H.entries history.now)))
+        (line_of (H.plan history.now) m.account.fund m.account.dept m.account.object) m.year) None (act_moves (H.plan history.now) (documents_of (H.plan history.now) (H.entries history.now)) on act.now) }
+{
+    let orders = history.orders();
     let mut best = None;
-    for item in items {
-        best = lesser(best, item_excess(history, year, items, item));
+    for nth in 0..orders.moves(act) {
+        let moved = orders.move_at(history.chart(), on, act, nth);
+        best = lesser(best, excess_if(history, on, act, moved));
     }
     best
 }
 
-/// Too much is asked by a voucher's items: the least line.
-fn voucher_rule<H: History>(history: &H, year: u16, items: &[VoucherItem]) -> Option<Refusal>
-    requires { (line : ℕ) → spent_by (H.plan history.now) line items.now < 2 ^ 100 }
+/// Too much is asked by an act's moves: the least line.
+fn moves_rule<H: History>(history: &H, on: Day, act: &Act) -> Option<Refusal>
+    requires { IsCleared (H.plan history.now) (documents_of (H.plan history.now) (H.entries history.now)) on act.now }
     ensures { result ≡ spec.first_below
-        (λ line. spec.overspends line (pos (spent_by (H.plan history.now) line items.now)) (numbers.room (H.plan history.now) line year (H.entries history.now)))
+        (λ line. spec.first_below (λ year. spec.overspends line (asks_of_moves (H.plan history.now) line year (act_moves (H.plan history.now) (documents_of (H.plan history.now) (H.entries history.now)) on act.now)) (numbers.room (H.plan history.now) line year (H.entries history.now))) 2201)
         (length (H.plan history.now).lines) }
 {
-    refusal_of(least_excess(history, year, items))
+    refusal_of(least_excess(history, on, act))
 }
 
 fn refusal_of(excess: Option<Excess>) -> Option<Refusal>
@@ -137,38 +187,39 @@ fn refusal_of(excess: Option<Excess>) -> Option<Refusal>
 /// More is asked of a control line than it has room for (GASB Codification 1700: budgetary control), of the
 /// changes that the office knows.
 pub fn exceed_rule<H: History>(history: &H, change: &Change) -> Option<Refusal>
+    requires legal { step.IsLegal (H.plan history.now) (H.entries history.now) }
     requires form { IsChangeInForm change.now }
     requires built { step.is_built (H.plan history.now) change.now.act ≡ true }
-    requires amounts { spec.amount_refusal change.now.act ≡ None }
-    requires names { spec.name_refusal (H.plan history.now) change.now.act ≡ None }
-    ensures { result ≡ spec.exceed_refusal (H.plan history.now) (H.entries history.now) (step.entry_with (H.entries history.now) change.now) }
+    requires names { spec.name_refusal (H.plan history.now) (documents_of (H.plan history.now) (H.entries history.now)) change.now.act ≡ None }
+    requires documents { document_refusal (H.plan history.now) (documents_of (H.plan history.now) (H.entries history.now)) change.now.on change.now.desk change.now.act ≡ None }
+    ensures { result ≡ spec.exceed_refusal (H.plan history.now) (H.entries history.now) (step.entry_with (documents_of (H.plan history.now) (H.entries history.now)) change.now) }
 {
-    let chart = history.chart();
     if let Some(amendment) = change.act.amendment() {
         return amendment_rule(history, amendment);
     }
     if let Some(transfer) = change.act.line_transfer() {
         return transfer_rule(history, transfer);
     }
-    let year = document_year(chart, change.on, &change.act);
-    voucher_rule(history, year, change.act.voucher_items())
+    moves_rule(history, change.on, &change.act)
 }
 
 fn amendment_rule<H: History>(history: &H, amendment: &Amendment) -> Option<Refusal>
-    requires { amendment.now.line < length (H.plan history.now).lines }
+    requires line { amendment.now.line < length (H.plan history.now).lines }
+    requires year { amendment.now.year < 2201 }
     ensures { result ≡ spec.overspends amendment.now.line (pos (numbers.fall_of amendment.now.by))
         (numbers.room (H.plan history.now) amendment.now.line amendment.now.year (H.entries history.now)) }
 {
-    let asked = u128::from(fall_of(amendment.by));
+    let asked = i128::from(fall_of(amendment.by));
     let room = history.numbers(amendment.line, amendment.year).room;
     line_refusal(amendment.line, asked, room)
 }
 
 fn transfer_rule<H: History>(history: &H, transfer: &LineTransfer) -> Option<Refusal>
-    requires { transfer.now.from < length (H.plan history.now).lines }
+    requires line { transfer.now.from < length (H.plan history.now).lines }
+    requires year { transfer.now.year < 2201 }
     ensures { result ≡ spec.overspends transfer.now.from (pos transfer.now.amount)
         (numbers.room (H.plan history.now) transfer.now.from transfer.now.year (H.entries history.now)) }
 {
     let room = history.numbers(transfer.from, transfer.year).room;
-    line_refusal(transfer.from, u128::from(transfer.amount), room)
+    line_refusal(transfer.from, i128::from(transfer.amount), room)
 }

@@ -1,16 +1,16 @@
 //! What the rules ask of a history.
 
 ghost use Rattle.std.specs.Prelude.{◌≡◌, ◌<◌, ◌≤◌, ◌++◌, ◌∷◌, [], List, length, OnOk, OnErr, IfOk};
-ghost use Rattle.std.specs.List.{count_by};
 ghost use Rattle.cf_calls.specs.declared.entry.Entry.{Entry};
-ghost use Rattle.cf_calls.specs.Acts.{is_voucher};
 ghost use Rattle.cf_chart.specs.Plan.{Plan};
+ghost use Rattle.cf_model.specs.Documents.{documents_of};
 ghost use Rattle.cf_model.specs.LineNumbers as numbers;
 ghost use Rattle.cf_model.specs.Rules.{adopted_at};
 ghost use Rattle.cf_model.specs.Step.{Adds, IsLegal, known_at, is_same, entry_at, made_at, made_by};
 
 use cf_calls::{Change, Entry, LineNumbers, Made};
 use cf_chart::Chart;
+use cf_orders::Orders;
 use std::alloc::AllocError;
 
 /// A legal history under a chart, as the rules read it. What it keeps to answer by is its own affair.
@@ -45,14 +45,14 @@ pub trait History {
     fn adopted(&self, fund: u16, year: u16) -> Option<u64>
         ensures { result ≡ adopted_at fund year (entries self.now) };
 
-    /// How many vouchers were drawn, at most 1,048,576.
-    fn vouchers(&self) -> u32
-        ensures value { result ≡ count_by (λ e. is_voucher e.change.act) (entries self.now) }
-        ensures few { result ≤ 1048576 };
+    /// The requisitions, orders and vouchers, with their items.
+    fn orders(&self) -> &Orders
+        ensures { result.now.documents ≡ documents_of (plan self.now) (entries self.now) };
 
     /// The numbers of a control line and fiscal year, in cents.
     fn numbers(&self, line: u16, year: u16) -> LineNumbers
-        requires { line < length (plan self.now).lines }
+        requires line { line < length (plan self.now).lines }
+        requires year { year < 2201 }
         ensures { result ≡ numbers.numbers (plan self.now) line year (entries self.now) };
 }
 

@@ -1,28 +1,32 @@
-//! The plain office: a list of entries, summed anew for each question. It is the definitions as a program, and
-//! the reference that faster bodies are tested against.
+//! The plain office: a list of entries and the documents that they make, summed anew for each question. It is the
+//! definitions as a program, and the reference that faster bodies are tested against.
 
 ghost use Rattle.std.specs.Prelude.{◌≡◌, ◌<◌, ◌≤◌, ◌^◌, ◌++◌, ◌∷◌, [], pos, ◌-ℤ◌, ◌+◌, Some, None, take, length, ℕ};
 ghost use Rattle.std.specs.Option.{option_copied};
 ghost use Rattle.cf_calls.specs.Same.{same_key};
 ghost use Rattle.cf_calls.specs.Acts.{adopts};
+ghost use Rattle.cf_model.specs.Documents.{documents_of};
 ghost use Rattle.cf_model.specs.LineNumbers as numbers;
 ghost use Rattle.cf_model.specs.LineNumbers.{HasRoom};
 ghost use Rattle.cf_model.specs.Rules.{place_from, adopted_at};
 ghost use Rattle.cf_model.specs.Step.{IsLegal, known_at, is_same, entry_at, made_at};
 
 use crate::history::{History, Office};
+use crate::rest::take_in;
 use crate::sums;
 use crate::verdict::made_of;
 use cf_calls::{Act, Change, Entry, LineNumbers, Made, same_call};
 use cf_chart::Chart;
+use cf_orders::Orders;
 use std::alloc::{AllocError, Global};
 use std::marker::Model;
 
-/// A chart, and the entries accepted so far, which are a legal history under it.
+/// A chart, and the entries accepted so far, which are a legal history under it, with their documents.
 #[derive(Drop)]
 pub struct PlainOffice {
     chart: Chart,
     entries: Vec<Entry>,
+    orders: Orders,
 }
 
 impl Model for PlainOffice {
@@ -46,6 +50,7 @@ impl PlainOffice {
         PlainOffice {
             chart,
             entries: Vec::new(alloc),
+            orders: Orders::new(alloc),
         }
     }
 
@@ -136,30 +141,39 @@ fn signed(n: u128) -> i128
 }
 
 fn difference(a: u128, b: u128) -> i128
-    requires first { a < 2 ^ 101 }
-    requires second { b < 2 ^ 101 }
+    requires first { a < 2 ^ 103 }
+    requires second { b < 2 ^ 103 }
     ensures { result ≡ pos a -ℤ pos b }
 {
     a as i128 - b as i128
 }
 
 /// The numbers of a line and year of a legal history.
-fn line_numbers(chart: &Chart, entries: &[Entry], line: u16, year: u16) -> LineNumbers
+fn line_numbers(
+    chart: &Chart,
+    entries: &[Entry],
+    orders: &Orders,
+    line: u16,
+    year: u16,
+) -> LineNumbers
     requires legal { IsLegal chart.now entries.now }
     requires few { length entries.now ≤ 1048576 }
+    requires documents { orders.now.documents ≡ documents_of chart.now entries.now }
     ensures { result ≡ numbers.numbers chart.now line year entries.now }
 {
     let original = sums::original(entries, line, year);
     let added = sums::added(entries, line, year);
     let removed = sums::removed(entries, line, year);
-    let expended = sums::expended(chart, entries, line, year);
+    let held = orders.held_on(chart, line, year);
+    let encumbered = orders.encumbered_on(chart, line, year);
+    let expended = orders.expended_on(chart, line, year);
     LineNumbers {
         original: signed(original),
         appropriated: difference(added, removed),
-        held: 0,
-        encumbered: 0,
+        held: signed(held),
+        encumbered: signed(encumbered),
         expended: signed(expended),
-        room: difference(added, removed + expended),
+        room: difference(added, removed + held + encumbered + expended),
     }
 }
 
@@ -192,19 +206,28 @@ impl History for PlainOffice {
         adopted(self.entries.as_slice(), fund, year)
     }
 
-    fn vouchers(&self) -> u32 {
-        sums::count_vouchers(self.entries.as_slice()) as u32
+    fn orders(&self) -> &Orders {
+        &self.orders
     }
 
     fn numbers(&self, line: u16, year: u16) -> LineNumbers {
-        line_numbers(&self.chart, self.entries.as_slice(), line, year)
+        line_numbers(
+            &self.chart,
+            self.entries.as_slice(),
+            &self.orders,
+            line,
+            year,
+        )
     }
 }
 
 impl Office for PlainOffice {
     fn accept(&mut self, entry: Entry) -> Result<Made, AllocError> {
+        self.orders.reserve(&entry.change.act)?;
+        self.entries.reserve(1)?;
         let made = made_of(entry.drawn, &entry.change.act);
-        self.entries.push(entry)?;
+        take_in(&mut self.orders, &self.chart, &entry);
+        self.entries.push_reserved(entry);
         Ok(made)
     }
 }

@@ -1,7 +1,7 @@
 //! One call over an office: judged, and its entry added where the rules accept it.
 
 ghost use Rattle.std.specs.Prelude.{◌≡◌, Some, None, List};
-ghost use Rattle.cf_calls.specs.Form.{IsCallInForm, IsChangeInForm};
+ghost use Rattle.cf_calls.specs.Form.{IsCallInForm, IsChangeInForm, IsReadInForm};
 ghost use Rattle.cf_calls.specs.declared.call.Call.TheVariants as calls;
 ghost use Rattle.cf_calls.specs.declared.reply.Verdict.TheVariants.{Accept};
 ghost use Rattle.cf_model.specs.Step as step;
@@ -21,19 +21,21 @@ pub fn post<B: Office>(alloc: Global, office: &mut B, call: &Call) -> Option<Pos
 {
     match call {
         Call::Change(change) => post_change(alloc, office, change),
-        Call::Look(look) => post_look(office, look),
+        Call::Look(look) => post_look(alloc, office, look),
     }
 }
 
-fn post_look<B: Office>(office: &B, look: &Look) -> Option<Posted>
+fn post_look<B: Office>(alloc: Global, office: &B, look: &Look) -> Option<Posted>
+    requires { IsReadInForm look.now.read }
     ensures { Posts (B.History.plan office.now) (B.History.entries office.now) (calls.Look look.now) (B.History.entries office.now) result }
 {
-    match answer(office, look) {
-        Some(body) => Some(Posted::Reply(Reply {
+    match answer(alloc, office, look) {
+        Ok(Some(body)) => Some(Posted::Reply(Reply {
             at: office.len(),
             body,
         })),
-        None => None,
+        Ok(None) => None,
+        Err(_) => Some(Posted::NoMemory),
     }
 }
 

@@ -3,6 +3,7 @@
 ghost use Rattle.std.specs.Prelude.{◌≡◌, ◌++◌, ◌∷◌, [], None, Some, IsSome, IfSome, IfOk, OnErr};
 ghost use Rattle.cf_budget.specs.Changes.{Applies, CanApply};
 ghost use Rattle.cf_budget.specs.Tables.{SameRows};
+ghost use Rattle.cf_model.specs.Documents.{documents_of};
 ghost use Rattle.cf_model.specs.Step.{Adds, IsLegal, made_by};
 ghost use Rattle.cf_office.specs.Moved.{IsTableOf, Make, moved_by};
 
@@ -52,10 +53,17 @@ pub fn reserve(lines: &mut Lines, rest: &mut Rest, entry: Entry) -> Result<Prepa
     ensures plan { rest.new.plan ≡ rest.old.plan }
     ensures entries { rest.new.entries ≡ rest.old.entries }
     ensures lines { IfOk result (λ p. CanApply lines.new p.lines) }
-    ensures moves { IfOk result (λ p. Make rest.old.plan (moved_by rest.old.plan entry) p.lines) }
+    ensures moves { IfOk result (λ p. Make rest.old.plan (moved_by rest.old.plan (documents_of rest.old.plan rest.old.entries) entry.change.on entry.change.act) p.lines) }
     ensures ready { IfOk result (λ p. rest.new.ready ≡ Some entry) }
 {
-    let changes = entry_changes(rest.allocator(), rest.chart(), &entry)?;
+    let change = &entry.change;
+    let changes = entry_changes(
+        rest.allocator(),
+        rest.chart(),
+        rest.orders(),
+        change.on,
+        &change.act,
+    )?;
     reserve_rows(lines, changes.as_slice())?;
     rest.reserve(entry)?;
     Ok(Prepared {

@@ -1,13 +1,13 @@
 //! The office's state but for line numbers: the history, and what is looked up in it.
 
 ghost use Rattle.std.specs.Prelude.{◌≡◌, ◌<◌, ◌≤◌, ◌+◌, ◌^◌, ◌++◌, ◌∷◌, [], true, ℕ, List, length, None, Some, IsSome, IfSome, OnOk, OnErr, if◌then◌else◌};
-ghost use Rattle.std.specs.List.{count_by};
-ghost use Rattle.cf_calls.specs.Acts.{is_voucher, adoption_of};
+ghost use Rattle.cf_calls.specs.Acts.{adoption_of};
+ghost use Rattle.cf_model.specs.Documents.{documents_of, documents_step};
 ghost use Rattle.cf_budget.specs.InYears.{value_of, or_else, ReadsSame};
 ghost use Rattle.cf_model.specs.Rules.{adopted_at};
 ghost use Rattle.cf_model.specs.Step.{Adds, IsLegal, known_at, is_same, entry_at, made_at, made_by};
 ghost use Rattle.cf_office.specs.Keys.{place_of, has_key, SameKeys, PutsKey};
-ghost use Rattle.cf_office.specs.RestView.{has_budget, PutsBudget};
+ghost use Rattle.cf_office.specs.RestView.{has_budget, PutsBudget, CanTakeIn};
 
 use crate::keys::{Known, place_in, put_place, reserve_key};
 use crate::plain;
@@ -16,6 +16,7 @@ use cf_budget::{InYear, put_in, reserve_in, value_in};
 use cf_calls::acts::Adoption;
 use cf_calls::{Act, Change, Entry, Made};
 use cf_chart::Chart;
+use cf_orders::Orders;
 use std::alloc::{AllocError, Global};
 use std::collections::BTreeMap;
 use std::marker::Model;
@@ -28,7 +29,7 @@ pub struct Rest {
     entries: Vec<Entry>,
     known: Known,
     adopted: BTreeMap<InYear, u64>,
-    vouchers: u32,
+    orders: Orders,
     ready: Option<Entry>,
 }
 
@@ -57,7 +58,7 @@ impl Rest {
             entries: Vec::new(alloc),
             known: BTreeMap::new(alloc),
             adopted: BTreeMap::new(alloc),
-            vouchers: 0,
+            orders: Orders::new(alloc),
             ready: None,
         }
     }
@@ -123,6 +124,7 @@ impl Rest {
         self.ready = None;
         reserve_place(self.alloc, &mut self.known, &entry.change)?;
         reserve_budget(&mut self.adopted, &entry.change.act)?;
+        self.orders.reserve(&entry.change.act)?;
         self.entries.reserve(1)?;
         self.ready = Some(entry);
         Ok(())
@@ -142,19 +144,28 @@ impl Rest {
         let place = self.entries.len() as u64 + 1;
         note_place(&mut self.known, &entry.change, place);
         put_budget(&mut self.adopted, &entry.change.act, place);
-        self.vouchers = counted(self.vouchers, &entry.change.act);
+        take_in(&mut self.orders, &self.chart, &entry);
         let made = made_of(entry.drawn, &entry.change.act);
         self.entries.push_reserved(entry);
         made
     }
 
-    /// How many vouchers were drawn, at most 1,048,576.
-    pub fn vouchers(&self) -> u32
-        ensures value { result ≡ count_by (λ e. is_voucher e.change.act) self.now.entries }
-        ensures few { result ≤ 1048576 }
+    /// The requisitions, orders and vouchers, with their items.
+    pub fn orders(&self) -> &Orders
+        ensures { result.now.documents ≡ documents_of self.now.plan self.now.entries }
     {
-        self.vouchers
+        &self.orders
     }
+}
+
+/// Takes an entry's act in among the documents. It takes no memory.
+pub(crate) fn take_in(orders: &mut Orders, chart: &Chart, entry: &Entry)
+    requires { CanTakeIn chart.now orders.old entry.now }
+    ensures documents { orders.new.documents ≡ documents_step chart.now orders.old.documents entry.now }
+    ensures acts { orders.new.acts ≡ orders.old.acts + 1 }
+{
+    let change = &entry.change;
+    orders.apply(chart, change.on, change.desk, &change.act);
 }
 
 fn reserve_place(alloc: Global, known: &mut Known, change: &Change) -> Result<(), AllocError>
@@ -169,17 +180,6 @@ fn note_place(known: &mut Known, change: &Change, place: u64)
     ensures { PutsKey known.old known.new change.now.desk change.now.key place }
 {
     put_place(known, change.desk, change.key.as_str(), place);
-}
-
-fn counted(vouchers: u32, act: &Act) -> u32
-    requires { vouchers < 2 ^ 31 }
-    ensures { result ≡ vouchers + (if is_voucher act.now then 1 else 0) }
-{
-    if act.is_voucher() {
-        vouchers + 1
-    } else {
-        vouchers
-    }
 }
 
 /// Reserves the budget that an act adopts.

@@ -7,11 +7,12 @@ ghost use Rattle.cf_model.specs.Calendar as calendar;
 ghost use Rattle.cf_model.specs.Rules as spec;
 ghost use Rattle.cf_model.specs.Rules.{first_refusal};
 ghost use Rattle.cf_model.specs.Step as step;
+ghost use Rattle.cf_office.specs.Least.{closed_where};
 ghost use Rattle.cf_chart.specs.Plan.{object_at, desk_at, is_capital_kind};
 
 use crate::history::History;
 use cf_base::{Day, MOST_CENTS, fiscal_year, month_of};
-use cf_calls::items::{Charge, LineAmount, SourceAmount, VoucherItem};
+use cf_calls::items::{AccountItem, Charge, LineAmount, SourceAmount, VoucherItem};
 use cf_calls::{Act, Refusal, Role, has_role, role_of};
 use cf_chart::{Chart, ObjectKind};
 
@@ -29,15 +30,6 @@ pub fn or(first: Option<Refusal>, second: Option<Refusal>) -> Option<Refusal>
 }
 
 // ---- the kinds of change that the office knows
-
-fn is_direct(charge: &Charge) -> bool
-    ensures { result ≡ step.is_direct charge.now }
-{
-    match charge {
-        Charge::Direct => true,
-        Charge::OnOrder { .. } => false,
-    }
-}
 
 fn is_capital_object(kind: &ObjectKind) -> bool
     ensures { result ≡ is_capital_kind kind.now }
@@ -57,26 +49,29 @@ fn is_capital(chart: &Chart, object: u16) -> bool
     }
 }
 
-fn is_plain_item(chart: &Chart, item: &VoucherItem) -> bool
-    ensures { result ≡ step.is_plain_item chart.now item.now }
+fn is_current(chart: &Chart, item: &VoucherItem) -> bool
+    ensures { result ≡ step.is_current chart.now item.now }
 {
-    is_direct(&item.charge) && !is_capital(chart, item.account.object)
+    !is_capital(chart, item.account.object)
 }
 
-fn are_plain_items(chart: &Chart, items: &[VoucherItem]) -> bool
-    ensures { result ≡ list_all (step.is_plain_item chart.now) items.now }
+fn are_current(chart: &Chart, items: &[VoucherItem]) -> bool
+    ensures { result ≡ list_all (step.is_current chart.now) items.now }
 {
-    items.iter().all(|item| is_plain_item(chart, item))
+    items.iter().all(|item| is_current(chart, item))
 }
 
-/// Whether the office knows this change: adoptions, amendments, transfers, and direct vouchers of the year
-/// on objects that aren't capital.
+/// Whether the office knows this change: the council's calls, requisitions, orders and vouchers, but for
+/// voucher items on capital objects.
 pub fn is_built(chart: &Chart, act: &Act) -> bool
     ensures { result ≡ step.is_built chart.now act.now }
 {
     match act {
         Act::Adopt(_) | Act::Amend(_) | Act::Transfer(_) => true,
-        Act::Voucher(v) => !v.back && are_plain_items(chart, v.items.as_slice()),
+        Act::Requisition(_) | Act::Withdraw(_) => true,
+        Act::Order(_) | Act::ChangeOrder(_) | Act::CancelOrder(_) => true,
+        Act::Voucher(v) => are_current(chart, v.items.as_slice()),
+        Act::VoidVoucher(_) => true,
         _ => false,
     }
 }
@@ -185,6 +180,18 @@ fn items_amount_fault(items: &[VoucherItem]) -> Option<Refusal>
     None
 }
 
+#[tactic(auto, using(cf_model::proofs::First::firsts))]
+fn accounts_amount_fault(items: &[AccountItem]) -> Option<Refusal>
+    ensures { result ≡ first_refusal (λ i. spec.bad_amount (spec.amount i.amount)) items.now }
+{
+    for item in items {
+        if let Some(refusal) = amount_fault(item.amount) {
+            return Some(refusal);
+        }
+    }
+    None
+}
+
 /// The first amount that is out of range, of the changes that the office knows.
 #[tactic(auto, using(cf_model::proofs::First::firsts))]
 pub fn amount_rule(chart: &Chart, act: &Act) -> Option<Refusal>
@@ -198,6 +205,9 @@ pub fn amount_rule(chart: &Chart, act: &Act) -> Option<Refusal>
         ),
         Act::Amend(a) => or(amount_fault(a.by.unsigned_abs()), None),
         Act::Transfer(t) => or(amount_fault(t.amount), None),
+        Act::Requisition(r) => accounts_amount_fault(r.items.as_slice()),
+        Act::Order(o) => accounts_amount_fault(o.items.as_slice()),
+        Act::ChangeOrder(c) => or(amount_fault(c.by.unsigned_abs()), None),
         Act::Voucher(v) => items_amount_fault(v.items.as_slice()),
         _ => None,
     }
@@ -306,6 +316,15 @@ fn closed_fault(first_open: u16, year: u16) -> Option<Refusal>
     }
 }
 
+fn closed_if(first_open: u16, year: Option<u16>) -> Option<Refusal>
+    ensures { result ≡ closed_where first_open year }
+{
+    match year {
+        Some(year) => closed_fault(first_open, year),
+        None => None,
+    }
+}
+
 /// The year that the call posts to is closed.
 #[tactic(auto, using(cf_model::proofs::First::firsts))]
 pub fn closed_rule<H: History>(history: &H, on: Day, act: &Act) -> Option<Refusal>
@@ -317,10 +336,12 @@ pub fn closed_rule<H: History>(history: &H, on: Day, act: &Act) -> Option<Refusa
         Act::Adopt(a) => or(closed_fault(first_open, a.year), None),
         Act::Amend(a) => or(closed_fault(first_open, a.year), None),
         Act::Transfer(t) => or(closed_fault(first_open, t.year), None),
+        Act::ChangeOrder(c) => closed_if(first_open, history.orders().item_year(c.order, c.item)),
         Act::Voucher(_) => or(
             closed_fault(first_open, document_year(history.chart(), on, act)),
             None,
         ),
+        Act::VoidVoucher(number) => closed_if(first_open, history.orders().voucher_year(*number)),
         _ => None,
     }
 }
@@ -371,6 +392,18 @@ fn item_unadopted<H: History>(history: &H, year: u16, item: &VoucherItem) -> Opt
     }
 }
 
+#[tactic(auto, using(cf_model::proofs::First::firsts))]
+fn accounts_unadopted<H: History>(history: &H, year: u16, items: &[AccountItem]) -> Option<Refusal>
+    ensures { result ≡ first_refusal (λ i. spec.unadopted_where i.fund year (spec.adopted_at i.fund year (H.entries history.now))) items.now }
+{
+    for item in items {
+        if let Some(refusal) = unadopted_fault(history, item.fund, year) {
+            return Some(refusal);
+        }
+    }
+    None
+}
+
 /// The fund's budget of the year isn't adopted.
 #[tactic(auto, using(cf_model::proofs::First::firsts))]
 pub fn unadopted_rule<H: History>(history: &H, on: Day, act: &Act) -> Option<Refusal>
@@ -380,6 +413,14 @@ pub fn unadopted_rule<H: History>(history: &H, on: Day, act: &Act) -> Option<Ref
     match act {
         Act::Amend(a) => or(unadopted_fault(history, a.fund, a.year), None),
         Act::Transfer(t) => or(unadopted_fault(history, t.fund, t.year), None),
+        Act::Requisition(r) => {
+            let year = document_year(history.chart(), on, act);
+            accounts_unadopted(history, year, r.items.as_slice())
+        }
+        Act::Order(o) => {
+            let year = document_year(history.chart(), on, act);
+            accounts_unadopted(history, year, o.items.as_slice())
+        }
         Act::Voucher(v) => {
             let year = document_year(history.chart(), on, act);
             items_unadopted(history, year, v.items.as_slice())

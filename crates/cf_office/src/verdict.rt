@@ -1,7 +1,9 @@
 //! The verdict on a change, and the answer of a look: the rules in their order, over any history.
 
-ghost use Rattle.std.specs.Prelude.{◌≡◌, ◌<◌, ◌≤◌, true, None, length};
-ghost use Rattle.cf_calls.specs.Form.{IsChangeInForm};
+ghost use Rattle.std.specs.Prelude.{◌≡◌, ◌<◌, true, None, IfOk};
+ghost use Rattle.cf_calls.specs.Form.{IsChangeInForm, IsReadInForm};
+ghost use Rattle.cf_model.specs.Documents.{documents_of};
+ghost use Rattle.cf_orders.specs.Register.{document_shown};
 ghost use Rattle.cf_model.specs.Rules as rules;
 ghost use Rattle.cf_model.specs.Step as step;
 
@@ -13,6 +15,7 @@ use crate::rules::{
     period_rule, role_rule, unadopted_rule, year_rule,
 };
 use cf_calls::{Act, Body, Change, Drawn, Look, Made, NameKind, Read, Refusal, Shown, Verdict};
+use std::alloc::{AllocError, Global};
 
 /// The rules before a repeat: an unknown desk, and a caller that has seen more than the history has.
 fn first_rules<H: History>(history: &H, change: &Change) -> Option<Refusal>
@@ -40,7 +43,7 @@ fn call_rules<H: History>(history: &H, change: &Change) -> Option<Refusal>
     if let Some(refusal) = amount_rule(chart, act) {
         return Some(refusal);
     }
-    or(name_rule(chart, act), None)
+    or(name_rule(chart, history.orders(), act), None)
 }
 
 /// The rules of periods and adopted budgets.
@@ -63,6 +66,21 @@ fn period_rules<H: History>(history: &H, change: &Change) -> Option<Refusal>
     or(unadopted_rule(history, change.on, &change.act), None)
 }
 
+/// The rules on the states of documents, and of room.
+#[tactic(auto, using(cf_model::proofs::First::rule_lists))]
+fn last_rules<H: History>(history: &H, change: &Change) -> Option<Refusal>
+    requires form { IsChangeInForm change.now }
+    requires built { step.is_built (H.plan history.now) change.now.act ≡ true }
+    requires names { rules.name_refusal (H.plan history.now) (documents_of (H.plan history.now) (H.entries history.now)) change.now.act ≡ None }
+    ensures { result ≡ rules.first_of (step.last_rules (H.plan history.now) (H.entries history.now) change.now) }
+{
+    let orders = history.orders();
+    if let Some(refusal) = orders.check(history.chart(), change.on, change.desk, &change.act) {
+        return Some(refusal);
+    }
+    or(exceed_rule(history, change), None)
+}
+
 /// The rules after a repeat, the least broken one first.
 #[tactic(auto, using(cf_model::proofs::First::rule_lists))]
 fn later_rules<H: History>(history: &H, change: &Change) -> Option<Refusal>
@@ -76,24 +94,7 @@ fn later_rules<H: History>(history: &H, change: &Change) -> Option<Refusal>
     if let Some(refusal) = period_rules(history, change) {
         return Some(refusal);
     }
-    exceed_rule(history, change)
-}
-
-/// The numbers that a change draws: the next of its kind.
-fn draws<H: History>(history: &H, act: &Act) -> Drawn
-    ensures { result ≡ step.draws (H.entries history.now) act.now }
-{
-    if act.is_voucher() {
-        Drawn {
-            number: history.vouchers() + 1,
-            second: 1,
-        }
-    } else {
-        Drawn {
-            number: 0,
-            second: 0,
-        }
-    }
+    last_rules(history, change)
 }
 
 /// A change whose desk used the key before: a repeat where it is the same call.
@@ -114,7 +115,7 @@ fn judge_new<H: History>(history: &H, change: &Change) -> Verdict
 {
     match later_rules(history, change) {
         Some(refusal) => Verdict::Refuse(refusal),
-        None => Verdict::Accept(draws(history, &change.act)),
+        None => Verdict::Accept(history.orders().draws(&change.act)),
     }
 }
 
@@ -151,19 +152,22 @@ pub fn judge<H: History>(history: &H, change: &Change) -> Verdict
 pub fn made_of(drawn: Drawn, act: &Act) -> Made
     ensures { result ≡ step.made_by drawn act.now }
 {
-    if act.is_voucher() {
-        Made::Voucher {
-            number: drawn.number,
+    let number = drawn.number;
+    match act {
+        Act::Requisition(_) => Made::Requisition { number },
+        Act::Order(_) => Made::Order { number },
+        Act::Voucher(_) => Made::Voucher {
+            number,
             first_asset: drawn.second,
             assets: 0,
-        }
-    } else {
-        Made::Nothing
+        },
+        _ => Made::Nothing,
     }
 }
 
 /// The numbers of a line and year, or that there is no such line.
 fn show_line<H: History>(history: &H, line: u16, year: u16) -> Body
+    requires { year < 2201 }
     ensures { result ≡ step.line_shown (H.plan history.now) (H.entries history.now) line year }
 {
     match history.chart().line(line) {
@@ -175,22 +179,59 @@ fn show_line<H: History>(history: &H, line: u16, year: u16) -> Body
     }
 }
 
-fn answer_line<H: History>(history: &H, after: Option<u64>, line: u16, year: u16) -> Body
-    ensures { result ≡ step.unless_refused (rules.ahead_refusal after (length (H.entries history.now))) (step.line_shown (H.plan history.now) (H.entries history.now) line year) }
+/// What a look at a document shows, or that there is none of its number.
+fn show_document<H: History>(
+    alloc: Global,
+    history: &H,
+    kind: NameKind,
+    number: u32,
+    read: &Read,
+) -> Result<Body, AllocError>
+    ensures { IfOk result (λ b. b ≡ step.or_refused kind number (document_shown (H.plan history.now) (documents_of (H.plan history.now) (H.entries history.now)) read.now)) }
 {
-    match ahead_rule(after, history.len()) {
-        Some(refusal) => Body::Refused(refusal),
-        None => show_line(history, line, year),
+    match history.orders().look(alloc, history.chart(), read)? {
+        Some(shown) => Ok(Body::Shown(shown)),
+        None => Ok(Body::Refused(Refusal::UnknownName { kind, id: number })),
+    }
+}
+
+/// What a look shows, but for what its caller has seen.
+fn show<H: History>(alloc: Global, history: &H, read: &Read) -> Result<Option<Body>, AllocError>
+    requires { IsReadInForm read.now }
+    ensures { IfOk result (λ b. b ≡ step.shown_of (H.plan history.now) (H.entries history.now) read.now) }
+{
+    match *read {
+        Read::Line { line, year } => Ok(Some(show_line(history, line, year))),
+        Read::Requisition { requisition } => {
+            let body = show_document(alloc, history, NameKind::Requisition, requisition, read)?;
+            Ok(Some(body))
+        }
+        Read::Order { order } => {
+            let body = show_document(alloc, history, NameKind::Order, order, read)?;
+            Ok(Some(body))
+        }
+        Read::Voucher { voucher } => {
+            let body = show_document(alloc, history, NameKind::Voucher, voucher, read)?;
+            Ok(Some(body))
+        }
+        _ => Ok(None),
     }
 }
 
 /// What a look shows: `None` exactly for a look that the office doesn't know yet. A look is refused where the
-/// caller has seen more than the history has, and where there is nothing of its name.
-pub fn answer<H: History>(history: &H, look: &Look) -> Option<Body>
-    ensures { result ≡ step.look_body (H.plan history.now) (H.entries history.now) look.now }
+/// caller has seen more than the history has, and where there is nothing of its name. Its list of items takes
+/// memory.
+pub fn answer<H: History>(
+    alloc: Global,
+    history: &H,
+    look: &Look,
+) -> Result<Option<Body>, AllocError>
+    requires { IsReadInForm look.now.read }
+    ensures { IfOk result (λ b. b ≡ step.look_body (H.plan history.now) (H.entries history.now) look.now) }
 {
-    match look.read {
-        Read::Line { line, year } => Some(answer_line(history, look.after, line, year)),
-        _ => None,
+    let body = show(alloc, history, &look.read)?;
+    match (ahead_rule(look.after, history.len()), body) {
+        (Some(refusal), Some(_)) => Ok(Some(Body::Refused(refusal))),
+        (_, body) => Ok(body),
     }
 }

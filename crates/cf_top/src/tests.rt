@@ -72,12 +72,12 @@ name = "Council"
 roles = ["council"]
 [[desk]]
 id = 2
-name = "Payables"
-roles = ["payables"]
+name = "Purchasing and payables"
+roles = ["dept", "purchasing", "payables"]
 [[desk]]
 id = 3
-name = "Both"
-roles = ["council", "payables"]
+name = "All"
+roles = ["council", "dept", "purchasing", "payables"]
 "#;
 
 /// Numbers by a linear congruential generator (Knuth's), the same in every run.
@@ -110,6 +110,16 @@ impl Draws {
         }
     }
 
+    /// The number of a document, of which there may be none.
+    fn number(&mut self) -> u32 {
+        1 + u32::from(self.below(60))
+    }
+
+    /// The place of an order's item.
+    fn place(&mut self) -> u32 {
+        1 + u32::from(self.below(2))
+    }
+
     fn fund(&mut self) -> u32 {
         match self.below(6) {
             0 => 2,
@@ -137,6 +147,66 @@ impl Draws {
     }
 }
 
+/// A call on documents: requisitions, orders, vouchers on their items, changes, ends and voids.
+fn document_line(alloc: Global, draws: &mut Draws) -> Result<String, AllocError> {
+    let (desk, key) = (2 + u32::from(draws.below(2)), draws.below(9000));
+    let (number, place) = (draws.number(), draws.place());
+    let (object, amount, open) = (draws.object(), draws.below(3000), draws.below(900));
+    match draws.below(12) {
+        0 | 1 => format!(in alloc;
+            "{{\"call\":\"requisition\",\"desk\":{desk},\"key\":\"d{key}\",\"on\":\"2025-08-05\",\"items\":[{{\"fund\":1,\"dept\":10,\"object\":{object},\"amount\":{amount}}},{{\"fund\":1,\"dept\":10,\"object\":510,\"amount\":{open}}}]}}"
+        ),
+        2 => format!(in alloc;
+            "{{\"call\":\"withdraw\",\"desk\":{desk},\"key\":\"d{key}\",\"on\":\"2025-08-05\",\"requisition\":{number}}}"
+        ),
+        3 => format!(in alloc;
+            "{{\"call\":\"order\",\"desk\":{desk},\"key\":\"d{key}\",\"on\":\"2025-08-06\",\"vendor\":7,\"requisition\":{number},\"items\":[{{\"fund\":1,\"dept\":10,\"object\":510,\"amount\":{amount}}}]}}"
+        ),
+        4 | 5 => format!(in alloc;
+            "{{\"call\":\"order\",\"desk\":{desk},\"key\":\"d{key}\",\"on\":\"2025-08-06\",\"vendor\":8,\"items\":[{{\"fund\":1,\"dept\":10,\"object\":510,\"amount\":{amount}}},{{\"fund\":1,\"dept\":10,\"object\":{object},\"amount\":{open}}}]}}"
+        ),
+        6 => format!(in alloc;
+            "{{\"call\":\"change_order\",\"desk\":{desk},\"key\":\"d{key}\",\"on\":\"2025-08-07\",\"order\":{number},\"item\":{place},\"fund\":1,\"dept\":10,\"object\":510,\"by\":-{open}}}"
+        ),
+        7 => format!(in alloc;
+            "{{\"call\":\"cancel_order\",\"desk\":{desk},\"key\":\"d{key}\",\"on\":\"2025-08-07\",\"order\":{number}}}"
+        ),
+        8 | 9 => charge_line(alloc, draws),
+        10 => format!(in alloc;
+            "{{\"call\":\"void_voucher\",\"desk\":{desk},\"key\":\"d{key}\",\"on\":\"2025-08-09\",\"voucher\":{number}}}"
+        ),
+        _ => look_line(alloc, draws),
+    }
+}
+
+/// A voucher on an order's items, with each of the ways to liquidate.
+fn charge_line(alloc: Global, draws: &mut Draws) -> Result<String, AllocError> {
+    let (desk, key) = (2 + u32::from(draws.below(2)), draws.below(9000));
+    let (number, place) = (draws.number(), draws.place());
+    let (amount, recorded) = (draws.below(3000), draws.number());
+    match draws.below(3) {
+        0 => format!(in alloc;
+            "{{\"call\":\"voucher\",\"desk\":{desk},\"key\":\"d{key}\",\"on\":\"2025-08-08\",\"vendor\":7,\"items\":[{{\"fund\":1,\"dept\":10,\"object\":510,\"amount\":{amount},\"order\":{number},\"item\":{place}}}]}}"
+        ),
+        1 => format!(in alloc;
+            "{{\"call\":\"voucher\",\"desk\":{desk},\"key\":\"d{key}\",\"on\":\"2025-08-08\",\"vendor\":7,\"items\":[{{\"fund\":1,\"dept\":10,\"object\":510,\"amount\":{amount},\"order\":{number},\"item\":1,\"recorded\":{recorded}}}]}}"
+        ),
+        _ => format!(in alloc;
+            "{{\"call\":\"voucher\",\"desk\":{desk},\"key\":\"d{key}\",\"on\":\"2025-08-08\",\"vendor\":7,\"items\":[{{\"fund\":1,\"dept\":10,\"object\":510,\"amount\":{amount},\"order\":{number},\"item\":1,\"final\":true}},{{\"fund\":1,\"dept\":20,\"object\":510,\"amount\":{recorded}}}]}}"
+        ),
+    }
+}
+
+/// A look at a document.
+fn look_line(alloc: Global, draws: &mut Draws) -> Result<String, AllocError> {
+    let number = draws.number();
+    match draws.below(3) {
+        0 => { format!(in alloc; "{{\"call\":\"requisition\",\"requisition\":{number}}}") }
+        1 => format!(in alloc; "{{\"call\":\"order\",\"order\":{number}}}"),
+        _ => format!(in alloc; "{{\"call\":\"voucher\",\"voucher\":{number}}}"),
+    }
+}
+
 /// A line of a talk: most are calls, some of them with faults, and old keys come again.
 fn line_of(alloc: Global, draws: &mut Draws) -> Result<String, AllocError> {
     let (desk, year, key) = (draws.desk(), draws.year(), draws.below(900));
@@ -147,7 +217,7 @@ fn line_of(alloc: Global, draws: &mut Draws) -> Result<String, AllocError> {
             "{{\"call\":\"adopt\",\"desk\":{desk},\"key\":\"k{key}\",\"on\":\"2025-08-01\",\"fund\":{fund},\"year\":{year},\"lines\":[{{\"line\":{line},\"amount\":{amount}}}],\"estimates\":[]}}"
         ),
         1 | 2 => format!(in alloc;
-            "{{\"call\":\"amend\",\"desk\":{desk},\"key\":\"k{key}\",\"on\":\"2025-08-02\",\"fund\":{fund},\"year\":{year},\"line\":{line},\"by\":{amount}}}"
+            "{{\"call\":\"amend\",\"desk\":{desk},\"key\":\"k{key}\",\"on\":\"2025-08-02\",\"fund\":{fund},\"year\":{year},\"line\":{line},\"by\":{amount}0}}"
         ),
         3 => format!(in alloc;
             "{{\"call\":\"amend\",\"desk\":{desk},\"key\":\"k{key}\",\"on\":\"2025-08-02\",\"fund\":{fund},\"year\":{year},\"line\":{line},\"by\":-{amount}}}"
@@ -169,8 +239,12 @@ fn line_of(alloc: Global, draws: &mut Draws) -> Result<String, AllocError> {
 fn talk(alloc: Global) -> Result<Vec<u8>, AllocError> {
     let mut draws = Draws { state: 2026 };
     let mut bytes = Vec::new(alloc);
-    for _ in 0..2000 {
-        let line = line_of(alloc, &mut draws)?;
+    for n in 0..2000 {
+        let line = if n % 2 == 0 {
+            line_of(alloc, &mut draws)?
+        } else {
+            document_line(alloc, &mut draws)?
+        };
         bytes.extend_from_slice(line.as_bytes())?;
         bytes.push(b'\n')?;
     }
@@ -198,7 +272,7 @@ fn both_offices_reply_the_same(rt: HostRuntime) -> Result<(), Fail> {
     let (book_end, by_running_numbers, accepted) = replies(alloc, BookOffice::new(alloc, book))?;
     assert_eq!(rt; plain_end, Ended::Ok);
     assert_eq!(rt; book_end, Ended::Ok);
-    assert!(rt; accepted > 100);
+    assert!(rt; accepted > 300);
     assert_eq!(rt; by_running_numbers.bytes(), by_sums.bytes());
     Ok(())
 }

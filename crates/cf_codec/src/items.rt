@@ -1,0 +1,280 @@
+//! What stands in the lists of an entry.
+
+ghost use Rattle.std.specs.Prelude.{◌≡◌};
+ghost use Rattle.cf_calls.specs.Form.{same_line, same_source, same_number, same_order_item};
+ghost use Rattle.cf_codec.specs.Answers.{Gives};
+ghost use Rattle.cf_codec.specs.Acts as spec;
+ghost use Rattle.cf_codec.specs.Acts.{line_amount, source_amount, account_item, voucher_item};
+ghost use Rattle.cf_codec.specs.Fields.{word, most_amount};
+ghost use Rattle.cf_codec.specs.Puts.{HasRoom, Puts};
+
+use crate::fault::Refused;
+use crate::lists::{DistinctElement, Element};
+use crate::put::{put_byte, put_flag, put_half, put_long, put_word};
+use crate::take::{take_amount, take_flag, take_half, take_most_amount, take_one_of, take_word};
+use cf_calls::items::{AccountItem, Charge, LineAmount, Liquidation, SourceAmount, VoucherItem};
+
+/// An amount for a control line.
+pub struct LineElement;
+
+impl Element for LineElement {
+    type Value = LineAmount;
+
+    ghost format = { line_amount };
+
+    fn len(_value: LineAmount) -> u8 {
+        10
+    }
+
+    fn put(out: &mut Vec<u8>, value: LineAmount) {
+        put_half(out, value.line);
+        put_long(out, value.amount);
+    }
+
+    fn take(bytes: &[u8]) -> Result<(LineAmount, &[u8]), Refused> {
+        let (line, rest) = take_half(bytes)?;
+        let (amount, rest) = take_amount(rest)?;
+        Ok((LineAmount { line, amount }, rest))
+    }
+}
+
+impl DistinctElement for LineElement {
+    ghost clash = { same_line };
+
+    fn clashes(one: LineAmount, other: LineAmount) -> bool {
+        one.line == other.line
+    }
+}
+
+/// An amount for a revenue source.
+pub struct SourceElement;
+
+impl Element for SourceElement {
+    type Value = SourceAmount;
+
+    ghost format = { source_amount };
+
+    fn len(_value: SourceAmount) -> u8 {
+        10
+    }
+
+    fn put(out: &mut Vec<u8>, value: SourceAmount) {
+        put_half(out, value.source);
+        put_long(out, value.amount);
+    }
+
+    fn take(bytes: &[u8]) -> Result<(SourceAmount, &[u8]), Refused> {
+        let (source, rest) = take_half(bytes)?;
+        let (amount, rest) = take_amount(rest)?;
+        Ok((SourceAmount { source, amount }, rest))
+    }
+}
+
+impl DistinctElement for SourceElement {
+    ghost clash = { same_source };
+
+    fn clashes(one: SourceAmount, other: SourceAmount) -> bool {
+        one.source == other.source
+    }
+}
+
+/// An amount on an account.
+pub struct AccountElement;
+
+impl Element for AccountElement {
+    type Value = AccountItem;
+
+    ghost format = { account_item };
+
+    fn len(_value: AccountItem) -> u8 {
+        14
+    }
+
+    fn put(out: &mut Vec<u8>, value: AccountItem) {
+        put_half(out, value.fund);
+        put_half(out, value.dept);
+        put_half(out, value.object);
+        put_long(out, value.amount);
+    }
+
+    fn take(bytes: &[u8]) -> Result<(AccountItem, &[u8]), Refused> {
+        let (fund, rest) = take_half(bytes)?;
+        let (dept, rest) = take_half(rest)?;
+        let (object, rest) = take_half(rest)?;
+        let (amount, rest) = take_amount(rest)?;
+        let account = AccountItem {
+            fund,
+            dept,
+            object,
+            amount,
+        };
+        Ok((account, rest))
+    }
+}
+
+fn liquidation_len(how: Liquidation) -> u8
+    ensures { result ≡ spec.liquidation.size how }
+{
+    match how {
+        Liquidation::Lesser => 1,
+        Liquidation::Recorded(_) => 9,
+        Liquidation::Final => 1,
+    }
+}
+
+fn put_liquidation(out: &mut Vec<u8>, how: Liquidation)
+    requires { HasRoom spec.liquidation how out.old }
+    ensures { Puts spec.liquidation how out.old out.new }
+{
+    match how {
+        Liquidation::Lesser => put_byte(out, 0),
+        Liquidation::Recorded(recorded) => {
+            put_byte(out, 1);
+            put_long(out, recorded);
+        }
+        Liquidation::Final => put_byte(out, 2),
+    }
+}
+
+fn take_liquidation(bytes: &[u8]) -> Result<(Liquidation, &[u8]), Refused>
+    ensures { Gives (λ x. (x.0, x.1.now)) result (spec.liquidation.read bytes.now) }
+{
+    let (kind, rest) = take_one_of(3, bytes)?;
+    match kind {
+        0 => Ok((Liquidation::Lesser, rest)),
+        1 => {
+            let (recorded, rest) = take_amount(rest)?;
+            Ok((Liquidation::Recorded(recorded), rest))
+        }
+        _ => Ok((Liquidation::Final, rest)),
+    }
+}
+
+fn charge_len(charge: Charge) -> u8
+    ensures { result ≡ spec.charge.size charge }
+{
+    match charge {
+        Charge::Direct => 1,
+        Charge::OnOrder { how, .. } => 7 + liquidation_len(how),
+    }
+}
+
+fn put_charge(out: &mut Vec<u8>, charge: Charge)
+    requires { HasRoom spec.charge charge out.old }
+    ensures { Puts spec.charge charge out.old out.new }
+{
+    match charge {
+        Charge::Direct => put_flag(out, false),
+        Charge::OnOrder { order, item, how } => {
+            put_flag(out, true);
+            put_word(out, order);
+            put_half(out, item);
+            put_liquidation(out, how);
+        }
+    }
+}
+
+fn take_charge(bytes: &[u8]) -> Result<(Charge, &[u8]), Refused>
+    ensures { Gives (λ x. (x.0, x.1.now)) result (spec.charge.read bytes.now) }
+{
+    let (on_order, rest) = take_flag(bytes)?;
+    if !on_order {
+        return Ok((Charge::Direct, rest));
+    }
+    let (order, rest) = take_word(rest)?;
+    let (item, rest) = take_half(rest)?;
+    let (how, rest) = take_liquidation(rest)?;
+    Ok((Charge::OnOrder { order, item, how }, rest))
+}
+
+/// An item of a voucher.
+pub struct VoucherElement;
+
+impl Element for VoucherElement {
+    type Value = VoucherItem;
+
+    ghost format = { voucher_item };
+
+    fn len(value: VoucherItem) -> u8 {
+        14 + charge_len(value.charge)
+    }
+
+    fn put(out: &mut Vec<u8>, value: VoucherItem) {
+        AccountElement::put(out, value.account);
+        put_charge(out, value.charge);
+    }
+
+    fn take(bytes: &[u8]) -> Result<(VoucherItem, &[u8]), Refused> {
+        let (account, rest) = AccountElement::take(bytes)?;
+        let (charge, rest) = take_charge(rest)?;
+        Ok((VoucherItem { account, charge }, rest))
+    }
+}
+
+impl DistinctElement for VoucherElement {
+    ghost clash = { same_order_item };
+
+    fn clashes(one: VoucherItem, other: VoucherItem) -> bool {
+        match (one.charge, other.charge) {
+            (
+                Charge::OnOrder {
+                    order: one_order,
+                    item: one_item,
+                    ..
+                },
+                Charge::OnOrder { order, item, .. },
+            ) => one_order == order && one_item == item,
+            _ => false,
+        }
+    }
+}
+
+/// The number of a voucher.
+pub struct VoucherNumber;
+
+impl Element for VoucherNumber {
+    type Value = u32;
+
+    ghost format = { word };
+
+    fn len(_value: u32) -> u8 {
+        4
+    }
+
+    fn put(out: &mut Vec<u8>, value: u32) {
+        put_word(out, value);
+    }
+
+    fn take(bytes: &[u8]) -> Result<(u32, &[u8]), Refused> {
+        take_word(bytes)
+    }
+}
+
+impl DistinctElement for VoucherNumber {
+    ghost clash = { same_number };
+
+    fn clashes(one: u32, other: u32) -> bool {
+        one == other
+    }
+}
+
+/// The principal of a bond's payment, in cents.
+pub struct Principal;
+
+impl Element for Principal {
+    type Value = u64;
+
+    ghost format = { most_amount };
+
+    fn len(_value: u64) -> u8 {
+        8
+    }
+
+    fn put(out: &mut Vec<u8>, value: u64) {
+        put_long(out, value);
+    }
+
+    fn take(bytes: &[u8]) -> Result<(u64, &[u8]), Refused> {
+        take_most_amount(bytes)
+    }
+}

@@ -1,0 +1,133 @@
+//! An entry read from its payload.
+
+ghost use Rattle.std.specs.Prelude.{◌≡◌, ◌++◌, ℕ, List, length, IfOk, Ok};
+ghost use Rattle.cf_calls.specs.declared.entry.Entry.{Entry};
+ghost use Rattle.cf_codec.specs.Answers.{Answers, Gives};
+ghost use Rattle.cf_codec.specs.Entries as spec;
+ghost use Rattle.cf_codec.specs.Entries.{BeginsWith, HasPayload, payload, read_of};
+
+use crate::fault::{CodecFault, CodecRefused, Refused};
+use crate::kind::ActKind;
+use crate::take::{faulty, take_day, take_half, take_key, take_kind, take_word};
+use crate::take_acts::take_act;
+use cf_base::Day;
+use cf_calls::acts::AssetAct;
+use cf_calls::{Act, Change, Drawn, Entry};
+use std::alloc::Global;
+
+/// Whether an entry of a kind may be dated so: a bond is issued on one of the first 28 days of a month.
+fn may_be_on(kind: ActKind, on: Day) -> bool
+    ensures { result ≡ spec.may_be_on kind on }
+{
+    match kind {
+        ActKind::Issue => on.day <= 28,
+        _ => true,
+    }
+}
+
+/// The day of an entry of a kind.
+fn take_on(kind: ActKind, bytes: &[u8]) -> Result<(Day, &[u8]), Refused>
+    ensures { Gives (λ x. (x.0, x.1.now)) result ((spec.on_for kind).read bytes.now) }
+{
+    let (on, rest) = take_day(bytes)?;
+    if may_be_on(kind, on) {
+        Ok((on, rest))
+    } else {
+        Err(faulty(bytes))
+    }
+}
+
+fn take_one_drawn(bytes: &[u8]) -> Result<(Drawn, &[u8]), Refused>
+    ensures { Gives (λ x. (x.0, x.1.now)) result (spec.one_drawn.read bytes.now) }
+{
+    let (number, rest) = take_word(bytes)?;
+    Ok((Drawn { number, second: 0 }, rest))
+}
+
+fn take_two_drawn(bytes: &[u8]) -> Result<(Drawn, &[u8]), Refused>
+    ensures { Gives (λ x. (x.0, x.1.now)) result (spec.two_drawn.read bytes.now) }
+{
+    let (number, rest) = take_word(bytes)?;
+    let (second, rest) = take_word(rest)?;
+    Ok((Drawn { number, second }, rest))
+}
+
+fn take_payment_drawn(bytes: &[u8]) -> Result<(Drawn, &[u8]), Refused>
+    ensures { Gives (λ x. (x.0, x.1.now)) result (spec.payment_drawn.read bytes.now) }
+{
+    let (number, rest) = take_half(bytes)?;
+    let number = u32::from(number);
+    Ok((Drawn { number, second: 0 }, rest))
+}
+
+/// The numbers that an act draws.
+fn take_drawn<'a>(act: &Act, bytes: &'a [u8]) -> Result<(Drawn, &'a [u8]), Refused>
+    ensures { Gives (λ x. (x.0, x.1.now)) result ((spec.drawn_for act.now).read bytes.now) }
+{
+    match act {
+        Act::Requisition(_) => take_one_drawn(bytes),
+        Act::Order(_) => take_one_drawn(bytes),
+        Act::Voucher(_) => take_two_drawn(bytes),
+        Act::Bill(_) => take_one_drawn(bytes),
+        Act::Asset(AssetAct::Donate(_)) => take_one_drawn(bytes),
+        Act::Issue(_) => take_one_drawn(bytes),
+        Act::PayDue(_) => take_payment_drawn(bytes),
+        _ => {
+            let none = Drawn {
+                number: 0,
+                second: 0,
+            };
+            Ok((none, bytes))
+        }
+    }
+}
+
+fn take_entry(alloc: Global, bytes: &[u8]) -> Result<(Entry, &[u8]), Refused>
+    ensures { Gives (λ x. (x.0, x.1.now)) result (spec.entry.read bytes.now) }
+{
+    let (kind, rest) = take_kind(bytes)?;
+    let (desk, rest) = take_half(rest)?;
+    let (key, rest) = take_key(alloc, rest)?;
+    let (on, rest) = take_on(kind, rest)?;
+    let (act, rest) = take_act(alloc, kind, on, rest)?;
+    let (drawn, rest) = take_drawn(&act, rest)?;
+    let change = Change {
+        desk,
+        key,
+        on,
+        after: None,
+        act,
+    };
+    Ok((Entry { change, drawn }, rest))
+}
+
+/// The entry and the length of its payload, or the offset of the first faulty field.
+#[tactic(auto, unfolding(crate::specs::Entries::read_of))]
+fn entry_at(alloc: Global, bytes: &[u8]) -> Result<(Entry, usize), CodecRefused>
+    ensures { Answers result (read_of bytes.now) }
+{
+    match take_entry(alloc, bytes) {
+        Ok((entry, rest)) => Ok((entry, bytes.len() - rest.len())),
+        Err(Refused::Faulty(left)) => {
+            let offset = bytes.len() - left;
+            Err(CodecRefused::Fault(CodecFault { offset }))
+        }
+        Err(Refused::NoMemory) => Err(CodecRefused::NoMemory),
+    }
+}
+
+/// The entry whose payload the first of these bytes are, and how many they are. Otherwise the offset of the
+/// first faulty field, or `NoMemory`.
+pub fn read_entry(alloc: Global, bytes: &[u8]) -> Result<(Entry, usize), CodecRefused>
+    // What is read has a payload, which stands at the front.
+    ensures found { IfOk result (λ x. BeginsWith bytes.now x.0 x.1) }
+
+    // Where a payload stands at the front its entry is read, unless there is no memory.
+    ensures only { (e : Entry) (rest : List ℕ) → HasPayload e → bytes.now ≡ payload e ++ rest
+        → Answers result (Ok (e, length (payload e))) }
+
+    // Which entry it is, or which field is faulty.
+    ensures answer { Answers result (read_of bytes.now) }
+{
+    entry_at(alloc, bytes)
+}

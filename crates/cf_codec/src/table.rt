@@ -1,0 +1,275 @@
+//! Payloads in hexadecimal digits, and what each is: the entry with its length, or the offset of its first
+//! faulty field. `@` stands for a desk 1, a key `k` and the day 2025-07-01, so that the act's fields begin at
+//! offset 9. A line with `#` is a heading.
+
+pub const HEAD: &str = "0001 01 6b 00004f2e";
+
+pub const TABLE: &str = r#"
+# the kind
+
+  fault 0
+00@ 00000007
+  fault 0
+16@ 00000007
+  fault 0
+ff@ 00000007
+  fault 0
+
+# desk, key and day
+05
+  fault 1
+05 00
+  fault 1
+05 0001
+  fault 3
+05 0001 00 00004f2e 00000007
+  fault 3
+05 0001 02 6b
+  fault 3
+05 0001 01 20 00004f2e 00000007
+  fault 3
+05 0001 01 7f 00004f2e 00000007
+  fault 3
+05 0001 02 c3a9 00004f2e 00000007
+  fault 3
+05 ffff 03 21227e 00004f2e ffffffff
+  65535 !"~ 2025-07-01 Withdraw(4294967295) 0 0 of 15
+05 0001 28 31323334353637383930313233343536373839303132333435363738393031323334353637383930 00004f2e 00000007
+  1 1234567890123456789012345678901234567890 2025-07-01 Withdraw(7) 0 0 of 52
+05 0001 29 3132333435363738393031323334353637383930313233343536373839303132333435363738393031 00004f2e 00000007
+  fault 3
+05 0001 01 6b 00004f
+  fault 5
+05 0001 01 6b 00014826 00000007
+  fault 5
+05 0001 01 6b 80000000 00000007
+  fault 5
+05 0001 01 6b 00014825 00000007
+  1 k 2199-12-31 Withdraw(7) 0 0 of 13
+05 0001 01 6b 00000000 00000000
+  1 k 1970-01-01 Withdraw(0) 0 0 of 13
+
+# bytes may follow
+05@ 00000007 ff 00
+  1 k 2025-07-01 Withdraw(7) 0 0 of 13
+05@ 000000
+  fault 9
+
+# adopt
+01@ 0001 07ea 0001 0003 00000000000186a0 0000
+  1 k 2025-07-01 Adopt(Adoption { fund: 1, year: 2026, lines: List { items: [LineAmount { line: 3, amount: 100000 }] }, estimates: List { items: [] } }) 0 0 of 27
+01@ 0001 07b3 0000 0002 0005 0000000000000001 0006 000009184e72a000
+  1 k 2025-07-01 Adopt(Adoption { fund: 1, year: 1971, lines: List { items: [] }, estimates: List { items: [SourceAmount { source: 5, amount: 1 }, SourceAmount { source: 6, amount: 10000000000000 }] } }) 0 0 of 37
+01@ 0001 07b2 0000 0000
+  fault 11
+01@ 0001 0898 0000 0000
+  fault 11
+01@ 0001 07ea 1001
+  fault 13
+01@ 0001 07ea 0001 0003 0000000000000000 0000
+  fault 17
+01@ 0001 07ea 0001 0003 000009184e72a001 0000
+  fault 17
+01@ 0001 07ea 0002 0003 0000000000000001 0003 0000000000000002 0000
+  fault 13
+01@ 0001 07ea 0002 0003 0000000000000001 0003 0000000000000000 0000
+  fault 27
+01@ 0001 07ea 0000 0101
+  fault 15
+01@ 0001 07ea 0000 0002 0005 0000000000000001 0005 0000000000000001
+  fault 15
+01@ 0001 07ea 0000 0001 0005 000000000001
+  fault 19
+
+# amend
+02@ 0001 07ea 0003 00 0000000000000005
+  1 k 2025-07-01 Amend(Amendment { fund: 1, year: 2026, line: 3, by: 5 }) 0 0 of 24
+02@ 0001 07ea 0003 01 000009184e72a000
+  1 k 2025-07-01 Amend(Amendment { fund: 1, year: 2026, line: 3, by: -10000000000000 }) 0 0 of 24
+02@ 0001 07ea 0003 02 0000000000000005
+  fault 15
+02@ 0001 07ea 0003 01 0000000000000000
+  fault 16
+02@ 0001 07ea 0003 00 000009184e72a001
+  fault 16
+
+# transfer
+03@ 0001 0897 0003 0004 0000000000000001
+  1 k 2025-07-01 Transfer(LineTransfer { fund: 1, year: 2199, from: 3, to: 4, amount: 1 }) 0 0 of 25
+03@ 0001 07ea 0003 0003 0000000000000000
+  fault 15
+03@ 0001 07ea 0003 0004 0000000000000000
+  fault 17
+
+# requisition: a drawn number is any number
+04@ 0001 0001 0002 0003 0000000000000005 00000007
+  1 k 2025-07-01 Requisition(Request { items: List { items: [AccountItem { fund: 1, dept: 2, object: 3, amount: 5 }] } }) 7 0 of 29
+04@ 0001 0001 0002 0003 0000000000000005 00000000
+  1 k 2025-07-01 Requisition(Request { items: List { items: [AccountItem { fund: 1, dept: 2, object: 3, amount: 5 }] } }) 0 0 of 29
+04@ 0000 00000007
+  fault 9
+04@ 0021
+  fault 9
+04@ 0001 0001 0002 0003 0000000000000000 00000007
+  fault 17
+04@ 0001 0001 0002 0003 0000000000000005 000000
+  fault 25
+
+# order
+06@ 00000009 00 0001 0001 0002 0003 0000000000000005 00000001
+  1 k 2025-07-01 Order(Purchase { vendor: 9, requisition: None, items: List { items: [AccountItem { fund: 1, dept: 2, object: 3, amount: 5 }] } }) 1 0 of 34
+06@ 00000009 01 00000007 0001 0001 0002 0003 0000000000000005 00000001
+  1 k 2025-07-01 Order(Purchase { vendor: 9, requisition: Some(7), items: List { items: [AccountItem { fund: 1, dept: 2, object: 3, amount: 5 }] } }) 1 0 of 38
+06@ 00000009 02 00000007
+  fault 13
+06@ 00000009 01 000000
+  fault 14
+
+# change_order
+07@ 00000001 0001 0001 0002 0003 01 0000000000000005
+  1 k 2025-07-01 ChangeOrder(OrderChange { order: 1, item: 1, fund: 1, dept: 2, object: 3, by: -5 }) 0 0 of 30
+07@ 00000001 0000 0001 0002 0003 01 0000000000000005
+  fault 13
+07@ 00000001 0001 0001 0002 0003 03 0000000000000005
+  fault 21
+
+# cancel_order
+08@ 00000001
+  1 k 2025-07-01 CancelOrder(1) 0 0 of 13
+
+# voucher
+09@ 00000009 00 0001 0001 0002 0003 0000000000000005 00 00000001 00000001
+  1 k 2025-07-01 Voucher(Invoice { vendor: 9, back: false, items: List { items: [VoucherItem { account: AccountItem { fund: 1, dept: 2, object: 3, amount: 5 }, charge: Direct }] } }) 1 1 of 39
+09@ 00000009 01 0003 0001 0002 0003 0000000000000005 01 00000001 0001 00 0001 0002 0003 0000000000000005 01 00000001 0002 01 0000000000000004 0001 0002 0003 0000000000000005 01 00000002 0001 02 00000002 00000007
+  1 k 2025-07-01 Voucher(Invoice { vendor: 9, back: true, items: List { items: [VoucherItem { account: AccountItem { fund: 1, dept: 2, object: 3, amount: 5 }, charge: OnOrder { order: 1, item: 1, how: Lesser } }, VoucherItem { account: AccountItem { fund: 1, dept: 2, object: 3, amount: 5 }, charge: OnOrder { order: 1, item: 2, how: Recorded(4) } }, VoucherItem { account: AccountItem { fund: 1, dept: 2, object: 3, amount: 5 }, charge: OnOrder { order: 2, item: 1, how: Final } }] } }) 2 7 of 98
+09@ 00000009 02
+  fault 13
+09@ 00000009 00 0001 0001 0002 0003 0000000000000005 02
+  fault 30
+09@ 00000009 00 0001 0001 0002 0003 0000000000000005 01 00000001 0001 03
+  fault 37
+09@ 00000009 00 0001 0001 0002 0003 0000000000000005 01 00000001 0001 01 0000000000000000 00000001 00000001
+  fault 38
+09@ 00000009 00 0001 0001 0002 0003 0000000000000005 01 00000001 0001 01 000009184e72a001 00000001 00000001
+  fault 38
+09@ 00000009 00 0002 0001 0002 0003 0000000000000005 01 00000001 0001 00 0001 0002 0003 0000000000000005 01 00000001 0001 02 00000001 00000001
+  fault 14
+09@ 00000009 00 0002 0001 0002 0003 0000000000000005 00 0001 0002 0003 0000000000000005 00 00000001 00000001
+  1 k 2025-07-01 Voucher(Invoice { vendor: 9, back: false, items: List { items: [VoucherItem { account: AccountItem { fund: 1, dept: 2, object: 3, amount: 5 }, charge: Direct }, VoucherItem { account: AccountItem { fund: 1, dept: 2, object: 3, amount: 5 }, charge: Direct }] } }) 1 1 of 54
+09@ 00000009 00 0001 0001 0002 0003 0000000000000005 00 00000001
+  fault 35
+
+# void_voucher
+0a@ 00000001
+  1 k 2025-07-01 VoidVoucher(1) 0 0 of 13
+
+# pay
+0b@ 0002 00000001 00000002
+  1 k 2025-07-01 Pay(Payment { vouchers: List { items: [1, 2] } }) 0 0 of 19
+0b@ 0002 00000001 00000001
+  fault 9
+0b@ 0000
+  fault 9
+0b@ 0041
+  fault 9
+0b@ 0002 00000001 0000
+  fault 15
+
+# bill
+0c@ 0005 07ea 00000063 0000000000000005 00000001
+  1 k 2025-07-01 Bill(Levy { source: 5, levy_year: 2026, payer: 99, amount: 5 }) 1 0 of 29
+0c@ 0005 07b2 00000063 0000000000000005 00000001
+  fault 11
+
+# collect, receive and write_off
+0d@ 00000001 0000000000000005
+  1 k 2025-07-01 Collect(BillAmount { bill: 1, amount: 5 }) 0 0 of 21
+0d@ 00000001 0000000000000000
+  fault 13
+0e@ 0005 0000000000000005
+  1 k 2025-07-01 Receive(SourceAmount { source: 5, amount: 5 }) 0 0 of 19
+0e@ 0005 000009184e72a001
+  fault 11
+0f@ 00000001 0000000000000005
+  1 k 2025-07-01 WriteOff(BillAmount { bill: 1, amount: 5 }) 0 0 of 21
+
+# asset
+10@ 00 0002 0003 0000000000000005 00000001
+  1 k 2025-07-01 Asset(Donate(Donation { dept: 2, object: 3, amount: 5 })) 1 0 of 26
+10@ 00 0002 0003 0000000000000000 00000001
+  fault 14
+10@ 01 00000001 0001 0000000000000000
+  1 k 2025-07-01 Asset(Dispose(Disposal { asset: 1, fund: 1, proceeds: 0 })) 0 0 of 24
+10@ 01 00000001 0001 000009184e72a001
+  fault 16
+10@ 02
+  fault 9
+
+# issue
+11 0001 01 6b 00004f49 0001 0000000000000064 01f4 06 0002 0000000000000000 0000000000000064 00000001
+  1 k 2025-07-28 Issue(BondIssue { fund: 1, amount: 100, rate_bp: 500, every: 6, principals: List { items: [0, 100] } }) 1 0 of 44
+11 0001 01 6b 00004f4a 0001 0000000000000064 01f4 06 0002 0000000000000000 0000000000000064 00000001
+  fault 5
+11@ 0001 0000000000000000 01f4 06 0001 0000000000000000 00000001
+  fault 11
+11@ 0001 0000000000000064 2711 06 0001 0000000000000064 00000001
+  fault 19
+11@ 0001 0000000000000064 2710 05 0001 0000000000000064 00000001
+  fault 21
+11@ 0001 0000000000000064 01f4 06 0000 00000001
+  fault 22
+11@ 0001 0000000000000064 01f4 06 0079
+  fault 22
+11@ 0001 0000000000000064 01f4 06 0002 0000000000000028 000000000000003d 00000001
+  fault 22
+11@ 0001 0000000000000064 01f4 06 0001 000009184e72a001 00000001
+  fault 24
+11 0001 01 6b 0001476e 0001 0000000000000064 01f4 06 0001 0000000000000064 00000001
+  fault 22
+11 0001 01 6b 0001476e 0001 0000000000000064 01f4 04 0001 0000000000000064 00000001
+  1 k 2199-07-01 Issue(BondIssue { fund: 1, amount: 100, rate_bp: 500, every: 4, principals: List { items: [100] } }) 1 0 of 36
+
+# pay_due: its number has two bytes
+12@ 00000001 0001 0002 0003 0004 ffff
+  1 k 2025-07-01 PayDue(DebtPayment { bond: 1, fund: 1, dept: 2, principal: 3, interest: 4 }) 65535 0 of 23
+12@ 00000001 0001 0002 0003 0004 ff
+  fault 21
+
+# leave
+13@ 00 0001 0002 0000000000000005
+  1 k 2025-07-01 Leave(Earn(LeaveAmount { fund: 1, dept: 2, amount: 5 })) 0 0 of 22
+13@ 01 0001 0002 0000000000000005
+  1 k 2025-07-01 Leave(Use(LeaveAmount { fund: 1, dept: 2, amount: 5 })) 0 0 of 22
+13@ 02 0001 0002 0003 0000000000000005
+  1 k 2025-07-01 Leave(Mature(LeaveMaturity { fund: 1, dept: 2, object: 3, amount: 5 })) 0 0 of 24
+13@ 03 0001 0002 0000000000000005
+  fault 9
+13@ 02 0001 0002 0003 0000000000000000
+  fault 16
+
+# interfund
+14@ 00 0001 0002 0000000000000005
+  1 k 2025-07-01 Interfund(FundMove { what: Transfer, from: 1, to: 2, amount: 5 }) 0 0 of 22
+14@ 02 0001 0002 0000000000000005
+  1 k 2025-07-01 Interfund(FundMove { what: Repay, from: 1, to: 2, amount: 5 }) 0 0 of 22
+14@ 01 0001 0001 0000000000000005
+  fault 12
+14@ 03 0001 0002 0000000000000005
+  fault 9
+
+# close
+15@ 00 07b2 0c
+  1 k 2025-07-01 Close(Month(Month { year: 1970, month: 12 })) 0 0 of 13
+15@ 00 07e9 0d
+  fault 12
+15@ 00 07e9 00
+  fault 12
+15@ 00 07b1 01
+  fault 10
+15@ 01 07ea
+  1 k 2025-07-01 Close(Year(2026)) 0 0 of 12
+15@ 01 07b2
+  fault 10
+15@ 02 07ea
+  fault 9
+"#;

@@ -1,0 +1,439 @@
+//! The readers of the acts: the fields of each in order, with the rules of form where they speak. Each gives
+//! the act and the bytes after it.
+
+ghost use Rattle.std.specs.Prelude.{◌≡◌, ◌≤◌, ◌+◌, ◌*◌, ◌<◌, nat_le, sum, length};
+ghost use Rattle.cf_calls.specs.Form.{is_period, month_number};
+ghost use Rattle.cf_codec.specs.Acts as spec;
+ghost use Rattle.cf_codec.specs.Answers.{Gives};
+ghost use Rattle.cf_codec.specs.Formats.{kept};
+ghost use Rattle.cf_codec.specs.Fields.{byte};
+
+use crate::fault::Refused;
+use crate::items::{
+    AccountElement, LineElement, Principal, SourceElement, VoucherElement, VoucherNumber,
+};
+use crate::kind::ActKind;
+use crate::lists::{Element, take_distinct, take_list};
+use crate::take::{
+    faulty, or_faulty, take_amount, take_between, take_byte, take_flag, take_half, take_month,
+    take_most_amount, take_move_kind, take_one_of, take_signed, take_word, take_year,
+};
+use cf_base::Day;
+use cf_calls::Act;
+use cf_calls::acts::{
+    Adoption, Amendment, AssetAct, BillAmount, BondIssue, DebtPayment, Disposal, Donation,
+    FundMove, Invoice, LeaveAct, LeaveAmount, LeaveMaturity, Levy, LineTransfer, OrderChange,
+    Payment, Period, Purchase, Request,
+};
+use cf_calls::items::Principals;
+use std::alloc::Global;
+
+fn take_adoption(alloc: Global, bytes: &[u8]) -> Result<(Adoption, &[u8]), Refused>
+    ensures { Gives (λ x. (x.0, x.1.now)) result (spec.adoption.read bytes.now) }
+{
+    let (fund, rest) = take_half(bytes)?;
+    let (year, rest) = take_year(rest)?;
+    let (lines, rest) = take_distinct::<LineElement>(alloc, 0, 4096, rest)?;
+    let (estimates, rest) = take_distinct::<SourceElement>(alloc, 0, 256, rest)?;
+    let adoption = Adoption {
+        fund,
+        year,
+        lines,
+        estimates,
+    };
+    Ok((adoption, rest))
+}
+
+fn take_amendment(bytes: &[u8]) -> Result<(Amendment, &[u8]), Refused>
+    ensures { Gives (λ x. (x.0, x.1.now)) result (spec.amendment.read bytes.now) }
+{
+    let (fund, rest) = take_half(bytes)?;
+    let (year, rest) = take_year(rest)?;
+    let (line, rest) = take_half(rest)?;
+    let (by, rest) = take_signed(rest)?;
+    let amendment = Amendment {
+        fund,
+        year,
+        line,
+        by,
+    };
+    Ok((amendment, rest))
+}
+
+/// A number of two bytes other than this one.
+fn take_other_than(number: u16, bytes: &[u8]) -> Result<(u16, &[u8]), Refused>
+    ensures { Gives (λ x. (x.0, x.1.now)) result ((spec.other_than number).read bytes.now) }
+{
+    let (n, rest) = take_half(bytes)?;
+    or_faulty((number != n).then_some(n), rest, bytes)
+}
+
+fn take_transfer(bytes: &[u8]) -> Result<(LineTransfer, &[u8]), Refused>
+    ensures { Gives (λ x. (x.0, x.1.now)) result (spec.transfer.read bytes.now) }
+{
+    let (fund, rest) = take_half(bytes)?;
+    let (year, rest) = take_year(rest)?;
+    let (from, rest) = take_half(rest)?;
+    let (to, rest) = take_other_than(from, rest)?;
+    let (amount, rest) = take_amount(rest)?;
+    let transfer = LineTransfer {
+        fund,
+        year,
+        from,
+        to,
+        amount,
+    };
+    Ok((transfer, rest))
+}
+
+fn take_request(alloc: Global, bytes: &[u8]) -> Result<(Request, &[u8]), Refused>
+    ensures { Gives (λ x. (x.0, x.1.now)) result (spec.request.read bytes.now) }
+{
+    let (items, rest) = take_list::<AccountElement>(alloc, 1, 32, bytes)?;
+    Ok((Request { items }, rest))
+}
+
+fn take_optional(bytes: &[u8]) -> Result<(Option<u32>, &[u8]), Refused>
+    ensures { Gives (λ x. (x.0, x.1.now)) result (spec.optional.read bytes.now) }
+{
+    let (is_there, rest) = take_flag(bytes)?;
+    if !is_there {
+        return Ok((None, rest));
+    }
+    let (number, rest) = take_word(rest)?;
+    Ok((Some(number), rest))
+}
+
+fn take_purchase(alloc: Global, bytes: &[u8]) -> Result<(Purchase, &[u8]), Refused>
+    ensures { Gives (λ x. (x.0, x.1.now)) result (spec.purchase.read bytes.now) }
+{
+    let (vendor, rest) = take_word(bytes)?;
+    let (requisition, rest) = take_optional(rest)?;
+    let (items, rest) = take_list::<AccountElement>(alloc, 1, 32, rest)?;
+    let purchase = Purchase {
+        vendor,
+        requisition,
+        items,
+    };
+    Ok((purchase, rest))
+}
+
+fn take_order_change(bytes: &[u8]) -> Result<(OrderChange, &[u8]), Refused>
+    ensures { Gives (λ x. (x.0, x.1.now)) result (spec.order_change.read bytes.now) }
+{
+    let (order, rest) = take_word(bytes)?;
+    let at_item = rest;
+    let (item, rest) = take_half(at_item)?;
+    let (item, rest) = or_faulty((1 <= item).then_some(item), rest, at_item)?;
+    let (fund, rest) = take_half(rest)?;
+    let (dept, rest) = take_half(rest)?;
+    let (object, rest) = take_half(rest)?;
+    let (by, rest) = take_signed(rest)?;
+    let change = OrderChange {
+        order,
+        item,
+        fund,
+        dept,
+        object,
+        by,
+    };
+    Ok((change, rest))
+}
+
+fn take_invoice(alloc: Global, bytes: &[u8]) -> Result<(Invoice, &[u8]), Refused>
+    ensures { Gives (λ x. (x.0, x.1.now)) result (spec.invoice.read bytes.now) }
+{
+    let (vendor, rest) = take_word(bytes)?;
+    let (back, rest) = take_flag(rest)?;
+    let (items, rest) = take_distinct::<VoucherElement>(alloc, 1, 32, rest)?;
+    let invoice = Invoice {
+        vendor,
+        back,
+        items,
+    };
+    Ok((invoice, rest))
+}
+
+fn take_payment(alloc: Global, bytes: &[u8]) -> Result<(Payment, &[u8]), Refused>
+    ensures { Gives (λ x. (x.0, x.1.now)) result (spec.payment.read bytes.now) }
+{
+    let (vouchers, rest) = take_distinct::<VoucherNumber>(alloc, 1, 64, bytes)?;
+    Ok((Payment { vouchers }, rest))
+}
+
+fn take_levy(bytes: &[u8]) -> Result<(Levy, &[u8]), Refused>
+    ensures { Gives (λ x. (x.0, x.1.now)) result (spec.levy.read bytes.now) }
+{
+    let (source, rest) = take_half(bytes)?;
+    let (levy_year, rest) = take_year(rest)?;
+    let (payer, rest) = take_word(rest)?;
+    let (amount, rest) = take_amount(rest)?;
+    let levy = Levy {
+        source,
+        levy_year,
+        payer,
+        amount,
+    };
+    Ok((levy, rest))
+}
+
+fn take_bill_amount(bytes: &[u8]) -> Result<(BillAmount, &[u8]), Refused>
+    ensures { Gives (λ x. (x.0, x.1.now)) result (spec.bill_amount.read bytes.now) }
+{
+    let (bill, rest) = take_word(bytes)?;
+    let (amount, rest) = take_amount(rest)?;
+    Ok((BillAmount { bill, amount }, rest))
+}
+
+fn take_donation(bytes: &[u8]) -> Result<(Donation, &[u8]), Refused>
+    ensures { Gives (λ x. (x.0, x.1.now)) result (spec.donation.read bytes.now) }
+{
+    let (dept, rest) = take_half(bytes)?;
+    let (object, rest) = take_half(rest)?;
+    let (amount, rest) = take_amount(rest)?;
+    let donation = Donation {
+        dept,
+        object,
+        amount,
+    };
+    Ok((donation, rest))
+}
+
+fn take_disposal(bytes: &[u8]) -> Result<(Disposal, &[u8]), Refused>
+    ensures { Gives (λ x. (x.0, x.1.now)) result (spec.disposal.read bytes.now) }
+{
+    let (asset, rest) = take_word(bytes)?;
+    let (fund, rest) = take_half(rest)?;
+    let (proceeds, rest) = take_most_amount(rest)?;
+    let disposal = Disposal {
+        asset,
+        fund,
+        proceeds,
+    };
+    Ok((disposal, rest))
+}
+
+fn take_asset_act(bytes: &[u8]) -> Result<(AssetAct, &[u8]), Refused>
+    ensures { Gives (λ x. (x.0, x.1.now)) result (spec.asset_act.read bytes.now) }
+{
+    let (is_disposal, rest) = take_flag(bytes)?;
+    if is_disposal {
+        let (disposal, rest) = take_disposal(rest)?;
+        Ok((AssetAct::Dispose(disposal), rest))
+    } else {
+        let (donation, rest) = take_donation(rest)?;
+        Ok((AssetAct::Donate(donation), rest))
+    }
+}
+
+/// The sum of the principals of a bond's payments.
+fn total(principals: &[u64]) -> u128
+    ensures { result ≡ sum principals.now }
+{
+    let mut total: u128 = 0;
+    for principal in principals {
+        total += u128::from(*principal);
+    }
+    total
+}
+
+/// Whether the last of so many payments, `every` months apart, is due by the end of 2199.
+fn is_due_in_time(on: Day, every: u16, payments: usize) -> bool
+    ensures { result ≡ nat_le (month_number on.year on.month + every * payments) (month_number 2199 12) }
+{
+    let issued = 12 * u128::from(on.year) + u128::from(on.month);
+    issued + u128::from(every) * payments as u128 <= 12 * 2199 + 12
+}
+
+/// Whether the principals repay the amount in time.
+fn is_repayment(on: Day, amount: u64, every: u16, principals: &[u64]) -> bool
+    ensures { result ≡ spec.is_repayment on amount every principals.now }
+{
+    total(principals) == u128::from(amount) && is_due_in_time(on, every, principals.len())
+}
+
+fn take_principals(
+    alloc: Global,
+    on: Day,
+    amount: u64,
+    every: u16,
+    bytes: &[u8],
+) -> Result<(Principals, &[u8]), Refused>
+    ensures { Gives (λ x. (x.0, x.1.now)) result ((spec.principals on amount every).read bytes.now) }
+{
+    let (principals, rest) = take_list::<Principal>(alloc, 1, 120, bytes)?;
+    if is_repayment(on, amount, every, principals.as_slice()) {
+        Ok((principals, rest))
+    } else {
+        Err(faulty(bytes))
+    }
+}
+
+/// Whether a bond may have so many months between payments.
+fn is_payment_period(n: u8) -> bool
+    ensures { result ≡ is_period n }
+{
+    n == 1 || n == 2 || n == 3 || n == 4 || n == 6 || n == 12
+}
+
+/// The months between a bond's payments.
+fn take_every(bytes: &[u8]) -> Result<(u16, &[u8]), Refused>
+    ensures { Gives (λ x. (x.0, x.1.now)) result ((kept is_period byte).read bytes.now) }
+{
+    let (n, rest) = take_byte(bytes)?;
+    or_faulty(is_payment_period(n).then_some(u16::from(n)), rest, bytes)
+}
+
+fn take_issue(alloc: Global, on: Day, bytes: &[u8]) -> Result<(BondIssue, &[u8]), Refused>
+    ensures { Gives (λ x. (x.0, x.1.now)) result ((spec.issue on).read bytes.now) }
+{
+    let (fund, rest) = take_half(bytes)?;
+    let (amount, rest) = take_amount(rest)?;
+    let at_rate = rest;
+    let (rate_bp, rest) = take_half(at_rate)?;
+    let (rate_bp, rest) = or_faulty((rate_bp <= 10_000).then_some(rate_bp), rest, at_rate)?;
+    let (every, rest) = take_every(rest)?;
+    let (principals, rest) = take_principals(alloc, on, amount, every, rest)?;
+    let issue = BondIssue {
+        fund,
+        amount,
+        rate_bp,
+        every,
+        principals,
+    };
+    Ok((issue, rest))
+}
+
+fn take_debt_payment(bytes: &[u8]) -> Result<(DebtPayment, &[u8]), Refused>
+    ensures { Gives (λ x. (x.0, x.1.now)) result (spec.debt_payment.read bytes.now) }
+{
+    let (bond, rest) = take_word(bytes)?;
+    let (fund, rest) = take_half(rest)?;
+    let (dept, rest) = take_half(rest)?;
+    let (principal, rest) = take_half(rest)?;
+    let (interest, rest) = take_half(rest)?;
+    let payment = DebtPayment {
+        bond,
+        fund,
+        dept,
+        principal,
+        interest,
+    };
+    Ok((payment, rest))
+}
+
+fn take_leave_amount(bytes: &[u8]) -> Result<(LeaveAmount, &[u8]), Refused>
+    ensures { Gives (λ x. (x.0, x.1.now)) result (spec.leave_amount.read bytes.now) }
+{
+    let (fund, rest) = take_half(bytes)?;
+    let (dept, rest) = take_half(rest)?;
+    let (amount, rest) = take_amount(rest)?;
+    let leave = LeaveAmount { fund, dept, amount };
+    Ok((leave, rest))
+}
+
+fn take_maturity(bytes: &[u8]) -> Result<(LeaveMaturity, &[u8]), Refused>
+    ensures { Gives (λ x. (x.0, x.1.now)) result (spec.maturity.read bytes.now) }
+{
+    let (fund, rest) = take_half(bytes)?;
+    let (dept, rest) = take_half(rest)?;
+    let (object, rest) = take_half(rest)?;
+    let (amount, rest) = take_amount(rest)?;
+    let maturity = LeaveMaturity {
+        fund,
+        dept,
+        object,
+        amount,
+    };
+    Ok((maturity, rest))
+}
+
+fn take_leave_act(bytes: &[u8]) -> Result<(LeaveAct, &[u8]), Refused>
+    ensures { Gives (λ x. (x.0, x.1.now)) result (spec.leave_act.read bytes.now) }
+{
+    let (what, rest) = take_one_of(3, bytes)?;
+    match what {
+        0 => {
+            let (leave, rest) = take_leave_amount(rest)?;
+            Ok((LeaveAct::Earn(leave), rest))
+        }
+        1 => {
+            let (leave, rest) = take_leave_amount(rest)?;
+            Ok((LeaveAct::Use(leave), rest))
+        }
+        _ => {
+            let (maturity, rest) = take_maturity(rest)?;
+            Ok((LeaveAct::Mature(maturity), rest))
+        }
+    }
+}
+
+fn take_fund_move(bytes: &[u8]) -> Result<(FundMove, &[u8]), Refused>
+    ensures { Gives (λ x. (x.0, x.1.now)) result (spec.fund_move.read bytes.now) }
+{
+    let (what, rest) = take_move_kind(bytes)?;
+    let (from, rest) = take_half(rest)?;
+    let (to, rest) = take_other_than(from, rest)?;
+    let (amount, rest) = take_amount(rest)?;
+    let fund_move = FundMove {
+        what,
+        from,
+        to,
+        amount,
+    };
+    Ok((fund_move, rest))
+}
+
+fn take_period(bytes: &[u8]) -> Result<(Period, &[u8]), Refused>
+    ensures { Gives (λ x. (x.0, x.1.now)) result (spec.closed_period.read bytes.now) }
+{
+    let (is_year, rest) = take_flag(bytes)?;
+    if is_year {
+        let (year, rest) = take_year(rest)?;
+        Ok((Period::Year(year), rest))
+    } else {
+        let (month, rest) = take_month(rest)?;
+        Ok((Period::Month(month), rest))
+    }
+}
+
+/// The fields of an act of a kind.
+#[tactic(auto, unfolding(crate::specs::Acts::act_at))]
+pub fn take_act(
+    alloc: Global,
+    kind: ActKind,
+    on: Day,
+    bytes: &[u8],
+) -> Result<(Act, &[u8]), Refused>
+    ensures { Gives (λ x. (x.0, x.1.now)) result (spec.act_at kind on bytes.now) }
+{
+    match kind {
+        ActKind::Adopt => take_adoption(alloc, bytes).map(|(a, rest)| (Act::Adopt(a), rest)),
+        ActKind::Amend => take_amendment(bytes).map(|(a, rest)| (Act::Amend(a), rest)),
+        ActKind::Transfer => take_transfer(bytes).map(|(t, rest)| (Act::Transfer(t), rest)),
+        ActKind::Requisition => take_request(alloc, bytes).map(|(r, rest)| (
+            Act::Requisition(r),
+            rest,
+        )),
+        ActKind::Withdraw => take_word(bytes).map(|(n, rest)| (Act::Withdraw(n), rest)),
+        ActKind::Order => take_purchase(alloc, bytes).map(|(p, rest)| (Act::Order(p), rest)),
+        ActKind::ChangeOrder => take_order_change(bytes).map(|(c, rest)| (
+            Act::ChangeOrder(c),
+            rest,
+        )),
+        ActKind::CancelOrder => take_word(bytes).map(|(n, rest)| (Act::CancelOrder(n), rest)),
+        ActKind::Voucher => take_invoice(alloc, bytes).map(|(i, rest)| (Act::Voucher(i), rest)),
+        ActKind::VoidVoucher => take_word(bytes).map(|(n, rest)| (Act::VoidVoucher(n), rest)),
+        ActKind::Pay => take_payment(alloc, bytes).map(|(p, rest)| (Act::Pay(p), rest)),
+        ActKind::Bill => take_levy(bytes).map(|(l, rest)| (Act::Bill(l), rest)),
+        ActKind::Collect => take_bill_amount(bytes).map(|(a, rest)| (Act::Collect(a), rest)),
+        ActKind::Receive => SourceElement::take(bytes).map(|(r, rest)| (Act::Receive(r), rest)),
+        ActKind::WriteOff => take_bill_amount(bytes).map(|(a, rest)| (Act::WriteOff(a), rest)),
+        ActKind::Asset => take_asset_act(bytes).map(|(a, rest)| (Act::Asset(a), rest)),
+        ActKind::Issue => take_issue(alloc, on, bytes).map(|(i, rest)| (Act::Issue(i), rest)),
+        ActKind::PayDue => take_debt_payment(bytes).map(|(p, rest)| (Act::PayDue(p), rest)),
+        ActKind::Leave => take_leave_act(bytes).map(|(l, rest)| (Act::Leave(l), rest)),
+        ActKind::Interfund => take_fund_move(bytes).map(|(m, rest)| (Act::Interfund(m), rest)),
+        ActKind::Close => take_period(bytes).map(|(p, rest)| (Act::Close(p), rest)),
+    }
+}

@@ -1,0 +1,5 @@
+pub mod Images
+pub mod Moments
+pub mod Memory
+pub mod MemoryLaws
+pub mod MemoryView

@@ -1,0 +1,13 @@
+//! The disk under the journal, as a trait with the rules of a crash; its kind in memory and over a real file.
+#![tactic(auto)]
+
+mod disk;
+mod file;
+mod memory;
+
+pub use disk::Disk;
+pub use file::FileDisk;
+pub use memory::{DiskCall, MemDisk};
+
+#[cfg(test)]
+mod tests;

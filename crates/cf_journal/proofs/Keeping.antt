@@ -1,0 +1,23 @@
+-- What a reservation keeps.
+use Rattle.std.proofs.Common.{ℕ, List, Bool, ◌∙◌}
+use Rattle.cf_calls.specs.declared.entry.Entry.{Entry}
+use Rattle.cf_journal.specs.Journal.{IsSettled, IsInDoubt, SamePlace}
+use Rattle.cf_journal.specs.declared.journal.Journal.{Journal}
+
+module _ {D : Type 0} (tells : Bool) (is_image : D → List ℕ → Type 0) (old new : Journal) (disk : D) (chart : List ℕ) (history : List Entry) (same : SamePlace old new) where
+  pub settled_kept : IsSettled tells is_image old disk chart history → IsSettled tells is_image new disk chart history
+  settled_kept settled = record {
+    clear = same.doubt ∙ settled.clear;
+    stands = record { gate = same.gate ∙ settled.stands.gate; count = same.count ∙ settled.stands.count };
+    valid = settled.valid;
+    images = settled.images;
+  }
+
+  pub doubt_kept : (entry : Entry) → IsInDoubt tells is_image old disk chart history entry → IsInDoubt tells is_image new disk chart history entry
+  doubt_kept entry doubt = record {
+    doubt = same.doubt ∙ doubt.doubt;
+    stands = record { gate = same.gate ∙ doubt.stands.gate; count = same.count ∙ doubt.stands.count };
+    valid = doubt.valid;
+    has = doubt.has;
+    images = doubt.images;
+  }

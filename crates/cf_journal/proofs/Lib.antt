@@ -1,0 +1,9 @@
+pub mod Appending
+pub mod FoundingSteps
+pub mod Keeping
+pub mod Layouts
+pub mod Lists
+pub mod Moments
+pub mod Reading
+pub mod RecordLaws
+pub mod Whole

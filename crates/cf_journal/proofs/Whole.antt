@@ -1,0 +1,75 @@
+-- A whole file, as it is opened.
+use Rattle.std.proofs.Common.{◌≡◌, inl, inr, ⊎_elim, ℕ, ◌+◌, ◌-◌, ◌<◌, ◌≤◌, List, ◌∷◌, ◌++◌, length, take, drop, refl, sym, ◌∙◌, ap, arith, length-drop, take-append-drop, Bool, false, Result, Ok, Err}
+use Rattle.std.specs.Prelude.{IsOk, IsErr, is_ok, if◌then◌else◌}
+use Rattle.std.specs.Int.{w32, to_be_bytes}
+use Rattle.std.proofs.lemmas.List.{take_all, drop-drop, length-take-le}
+use Rattle.cf_calls.specs.declared.entry.Entry.{Entry}
+use Rattle.cf_chart.specs.Reading.{chart_of}
+use Rattle.cf_disk.specs.Images.{AddsNone}
+use Rattle.cf_disk.specs.Moments.{Advances, AtEachMoment}
+use Rattle.cf_journal.specs.Records.{entries_from, records_of}
+use Rattle.cf_journal.specs.Frames.{chart_len, with_chart, behind_head, frames}
+use Rattle.cf_journal.specs.Layout.{IsValid, IsAtRest}
+use Rattle.cf_journal.specs.Answers.{Accepts, EndsAt, Opens}
+use Rattle.cf_journal.specs.declared.refused.OpenRefused.{OpenRefused}
+use Rattle.cf_journal.specs.declared.refused.OpenRefused.TheVariants.{Disk, NotFounded, Damaged, NoMemory}
+use Rattle.cf_journal.proofs.Layouts.{front_split, at_rest}
+
+-- a call that adds no image
+pub still : {D : Type 0} (moment : D → ℕ) (is_image : D → List ℕ → Type 0) (was_image : D → ℕ → List ℕ → Type 0) → ((d : D) (image : List ℕ) → was_image d (moment d) image → is_image d image)
+    → (old new : D) → Advances moment is_image was_image old new → AddsNone (is_image old) (is_image new) → AtEachMoment moment was_image old new (is_image old)
+still moment is_image was_image only old new time none = record {
+  later = time.later;
+  images = λ image was. ⊎_elim (only old image) (none image) (time.no_more (moment old) image (omega arith) was);
+  since = λ t image le was. ⊎_elim (λ before. inl before) (λ now. inr (none image now)) (time.no_more t image le was);
+}
+
+-- a head, a chart and records, as they were read one after another
+module _ (bytes chart records : List ℕ) (n len : ℕ) (sizes : len ≡ length bytes) (within : 7 + n ≤ len) (chart_is : chart ≡ take n (drop 6 bytes)) (records_are : records ≡ take (len - (6 + n)) (drop (6 + n) bytes)) where
+  pub all_records : records ≡ drop (6 + n) bytes
+  all_records = records_are ∙ take_all (len - (6 + n)) (drop (6 + n) bytes) (omega (arith, length-drop (6 + n) bytes, sizes))
+
+  pub length-chart : length chart ≡ n
+  length-chart = ap length chart_is ∙ length-take-le n (drop 6 bytes) (omega (arith, length-drop 6 bytes, sizes, within))
+
+  pub some_records : 0 < length records
+  some_records = omega (arith, ap length all_records, length-drop (6 + n) bytes, sizes, within)
+
+  -- what the bytes stand for
+  pub frames_read : chart_len (length bytes) (take 6 bytes) ≡ Ok n → IsOk (chart_of chart) → frames bytes ≡ with_chart chart (entries_from 0 (6 + n) records)
+  frames_read head accepted =
+      ap (λ (r : Result ℕ OpenRefused). behind_head r bytes) head
+      ∙ ap (λ (c : List ℕ). if is_ok (chart_of c) then with_chart c (entries_from 0 (6 + n) (drop (6 + n) bytes)) else Err (Damaged 6)) (sym chart_is)
+      ∙ ap (λ (b : Bool). if b then with_chart chart (entries_from 0 (6 + n) (drop (6 + n) bytes)) else Err (Damaged 6)) accepted
+      ∙ ap (λ (l : List ℕ). with_chart chart (entries_from 0 (6 + n) l)) (sym all_records)
+
+  -- how they lie
+  pub whole_at_rest : take 6 bytes ≡ 1 ∷ 1 ∷ to_be_bytes w32 n → IsOk (chart_of chart) → (entries : List Entry) (place : ℕ) → EndsAt (6 + n) records entries place → IsAtRest chart entries bytes
+  whole_at_rest head accepted entries place ends =
+      let valid : IsValid chart entries = record { accepted = accepted; records = ends.all } in
+      let behind : drop 6 bytes ≡ chart ++ records =
+      sym (take-append-drop n (drop 6 bytes)) ∙ ap (λ (l : List ℕ). l ++ drop n (drop 6 bytes)) (sym chart_is) ∙ ap (λ (l : List ℕ). chart ++ l) (drop-drop n 6 bytes ∙ sym all_records) in
+      let whole : bytes ≡ 1 ∷ 1 ∷ (to_be_bytes w32 (length chart) ++ (chart ++ (records_of entries ++ ends.gate ∷ ends.behind))) =
+      sym (take-append-drop 6 bytes)
+      ∙ ap (λ (l : List ℕ). l ++ drop 6 bytes) (head ∙ ap (λ (k : ℕ). 1 ∷ 1 ∷ to_be_bytes w32 k) (sym length-chart))
+      ∙ ap (λ (l : List ℕ). 1 ∷ 1 ∷ (to_be_bytes w32 (length chart) ++ l)) (behind ∙ ap (λ (l : List ℕ). chart ++ l) ends.layout) in
+      at_rest chart entries ends.gate ends.behind bytes valid ends.closed (whole ∙ sym (front_split chart entries (ends.gate ∷ ends.behind)))
+
+-- ---- a chart that is refused
+
+is_err-false : {A E : Type 0} (r : Result A E) → IsErr r → is_ok r ≡ false
+is_err-false (Ok a) err = absurd (cc err)
+is_err-false (Err e) err = refl
+
+pub frames_refused : (bytes chart : List ℕ) (n : ℕ) → chart ≡ take n (drop 6 bytes) → chart_len (length bytes) (take 6 bytes) ≡ Ok n → IsErr (chart_of chart) → frames bytes ≡ Err (Damaged 6)
+frames_refused bytes chart n chart_is head refused =
+    let unaccepted : is_ok (chart_of (take n (drop 6 bytes))) ≡ false = ap (λ (c : List ℕ). is_ok (chart_of c)) (sym chart_is) ∙ is_err-false (chart_of chart) refused in
+    ap (λ (r : Result ℕ OpenRefused). behind_head r bytes) head
+    ∙ ap (λ (b : Bool). if b then with_chart (take n (drop 6 bytes)) (entries_from 0 (6 + n) (drop (6 + n) bytes)) else Err (Damaged 6)) unaccepted
+
+-- a refusal of the chart is one of the whole
+pub refuses_whole : {A E : Type 0} (J : Type 0) (e : OpenRefused) (read : Result A E) (whole : Result (List ℕ × List Entry) OpenRefused) → Accepts (Err e) read → (IsErr read → whole ≡ Err (Damaged 6)) → Opens {J = J} (Err e) whole
+refuses_whole J NoMemory read whole gives refused = tt
+refuses_whole J Disk read whole gives refused = tt
+refuses_whole J (NotFounded len byte) read whole gives refused = absurd (cc (gives.0))
+refuses_whole J (Damaged offset) read whole gives refused = refused gives.1 ∙ ap (λ (x : OpenRefused). Err x) (sym gives.0)

@@ -1,0 +1,92 @@
+-- What the calls of a journal answer.
+use Rattle.std.specs.Prelude.{◌≡◌, ◌≢◌, ◌⊎◌, ⊤, ℕ, ◌+◌, ◌≤◌, true, false, List, [], ◌∷◌, ◌++◌, All, length, take, slice_index, Vec, Some, None, Result, Ok, Err, IsOk, IsErr, IsErrOf}
+use Rattle.std.specs.declared.alloc.Global.{Global}
+use Rattle.cf_base.specs.Causes.{Rose}
+use Rattle.cf_calls.specs.declared.entry.Entry.{Entry}
+use Rattle.cf_disk.specs.Images.{HalfCut, IsOnlyImage}
+use Rattle.cf_disk.specs.Moments.{AtEachMoment}
+use Rattle.cf_journal.specs.Records.{HasRecord, stated_len, entry_behind, entries_from, records_of}
+use Rattle.cf_journal.specs.Frames.{is_founded}
+use Rattle.cf_journal.specs.Layout.{RecoversTo}
+use Rattle.cf_journal.specs.declared.refused.OpenRefused.{OpenRefused}
+use Rattle.cf_journal.specs.declared.refused.OpenRefused.TheVariants as open_refused
+use Rattle.cf_journal.specs.declared.refused.FoundRefused.{FoundRefused}
+use Rattle.cf_journal.specs.declared.refused.FoundRefused.TheVariants as found_refused
+
+-- the answer `Disk` comes only where the count of faults rose in the call, and the count rises only there
+pub record HasDiskCause {T E : Type 0} (disk : E) (before now : ℕ) (result : Result T E) : Type 0 where
+  pub later : before ≤ now
+  pub failed : IsErrOf result disk → Rose before now
+  pub quiet : IsErrOf result disk ⊎ (now ≡ before)
+
+-- opening gives what the bytes stand for; a fault of the disk and want of memory are free
+abbrev pub Opens : {J : Type 0} → Result (J × Vec ℕ Global × Vec Entry Global) OpenRefused → Result (List ℕ × List Entry) OpenRefused → Type 0
+Opens (Ok x) frames = frames ≡ Ok (x.1.items, x.2.items)
+Opens (Err open_refused.Disk) frames = ⊤
+Opens (Err open_refused.NoMemory) frames = ⊤
+Opens (Err (open_refused.NotFounded len byte)) frames = frames ≡ Err (open_refused.NotFounded len byte)
+Opens (Err (open_refused.Damaged offset)) frames = frames ≡ Err (open_refused.Damaged offset)
+
+-- founding succeeds where the bytes are not founded, and is refused as already founded exactly where they are
+abbrev pub Founds : {A : Type 0} → Result A FoundRefused → List ℕ → Type 0
+Founds (Ok _) bytes = is_founded (length bytes) bytes ≡ false
+Founds (Err (found_refused.AlreadyFounded len byte)) bytes = (is_founded (length bytes) bytes ≡ true) × (len ≡ length bytes) × (byte ≡ slice_index bytes 0)
+Founds (Err found_refused.Disk) bytes = ⊤
+Founds (Err found_refused.NoMemory) bytes = ⊤
+
+-- the bytes are not founded, or recover to the chart and the empty history
+abbrev pub IsUnfoundedOr : List ℕ → List ℕ → Type 0
+IsUnfoundedOr chart image = (is_founded (length image) image ≡ false) ⊎ RecoversTo chart [] image
+
+-- an old image, cut to its first byte, or not yet
+abbrev pub IsCutFrom : (List ℕ → Type 0) → List ℕ → Type 0
+IsCutFrom old image = (earlier : List ℕ) × old earlier × HalfCut 1 earlier image
+
+-- what founding did up to its first sync that succeeded, and from there on
+pub record FromFirstSync {D : Type 0} (content : D → List ℕ) (is_image : D → List ℕ → Type 0) (moment : D → ℕ) (was_image : D → ℕ → List ℕ → Type 0) (old new : D) (chart : List ℕ) : Type 0 where
+  pub synced : D
+  pub before : AtEachMoment moment was_image old synced (IsCutFrom (is_image old))
+  pub bytes : content synced ≡ take 1 (content old)
+  pub only : IsOnlyImage (content synced) (is_image synced)
+  pub after : AtEachMoment moment was_image synced new (IsUnfoundedOr chart)
+
+-- ---- parts of opening
+
+-- a refusal that isn't free is this one
+abbrev pub Refuses : {A : Type 0} → OpenRefused → Result A OpenRefused → Type 0
+Refuses open_refused.Disk x = ⊤
+Refuses open_refused.NoMemory x = ⊤
+Refuses (open_refused.NotFounded len byte) x = x ≡ Err (open_refused.NotFounded len byte)
+Refuses (open_refused.Damaged offset) x = x ≡ Err (open_refused.Damaged offset)
+
+abbrev pub GivesHead : Result ℕ OpenRefused → Result ℕ OpenRefused → Type 0
+GivesHead (Ok n) x = x ≡ Ok n
+GivesHead (Err e) x = Refuses e x
+
+-- a chart that is refused is damage at its place
+abbrev pub Accepts : {A E : Type 0} → Result (Unit {0}) OpenRefused → Result A E → Type 0
+Accepts (Ok _) chart = IsOk chart
+Accepts (Err open_refused.NoMemory) chart = ⊤
+Accepts (Err e) chart = (e ≡ open_refused.Damaged 6) × IsErr chart
+
+-- the entry behind the gate at a place, with its payload's length
+abbrev pub GivesEntry : Result (ℕ × Entry) OpenRefused → ℕ → List ℕ → Type 0
+GivesEntry (Ok x) at behind = (x.0 ≡ stated_len behind) × (entry_behind behind ≡ Some x.1) × (5 + x.0 ≤ length behind)
+GivesEntry (Err open_refused.NoMemory) at behind = ⊤
+GivesEntry (Err e) at behind = (e ≡ open_refused.Damaged at) × (entry_behind behind ≡ None)
+
+-- the entries, and the place of the first gate that isn't open
+abbrev pub GivesEntries : Result (ℕ × Vec Entry Global) OpenRefused → ℕ → List ℕ → Type 0
+GivesEntries (Ok x) first records = entries_from 0 first records ≡ Ok x.1.items
+GivesEntries (Err open_refused.NoMemory) first records = ⊤
+GivesEntries (Err (open_refused.Damaged at)) first records = entries_from 0 first records ≡ Err at
+GivesEntries (Err e) first records = ⊥
+
+-- the records of these entries stand in front of the first gate that isn't open, whose place this is
+pub record EndsAt (first : ℕ) (bytes : List ℕ) (entries : List Entry) (place : ℕ) : Type 0 where
+  pub all : All HasRecord entries
+  pub gate : ℕ
+  pub behind : List ℕ
+  pub closed : gate ≢ 1
+  pub layout : bytes ≡ records_of entries ++ gate ∷ behind
+  pub at : place ≡ first + length (records_of entries)

@@ -1,0 +1,5 @@
+pub mod Records
+pub mod Frames
+pub mod Layout
+pub mod Journal
+pub mod Answers

@@ -1,0 +1,167 @@
+//! Appending to a journal.
+//!
+//! A record is written behind a closed gate that is on the disk, and synced; then the gate is opened by a
+//! write of its own, and synced. So a crash leaves the record out or has it whole.
+
+ghost use Rattle.std.specs.Prelude.{◌≡◌, ◌+◌, ◌*◌, ◌<◌, ◌≤◌, ◌^◌, [], ◌∷◌, ◌++◌, true, false, List, ℕ, IsTrue, OnOk, OnErr, is_ok, if◌then◌else◌, vec_len};
+ghost use Rattle.cf_base.specs.Causes.{HasCause};
+ghost use Rattle.cf_calls.specs.declared.entry.Entry.{Entry as EntryOf};
+ghost use Rattle.cf_calls.specs.Form.{IsEntryInForm};
+ghost use Rattle.cf_disk.specs.Moments.{AtEachMoment};
+ghost use Rattle.cf_journal.specs.Layout.{RecoversToEither};
+ghost use Rattle.cf_journal.specs.Records as records;
+
+use crate::refused::Disk_;
+use crate::steps::write_synced;
+use cf_calls::Entry;
+use cf_codec::{NoMemory, payload_len, write_entry};
+use cf_disk::Disk;
+use std::alloc::Global;
+
+/// The end of a journal, where the next entry is written.
+#[derive(Drop)]
+pub struct Journal {
+    // The place of the gate of the next record, which is closed unless an entry is in doubt.
+    gate: u64,
+    // How many entries stand before it.
+    count: u64,
+    // What is to stand behind the gate, up to the next one, which is closed; empty where nothing is reserved.
+    reserved: Vec<u8>,
+    // Whether the gate may be open all the same.
+    doubt: bool,
+    // A record has less than 2 ^ 26 bytes.
+    ghost small: { vec_len reserved ≤ 2 ^ 26 },
+    ghost room: { gate ≤ 2 ^ 63 + 2 ^ 33 + 2 ^ 26 * count },
+}
+
+/// The length in bytes of an entry's record with its gate: how far the next gate stands behind this one.
+pub fn record_len(entry: &Entry) -> u64
+    requires { IsEntryInForm entry.now }
+    ensures { result ≡ records.record_len entry.now }
+{
+    5 + payload_len(entry)
+}
+
+impl Journal {
+    ghost use Rattle.cf_journal.specs.Journal.{in_doubt, count_of, Reserves, IsSettled, IsInDoubt, AfterFailure, SamePlace};
+
+    /// The journal whose next gate stands at this place, behind so many entries.
+    pub(crate) fn at(alloc: Global, gate: u64, count: u64) -> Self
+        requires { gate ≤ 2 ^ 63 + 2 ^ 33 }
+        ensures gate { result.gate ≡ gate }
+        ensures count { result.count ≡ count }
+        ensures clear { in_doubt result ≡ false }
+    {
+        Journal {
+            gate,
+            count,
+            reserved: Vec::new(alloc),
+            doubt: false,
+        }
+    }
+
+    /// Takes the memory of an entry's record. Where there is none the journal stays, but nothing is reserved.
+    pub fn reserve(&mut self, entry: &Entry) -> Result<(), NoMemory>
+        requires { IsEntryInForm entry.now }
+        ensures ok { OnOk result (Reserves self.new entry.now) }
+        ensures place { SamePlace self.old self.new }
+    {
+        self.reserved.clear();
+        let size = payload_len(entry);
+        extend(&mut self.reserved, &(size as u32).to_be_bytes())?;
+        write_entry(entry, &mut self.reserved)?;
+        extend(&mut self.reserved, &[0])?;
+        Ok(())
+    }
+
+    /// Writes the reserved entry. From the start on a crash at any moment leaves the history, or the history
+    /// and the entry; after `Ok` it leaves both. After `Disk_` the entry is in doubt exactly where the write
+    /// of its gate, or the sync after that, failed. Where nothing is in doubt a crash leaves the history, and
+    /// the next entry is written to the same place.
+    pub fn append<D: Disk>(&mut self, disk: &mut D) -> Result<(), Disk_>
+        requires reserved { (e : EntryOf) × Reserves self.old e }
+        requires clear { in_doubt self.old ≡ false }
+        requires room { count_of self.old < 2 ^ 31 }
+
+        ensures ok { OnOk result ((chart : List ℕ) (history : List EntryOf) (entry : EntryOf)
+            → IsSettled D.tells D.is_image self.old disk.old chart history → Reserves self.old entry
+            → IsSettled D.tells D.is_image self.new disk.new chart (history ++ entry ∷ [])) }
+        ensures err { OnErr result ((chart : List ℕ) (history : List EntryOf) (entry : EntryOf)
+            → IsSettled D.tells D.is_image self.old disk.old chart history → Reserves self.old entry
+            → AfterFailure D.tells D.is_image self.new disk.new chart history entry) }
+
+        // What a crash leaves at any moment of the call.
+        ensures any_moment { IsTrue D.tells → (chart : List ℕ) (history : List EntryOf) (entry : EntryOf)
+            → IsSettled D.tells D.is_image self.old disk.old chart history → Reserves self.old entry
+            → AtEachMoment D.moment D.was_image disk.old disk.new (RecoversToEither chart history entry) }
+
+        ensures reserved { OnErr result ((e : EntryOf) → Reserves self.old e → Reserves self.new e) }
+        ensures count { count_of self.new ≡ (if is_ok result then count_of self.old + 1 else count_of self.old) }
+        ensures clear { OnOk result (in_doubt self.new ≡ false) }
+        ensures cause { HasCause (D.faults disk.old) (D.faults disk.new) result }
+        ensures quiet { OnOk result (D.faults disk.new ≡ D.faults disk.old) }
+    {
+        write_synced(disk, self.gate + 1, &self.reserved)?;
+        self.doubt = true;
+        write_synced(disk, self.gate, &[1])?;
+        self.doubt = false;
+        self.gate += self.reserved.len() as u64;
+        self.count += 1;
+        self.reserved.clear();
+        Ok(())
+    }
+
+    /// Closes the gate of the entry in doubt. At any moment a crash leaves the history, or the history and
+    /// that entry; after `Ok` it leaves the history, and nothing is in doubt.
+    pub fn mend<D: Disk>(&mut self, disk: &mut D) -> Result<(), Disk_>
+        requires { in_doubt self.old ≡ true }
+
+        ensures ok { OnOk result ((chart : List ℕ) (history : List EntryOf) (entry : EntryOf)
+            → IsInDoubt D.tells D.is_image self.old disk.old chart history entry
+            → IsSettled D.tells D.is_image self.new disk.new chart history) }
+        ensures err { OnErr result ((chart : List ℕ) (history : List EntryOf) (entry : EntryOf)
+            → IsInDoubt D.tells D.is_image self.old disk.old chart history entry
+            → IsInDoubt D.tells D.is_image self.new disk.new chart history entry) }
+
+        // What a crash leaves at any moment of the call.
+        ensures any_moment { IsTrue D.tells → (chart : List ℕ) (history : List EntryOf) (entry : EntryOf)
+            → IsInDoubt D.tells D.is_image self.old disk.old chart history entry
+            → AtEachMoment D.moment D.was_image disk.old disk.new (RecoversToEither chart history entry) }
+
+        ensures reserved { (e : EntryOf) → Reserves self.old e → Reserves self.new e }
+        ensures count { count_of self.new ≡ count_of self.old }
+        ensures clear { OnOk result (in_doubt self.new ≡ false) }
+        ensures doubt { OnErr result (in_doubt self.new ≡ true) }
+        ensures cause { HasCause (D.faults disk.old) (D.faults disk.new) result }
+        ensures quiet { OnOk result (D.faults disk.new ≡ D.faults disk.old) }
+    {
+        write_synced(disk, self.gate, &[0])?;
+        self.doubt = false;
+        Ok(())
+    }
+
+    /// The number of entries of the history.
+    pub fn count(&self) -> u64
+        ensures { result ≡ count_of self.now }
+    {
+        self.count
+    }
+
+    /// Whether an entry is in doubt.
+    pub fn in_doubt(&self) -> bool
+        ensures { result ≡ in_doubt self.now }
+    {
+        self.doubt
+    }
+}
+
+/// Adds bytes at the end.
+fn extend(out: &mut Vec<u8>, bytes: &[u8]) -> Result<(), NoMemory>
+    ensures ok { OnOk result (out.new.items ≡ out.old.items ++ bytes.now) }
+    ensures err { OnErr result (out.new.items ≡ out.old.items) }
+{
+    match out.extend_from_slice(bytes) {
+        Ok(()) => Ok(()),
+        Err(_) => Err(NoMemory),
+    }
+}

@@ -1,0 +1,197 @@
+//! Opening a journal.
+
+ghost use Rattle.std.specs.Prelude.{◌≡◌, ◌⊎◌, ◌+◌, ◌≤◌, ◌<◌, ◌^◌, ◌∷◌, ℕ, min, IsTrue, IsOk, IfOk, IfErr, OnOk, vec_len, length, take, drop};
+ghost use Rattle.std.specs.Int.{w32, to_be_bytes};
+ghost use Rattle.cf_chart.specs.Reading.{chart_of};
+ghost use Rattle.cf_disk.specs.Images.{AddsNone, IsOnlyImage};
+ghost use Rattle.cf_disk.specs.Moments.{Advances, AtEachMoment};
+ghost use Rattle.cf_journal.specs.Answers.{HasDiskCause, Opens, GivesHead, Accepts, GivesEntry, GivesEntries, EndsAt};
+ghost use Rattle.cf_journal.specs.Frames.{frames};
+ghost use Rattle.cf_journal.specs.Journal.{IsSettled};
+ghost use Rattle.cf_journal.specs.Frames as spec;
+ghost use Rattle.cf_journal.specs.Records as records;
+ghost use Rattle.cf_journal.specs.declared.refused.OpenRefused.TheVariants as open_refused;
+
+use crate::journal::Journal;
+use crate::refused::OpenRefused;
+use cf_calls::Entry;
+use cf_chart::{Chart, ChartRefused};
+use cf_codec::{CodecRefused, read_entry};
+use cf_disk::Disk;
+use std::alloc::Global;
+
+/// Opens the journal on a disk: its end, its chart and its entries. It syncs, then reads, and writes nothing.
+pub fn open<D: Disk>(
+    alloc: Global,
+    disk: &mut D,
+) -> Result<(Journal, Vec<u8>, Vec<Entry>), OpenRefused>
+    ensures answer { IsTrue D.tells → Opens result (frames (D.content disk.old)) }
+    ensures settled { IfOk result (λ x. IsSettled D.tells D.is_image x.0 disk.new x.1.items x.2.items) }
+
+    // It changes nothing, and at its end a crash leaves what a read gives.
+    ensures content { IsTrue D.tells → D.content disk.new ≡ D.content disk.old }
+    ensures durable { IsTrue D.tells → OnOk result (IsOnlyImage (D.content disk.new) (D.is_image disk.new)) }
+    ensures any_moment { AtEachMoment D.moment D.was_image disk.old disk.new (D.is_image disk.old) }
+
+    ensures cause { HasDiskCause open_refused.Disk (D.faults disk.old) (D.faults disk.new) result }
+{
+    disk.sync()?;
+    let len = disk.len()?;
+    read_journal(alloc, disk, len)
+}
+
+/// Reads the journal in a file of this length.
+fn read_journal<D: Disk>(
+    alloc: Global,
+    disk: &mut D,
+    len: u64,
+) -> Result<(Journal, Vec<u8>, Vec<Entry>), OpenRefused>
+    requires { IsTrue D.tells → len ≡ length (D.content disk.old) }
+    ensures answer { IsTrue D.tells → Opens result (frames (D.content disk.old)) }
+    ensures settled { IfOk result (λ x. (IsTrue D.tells → IsOnlyImage (D.content disk.old) (D.is_image disk.old))
+        → IsSettled D.tells D.is_image x.0 disk.new x.1.items x.2.items) }
+    ensures content { IsTrue D.tells → D.content disk.new ≡ D.content disk.old }
+    ensures images { AddsNone (D.is_image disk.old) (D.is_image disk.new) }
+    ensures any_moment { AtEachMoment D.moment D.was_image disk.old disk.new (D.is_image disk.old) }
+    ensures cause { HasDiskCause open_refused.Disk (D.faults disk.old) (D.faults disk.new) result }
+{
+    let chart_len = read_head(disk, len)?;
+    let chart = read_piece(alloc, disk, 6, chart_len)?;
+    match accept(alloc, &chart) {
+        Ok(()) => {}
+        Err(e) => return Err(e),
+    }
+    let first = 6 + chart_len;
+    let records = read_piece(alloc, disk, first, len - first)?;
+    let (gate, entries) = read_entries(alloc, &records, first)?;
+    Ok((
+        Journal::at(alloc, gate, entries.len() as u64),
+        chart,
+        entries,
+    ))
+}
+
+/// The chart's length, by the length of the file and its first six bytes. The chart and the gate behind it
+/// lie within the file.
+fn chart_len(head: &[u8], len: u64) -> Result<u64, OpenRefused>
+    requires { length head.now ≡ min 6 len }
+    ensures answer { result ≡ spec.chart_len len head.now }
+    ensures bytes { IfOk result (λ n. head.now ≡ 1 ∷ 1 ∷ to_be_bytes w32 n) }
+    ensures within { IfOk result (λ n. 7 + n ≤ len) }
+    ensures small { IfOk result (λ n. n < 2 ^ 32) }
+{
+    if len <= 1 || head[0] != 1 {
+        let byte = head.first().copied();
+        return Err(OpenRefused::NotFounded { len, byte });
+    }
+    if len < 6 || head[1] != 1 {
+        return Err(OpenRefused::Damaged { offset: 1 });
+    }
+    let n = u64::from(u32::from_be_bytes([head[2], head[3], head[4], head[5]]));
+    if len < 7 + n {
+        return Err(OpenRefused::Damaged { offset: 2 });
+    }
+    Ok(n)
+}
+
+/// Reads the head of a file of this length.
+fn read_head<D: Disk>(disk: &mut D, len: u64) -> Result<u64, OpenRefused>
+    requires { IsTrue D.tells → len ≡ length (D.content disk.old) }
+    ensures answer { IsTrue D.tells → GivesHead result (spec.chart_len len (take 6 (D.content disk.old))) }
+    ensures bytes { IsTrue D.tells → IfOk result (λ n. take 6 (D.content disk.old) ≡ 1 ∷ 1 ∷ to_be_bytes w32 n) }
+    ensures within { IfOk result (λ n. 7 + n ≤ len) }
+    ensures small { IfOk result (λ n. n < 2 ^ 32) }
+    ensures content { IsTrue D.tells → D.content disk.new ≡ D.content disk.old }
+    ensures images { AddsNone (D.is_image disk.old) (D.is_image disk.new) }
+    ensures time { Advances D.moment D.is_image D.was_image disk.old disk.new }
+    ensures cause { HasDiskCause open_refused.Disk (D.faults disk.old) (D.faults disk.new) result }
+{
+    let mut head = [0u8; 6];
+    let known = len.min(6) as usize;
+    disk.read(0, &mut head[..known])?;
+    chart_len(&head[..known], len)
+}
+
+/// Reads so many bytes from a place on.
+fn read_piece<D: Disk>(
+    alloc: Global,
+    disk: &mut D,
+    at: u64,
+    len: u64,
+) -> Result<Vec<u8>, OpenRefused>
+    requires { IsTrue D.tells → at + len ≤ length (D.content disk.old) }
+    ensures bytes { IsTrue D.tells → IfOk result (λ piece. piece.items ≡ take len (drop at (D.content disk.old))) }
+    ensures len { IfOk result (λ piece. vec_len piece ≡ len) }
+    ensures refused { IfErr result (λ e. (e ≡ open_refused.Disk) ⊎ (e ≡ open_refused.NoMemory)) }
+    ensures content { IsTrue D.tells → D.content disk.new ≡ D.content disk.old }
+    ensures images { AddsNone (D.is_image disk.old) (D.is_image disk.new) }
+    ensures time { Advances D.moment D.is_image D.was_image disk.old disk.new }
+    ensures cause { HasDiskCause open_refused.Disk (D.faults disk.old) (D.faults disk.new) result }
+{
+    let mut piece = Vec::new(alloc);
+    piece.resize(len as usize, 0)?;
+    disk.read(at, piece.as_mut_slice())?;
+    Ok(piece)
+}
+
+/// Whether a chart is accepted.
+fn accept(alloc: Global, chart: &[u8]) -> Result<(), OpenRefused>
+    ensures { Accepts result (chart_of chart.now) }
+{
+    match Chart::read(alloc, chart) {
+        Ok(_) => Ok(()),
+        Err(ChartRefused::Fault(_)) => Err(OpenRefused::Damaged { offset: 6 }),
+        Err(ChartRefused::NoMemory) => Err(OpenRefused::NoMemory),
+    }
+}
+
+/// The payload's length, as it stands behind a gate.
+fn stated_len(behind: &[u8]) -> u64
+    requires { 4 ≤ length behind.now }
+    ensures value { result ≡ records.stated_len behind.now }
+    ensures small { result < 2 ^ 32 }
+{
+    u64::from(u32::from_be_bytes([behind[0], behind[1], behind[2], behind[3]]))
+}
+
+/// The entry of the record behind the open gate at a place, with its payload's length.
+fn entry_behind(alloc: Global, behind: &[u8], at: u64) -> Result<(u64, Entry), OpenRefused>
+    ensures { GivesEntry result at behind.now }
+{
+    if behind.len() < 5 {
+        return Err(OpenRefused::Damaged { offset: at });
+    }
+    let n = stated_len(behind);
+    if (behind.len() as u64) < 5 + n {
+        return Err(OpenRefused::Damaged { offset: at });
+    }
+    match read_entry(alloc, &behind[4..4 + n as usize]) {
+        Ok((entry, len)) if len as u64 == n => Ok((n, entry)),
+        Ok(_) => Err(OpenRefused::Damaged { offset: at }),
+        Err(CodecRefused::Fault(_)) => Err(OpenRefused::Damaged { offset: at }),
+        Err(CodecRefused::NoMemory) => Err(OpenRefused::NoMemory),
+    }
+}
+
+/// The entries of the records from the first gate on, which stands at `first`, and the place of the first
+/// gate that isn't open.
+fn read_entries(alloc: Global, records: &[u8], first: u64) -> Result<(u64, Vec<Entry>), OpenRefused>
+    requires some { 0 < length records.now }
+    requires fits { first < 2 ^ 33 }
+    ensures answer { GivesEntries result first records.now }
+    ensures layout { IfOk result (λ x. EndsAt first records.now x.1.items x.0) }
+{
+    let mut entries = Vec::new(alloc);
+    let mut place = 0;
+    while records[place] == 1 {
+        let behind = &records[place + 1..];
+        match entry_behind(alloc, behind, first + place as u64) {
+            Ok((n, entry)) => {
+                entries.push(entry)?;
+                place += 5 + n as usize;
+            }
+            Err(e) => return Err(e),
+        }
+    }
+    Ok((first + place as u64, entries))
+}

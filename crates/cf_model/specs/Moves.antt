@@ -1,0 +1,102 @@
+-- What an act on documents moves of line numbers, item by item (own rule).
+use Rattle.std.specs.Prelude.{ℕ, if◌then◌else◌, ◌==◌, List, [], ◌∷◌, ◌++◌, Option, Some, None, map, ℤ, pos, ◌+ℤ◌, ◌-ℤ◌}
+use Rattle.std.specs.List.{filter}
+use Rattle.cf_base.specs.declared.calendar.Day.{Day}
+use Rattle.cf_calls.specs.declared.acts.Act.{Act}
+use Rattle.cf_calls.specs.declared.acts.Act.TheVariants.{Requisition, Withdraw, Order, ChangeOrder, CancelOrder, Voucher, VoidVoucher}
+use Rattle.cf_calls.specs.declared.items.AccountItem.{AccountItem}
+use Rattle.cf_calls.specs.declared.items.VoucherItem.{VoucherItem}
+use Rattle.cf_calls.specs.declared.items.Charge.{Charge}
+use Rattle.cf_calls.specs.declared.items.Charge.TheVariants.{Direct, OnOrder}
+use Rattle.cf_chart.specs.Plan.{Plan}
+use Rattle.cf_model.specs.Calendar.{document_year}
+use Rattle.cf_model.specs.OrderItems.{OrderItem, open_of, is_named, item_named, item_step}
+use Rattle.cf_model.specs.Documents.{Hold, Expenditure, Documents, is_number}
+use Rattle.cf_calls.specs.declared.entry.Entry.{Entry}
+use Rattle.cf_model.specs.LineNumbers.{counts, held_amount, expended_amount, added_by, removed_by}
+
+-- what one item moves of its account's line in a year
+pub record Move : Type 0 where
+  pub account : AccountItem
+  pub year : ℕ
+  pub held : ℤ
+  pub encumbered : ℤ
+  pub expended : ℤ
+
+-- an amount that is held, and one that is released
+abbrev pub hold_move : ℕ → AccountItem → Move
+hold_move year a = record { account = a; year = year; held = pos a.amount; encumbered = pos 0; expended = pos 0 }
+
+abbrev pub release_move : Hold → Move
+release_move h = record { account = h.account; year = h.year; held = pos 0 -ℤ pos (held_amount h.state h.account.amount); encumbered = pos 0; expended = pos 0 }
+
+-- an amount that is ordered
+abbrev pub order_move : ℕ → AccountItem → Move
+order_move year a = record { account = a; year = year; held = pos 0; encumbered = pos a.amount; expended = pos 0 }
+
+-- the rise of what is open where an item is moved
+abbrev pub open_rise : (OrderItem → OrderItem) → OrderItem → ℤ
+open_rise step i = pos (open_of (step i)) -ℤ pos (open_of i)
+
+abbrev pub item_move : (OrderItem → OrderItem) → OrderItem → Move
+item_move step i = record { account = i.account; year = i.year; held = pos 0; encumbered = open_rise step i; expended = pos 0 }
+
+-- an amount that is spent, and one that is taken back
+abbrev pub spend_move : ℕ → VoucherItem → Move
+spend_move year v = record { account = v.account; year = year; held = pos 0; encumbered = pos 0; expended = pos v.account.amount }
+
+abbrev pub unspend_move : Expenditure → Move
+unspend_move x = record { account = x.account; year = x.year; held = pos 0; encumbered = pos 0; expended = pos 0 -ℤ pos (expended_amount x.state x.account.amount) }
+
+-- the order's item that a charge is against
+abbrev pub charged_item : Charge → List OrderItem → Option OrderItem
+charged_item Direct items = None
+charged_item (OnOrder order place how) items = item_named order place items
+
+abbrev pub move_if : (OrderItem → OrderItem) → AccountItem → ℕ → Option OrderItem → Move
+move_if step account year None = record { account = account; year = year; held = pos 0; encumbered = pos 0; expended = pos 0 }
+move_if step account year (Some i) = item_move step i
+
+-- what a voucher's item liquidates or opens again of its order's item, and nothing where it is direct
+abbrev pub charge_move : (OrderItem → OrderItem) → List OrderItem → ℕ → VoucherItem → Move
+charge_move step items year v = move_if step v.account year (charged_item v.charge items)
+
+abbrev pub reopen_move : (OrderItem → OrderItem) → List OrderItem → Expenditure → Move
+reopen_move step items x = move_if step x.account x.year (charged_item x.charge items)
+
+-- the items of a voucher
+abbrev pub spent_by : ℕ → List Expenditure → List Expenditure
+spent_by voucher expenditures = filter (λ x. x.voucher == voucher) expenditures
+
+abbrev pub releases : Option ℕ → List Hold → List Move
+releases requisition holds = map release_move (filter (λ h. is_number requisition h.requisition) holds)
+
+-- the moves of an act that draws this number, in the order of its documents' items
+abbrev pub moves_of : Plan → Documents → ℕ → Day → Act → List Move
+moves_of plan s number on (Requisition r) = map (hold_move (document_year plan on (Requisition r))) r.items
+moves_of plan s number on (Withdraw n) = releases (Some n) s.holds
+moves_of plan s number on (Order o) = releases o.requisition s.holds ++ map (order_move (document_year plan on (Order o))) o.items
+moves_of plan s number on (ChangeOrder c) = map (item_move (item_step plan number (ChangeOrder c))) (filter (is_named c.order c.item) s.items)
+moves_of plan s number on (CancelOrder n) = map (item_move (item_step plan number (CancelOrder n))) (filter (λ i. i.order == n) s.items)
+moves_of plan s number on (Voucher v) =
+    map (spend_move (document_year plan on (Voucher v))) v.items
+    ++ map (charge_move (item_step plan number (Voucher v)) s.items (document_year plan on (Voucher v))) v.items
+moves_of plan s number on (VoidVoucher n) =
+    map unspend_move (spent_by n s.expenditures)
+    ++ map (reopen_move (item_step plan number (VoidVoucher n)) s.items) (spent_by n s.expenditures)
+moves_of plan s number on _ = []
+
+-- what moves make of one number of a line and year
+abbrev pub moved_sum : (Move → ℤ) → Plan → ℕ → ℕ → List Move → ℤ
+moved_sum f plan line year [] = pos 0
+moved_sum f plan line year (m ∷ moves) = (if counts plan line year m.account m.year then f m else pos 0) +ℤ moved_sum f plan line year moves
+
+-- what moves ask of a line and year: by how much they narrow its room
+abbrev pub asks_of_moves : Plan → ℕ → ℕ → List Move → ℤ
+asks_of_moves plan line year moves = moved_sum (λ m. (m.held +ℤ m.encumbered) +ℤ m.expended) plan line year moves
+
+-- what an entry asks of a line and year, over these documents
+abbrev pub asked_of : Plan → Documents → Entry → ℕ → ℕ → ℤ
+asked_of plan s e line year =
+    (pos (removed_by line year e.change.act) -ℤ pos (added_by line year e.change.act))
+    +ℤ asks_of_moves plan line year (moves_of plan s e.drawn.number e.change.on e.change.act)

@@ -1,0 +1,14 @@
+pub mod Lists
+pub mod Ranges
+pub mod Charging
+pub mod Reading
+pub mod Keeping
+pub mod Voided
+pub mod Changing
+pub mod Entering
+pub mod Allowed
+pub mod Stepping
+pub mod Picking
+pub mod Moving
+pub mod Summing
+pub mod Showing

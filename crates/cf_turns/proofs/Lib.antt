@@ -1,0 +1,5 @@
+pub mod Beginnings
+pub mod Numbers
+pub mod Places
+pub mod Views
+pub mod Moves
