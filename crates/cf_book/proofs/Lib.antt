@@ -1,0 +1,3 @@
+pub mod InForm
+pub mod Replies
+pub mod Keeping
