@@ -1,5 +1,5 @@
 -- An entry that the step adds is in form.
-use Rattle.std.proofs.Common.{◌≡◌, ℕ, Bool, true, false, not, ◌&&◌, List, [], ◌∷◌, ◌++◌, map, None, refl, ap, ◌∙◌, cases}
+use Rattle.std.proofs.Common.{◌≡◌, ℕ, Bool, true, false, not, ◌&&◌, List, [], ◌∷◌, ◌++◌, map, None, unsigned_abs, refl, ap, ◌∙◌, arith}
 use Rattle.std.specs.List.{list_all}
 use Rattle.cf_base.specs.Money.{is_amount}
 use Rattle.cf_calls.specs.declared.acts.Act.{Act}
@@ -16,7 +16,7 @@ use Rattle.cf_model.proofs.Accepted.{accepted}
 use Rattle.cf_model.proofs.First.{or_else_none, refuse_none}
 
 one : (a : ℕ) → bad_amount (amount a) ≡ None → is_amount a ≡ true
-one a e = let b = refuse_none _ (refusal.AmountRange a) e in grind
+one a e = let b = refuse_none _ (refusal.AmountRange a) e in grind arith
 
 only : (a : ℕ) → first_refusal bad_amount (amount a ∷ []) ≡ None → is_amount a ≡ true
 only a e = one a (or_else_none (bad_amount (amount a)) None e).0
@@ -42,12 +42,12 @@ within : (plan : Plan) (act : Act) → is_built plan act ≡ true → amount_ref
 within plan (Adopt a) built none =
     let lines = all (λ r. r.amount) a.lines (map (λ r. amount r.amount) a.estimates) none in
     (lines.0, every (λ r. r.amount) a.estimates lines.1)
-within plan (Amend a) built none = only _ none
+within plan (Amend a) built none = only (unsigned_abs a.by) none
 within plan (Transfer t) built none = only t.amount none
 within plan (Requisition r) built none = every (λ i. i.amount) r.items none
 within plan (Withdraw n) built none = tt
 within plan (Order o) built none = every (λ i. i.amount) o.items none
-within plan (ChangeOrder c) built none = only _ none
+within plan (ChangeOrder c) built none = only (unsigned_abs c.by) none
 within plan (CancelOrder n) built none = tt
 within plan (Voucher v) built none = every (λ i. i.account.amount) v.items none
 within plan (VoidVoucher n) built none = tt

@@ -1,5 +1,5 @@
 -- A book goes on standing for a state.
-use Rattle.std.proofs.Common.{◌≡◌, ◌⊎◌, ℕ, Bool, List, [], ◌∷◌, ◌++◌, length, Option, Some, None, IfSome, Ok, refl, sym, ap, subst, ◌∙◌, inl, inr}
+use Rattle.std.proofs.Common.{◌≡◌, ◌⊎◌, ℕ, Bool, true, false, List, [], ◌∷◌, ◌++◌, length, Option, Some, None, IfSome, Ok, refl, sym, ap, subst, ◌∙◌, inl, inr}
 use Rattle.cf_base.specs.Causes.{Rose}
 use Rattle.cf_calls.specs.declared.call.Call.TheVariants as call
 use Rattle.cf_calls.specs.declared.call.Change.{Change}
@@ -11,7 +11,7 @@ use Rattle.cf_calls.specs.declared.reply.Posted.TheVariants as posted
 use Rattle.cf_calls.specs.declared.reply.Verdict.TheVariants.{Accept}
 use Rattle.cf_calls.specs.Form.{IsChangeInForm}
 use Rattle.cf_chart.specs.Plan.{Plan}
-use Rattle.cf_journal.specs.Journal.{SamePlace, IsSettled}
+use Rattle.cf_journal.specs.Journal.{SamePlace, IsSettled, AfterFailure, in_doubt}
 use Rattle.cf_journal.specs.declared.journal.Journal.{Journal}
 use Rattle.cf_journal.proofs.Keeping.{settled_kept, doubt_kept}
 use Rattle.cf_model.specs.Step.{Adds, verdict_of, made_by}
@@ -42,7 +42,7 @@ module _ {D : Type 0} (tells : Bool) (is_image : D → List ℕ → Type 0) (fau
     chart = st.chart;
     kept = keeps_same old new disk chart h s.doubt same st.kept;
     adds = st.adds;
-    faults = st.faults;
+    counted = st.counted;
   })
 
   adds_which : (plan : Plan) (h : List Entry) (before doubt : Option Entry) (e : Entry) → IfSome before (Adds plan h) → Adds plan h e → (doubt ≡ before) ⊎ ((doubt ≡ None) ⊎ (doubt ≡ Some e)) → IfSome doubt (Adds plan h)
@@ -70,7 +70,7 @@ module _ {D : Type 0} (tells : Bool) (is_image : D → List ℕ → Type 0) (fau
             would = record { change = c; drawn = drawn; called = refl; accepts = said; entry = refl };
             plan = refl;
             entries = refl;
-            rose = rw st.faults rose;
+            rose = rw st.counted rose;
             doubt = w.which;
           }),
           stands_at plan plan' h h' new disk' chart after p e (record {
@@ -79,7 +79,7 @@ module _ {D : Type 0} (tells : Bool) (is_image : D → List ℕ → Type 0) (fau
             chart = st.chart;
             kept = w.kept;
             adds = adds_which plan h s.doubt w.doubt (entry_by c drawn) st.adds (adds_accepted plan h c drawn form accepts) w.which;
-            faults = refl;
+            counted = refl;
           }),
         )
 
@@ -99,6 +99,14 @@ module _ {D : Type 0} (tells : Bool) (is_image : D → List ℕ → Type 0) (fau
             chart = st.chart;
             kept = settled s.doubt kept;
             adds = tt;
-            faults = st.faults ∙ sym quiet;
+            counted = st.counted ∙ sym quiet;
           }),
         )
+
+  -- after an append that failed
+  pub write_fails : (journal : Journal) (disk : D) (chart : List ℕ) (h : List Entry) (e : Entry) (before : Option Entry) → AfterFailure tells is_image journal disk chart h e → WriteFails tells is_image journal disk chart h e before
+  write_fails journal disk chart h e before f = by_doubt (in_doubt journal) refl
+    where
+      by_doubt : (b : Bool) → in_doubt journal ≡ b → WriteFails tells is_image journal disk chart h e before
+      by_doubt false is = record { doubt = None; kept = f.clear is; which = inr (inl refl) }
+      by_doubt true is = record { doubt = Some e; kept = f.doubt is; which = inr (inr refl) }

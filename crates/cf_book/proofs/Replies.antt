@@ -13,6 +13,7 @@ use Rattle.cf_calls.specs.declared.reply.Posted.TheVariants as posted
 use Rattle.cf_calls.specs.declared.reply.Reply.{Reply}
 use Rattle.cf_calls.specs.declared.reply.Verdict.{Verdict}
 use Rattle.cf_calls.specs.declared.reply.Verdict.TheVariants.{Accept, Repeat, Refuse, Unbuilt}
+use Rattle.cf_chart.specs.Plan.{Plan}
 use Rattle.cf_model.specs.Step.{verdict_of, change_body, next_by, made_at, made_by}
 use Rattle.cf_office.specs.Posts.{Posts}
 use Rattle.cf_book.specs.DurableState.{DurableState}
@@ -53,3 +54,23 @@ pub accepted_settles : (s : DurableState) (c : Change) (drawn : Drawn) → verdi
     → Settles s (call.Change c) (Some (posted.Reply (record { at = length (s.entries ++ entry_by c drawn ∷ []); body = Done (made_by drawn c.act) None })))
       (record s { entries = s.entries ++ entry_by c drawn ∷ []; doubt = None })
 accepted_settles s c drawn e = by_verdict s c (Accept drawn) (Done (made_by drawn c.act) None) e refl
+
+-- ---- by what the office says of its own chart and history
+
+pub repeat_answers : (s : DurableState) (plan : Plan) (h : List Entry) (c : Change) (was : ℕ) (p : Posted) → s.plan ≡ plan → s.entries ≡ h → Repeat was ≡ verdict_of plan h c
+    → p ≡ posted.Reply (record { at = length h; body = Done (made_at h was) (Some was) }) → Settles s (call.Change c) (Some p) s
+repeat_answers s plan h c was p same now says is =
+    subst (λ (x : Posted). Settles s (call.Change c) (Some x) s) (ap (λ (x : List Entry). posted.Reply (record { at = length x; body = Done (made_at x was) (Some was) })) now ∙ sym is)
+    (repeat_settles s c was (rw (same, now) (sym says)))
+
+pub refusal_answers : (s : DurableState) (plan : Plan) (h : List Entry) (c : Change) (r : Refusal) (p : Posted) → s.plan ≡ plan → s.entries ≡ h → Refuse r ≡ verdict_of plan h c
+    → p ≡ posted.Reply (record { at = length h; body = Refused r }) → Settles s (call.Change c) (Some p) s
+refusal_answers s plan h c r p same now says is =
+    subst (λ (x : Posted). Settles s (call.Change c) (Some x) s) (ap (λ (x : List Entry). posted.Reply (record { at = length x; body = Refused r })) now ∙ sym is)
+    (refusal_settles s c r (rw (same, now) (sym says)))
+
+pub unbuilt_answers : (s : DurableState) (plan : Plan) (h : List Entry) (c : Change) → s.plan ≡ plan → s.entries ≡ h → Unbuilt ≡ verdict_of plan h c → Settles s (call.Change c) None s
+unbuilt_answers s plan h c same now says = unbuilt_settles s c (rw (same, now) (sym says))
+
+pub look_answers : (s : DurableState) (plan : Plan) (h : List Entry) (l : Look) (given : Option Posted) → s.plan ≡ plan → s.entries ≡ h → Posts plan h (call.Look l) h given → Settles s (call.Look l) given s
+look_answers s plan h l given same now says = look_settles s l given (rw (same, now) says)

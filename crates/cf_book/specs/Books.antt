@@ -18,13 +18,13 @@ Keeps tells is_image journal disk chart history None = IsSettled tells is_image 
 Keeps tells is_image journal disk chart history (Some e) = IsInDoubt tells is_image journal disk chart history e
 
 -- The office, its journal and its disk stand for this state, under these bytes of the chart.
-pub record StandsFor {D : Type 0} (tells : Bool) (is_image : D → List ℕ → Type 0) (faults : D → ℕ) (plan : Plan) (entries : List Entry) (journal : Journal) (disk : D) (chart : List ℕ) (s : DurableState) : Type 0 where
-  pub plan : s.plan ≡ plan
-  pub entries : s.entries ≡ entries
-  pub chart : chart_of chart ≡ Ok plan
-  pub kept : Keeps tells is_image journal disk chart entries s.doubt
-  pub adds : IfSome s.doubt (Adds plan entries)
-  pub faults : s.faults ≡ faults disk
+pub record StandsFor {D : Type 0} (tells : Bool) (is_image : D → List ℕ → Type 0) (faults : D → ℕ) (under : Plan) (history : List Entry) (journal : Journal) (disk : D) (bytes : List ℕ) (s : DurableState) : Type 0 where
+  pub plan : s.plan ≡ under
+  pub entries : s.entries ≡ history
+  pub chart : chart_of bytes ≡ Ok under
+  pub kept : Keeps tells is_image journal disk bytes history s.doubt
+  pub adds : IfSome s.doubt (Adds under history)
+  pub counted : s.faults ≡ faults disk
 
 abbrev pub Stands : {D : Type 0} → Bool → (D → List ℕ → Type 0) → (D → ℕ) → Book D → List ℕ → DurableState → Type 0
 Stands tells is_image faults book chart s = StandsFor tells is_image faults book.office.plan book.office.entries book.journal book.disk chart s

@@ -8,7 +8,6 @@ ghost use Rattle.cf_calls.specs.declared.reply.Verdict.TheVariants.{Accept};
 ghost use Rattle.cf_journal.specs.Journal.{count_of, Reserves, SamePlace};
 ghost use Rattle.cf_model.specs.Step as step;
 ghost use Rattle.cf_office.specs.BookState.{IsPrepared};
-ghost use Rattle.cf_book.specs.Books.{Answers};
 
 use crate::writing::write;
 use cf_calls::{Body, Call, Change, Drawn, Posted, Reply, Verdict, entry_of};
@@ -19,7 +18,7 @@ use std::alloc::Global;
 
 /// An office with the journal that keeps its history on a disk.
 #[derive(Drop)]
-pub struct Book<D: Disk + Drop> {
+pub struct Book<D: Drop> {
     pub office: BookOffice,
     pub journal: Journal,
     pub disk: D,
@@ -42,12 +41,16 @@ fn prepare(
     ensures prepared { IfSome result (λ p. IsPrepared office.new p (record { change = record change.now { after = None }; drawn = drawn })) }
     ensures reserved { IfSome result (λ p. Reserves journal.new (record { change = record change.now { after = None }; drawn = drawn })) }
 {
-    let entry = entry_of(alloc, change, drawn).ok()?;
+    let Ok(entry) = entry_of(alloc, change, drawn) else {
+        return None;
+    };
     journal.reserve(&entry).ok()?;
     office.reserve(entry).ok()
 }
 
 impl<D: Disk + Drop> Book<D> {
+    ghost use Rattle.cf_book.specs.Books.{Answers};
+
     /// What is given for a call: the step's reply, with the step's next history; want of memory or a fault of the
     /// disk, which leave the history; or `None` for a call that the office doesn't know yet. The entry of an
     /// accepted change stands on the disk when its reply is given.

@@ -1,6 +1,7 @@
 //! Opening a book: the journal's entries are judged again, one after another.
 
-ghost use Rattle.std.specs.Prelude.{◌≡◌, ◌+◌, ◌<◌, ◌^◌, [], ◌++◌, ◌∷◌, ℕ, List, All, Ok, IsTrue, IfOk, OnOk, OnErr, IfErr};
+ghost use Rattle.std.specs.Prelude.{◌≡◌, ◌+◌, ◌<◌, ◌^◌, [], ◌++◌, ◌∷◌, ℕ, List, length, All, Ok, IsTrue, IfOk, OnOk, OnErr, IfErr};
+ghost use Rattle.cf_calls.specs.Form.{IsEntryInForm};
 ghost use Rattle.cf_chart.specs.Reading.{chart_of};
 ghost use Rattle.cf_disk.specs.Images.{IsOnlyImage};
 ghost use Rattle.cf_disk.specs.Moments.{AtEachMoment};
@@ -9,7 +10,7 @@ ghost use Rattle.cf_journal.specs.Journal.{IsSettled};
 ghost use Rattle.cf_journal.specs.Records.{HasRecord};
 ghost use Rattle.cf_book.specs.Recovery as spec;
 ghost use Rattle.cf_book.specs.Recovery.{first_refused, recovered};
-ghost use Rattle.cf_book.specs.Openings.{Reopens, IsOpened, Replays, Readmits};
+ghost use Rattle.cf_book.specs.Openings.{Reopens, Replayed, IsOpened, OpensBook, OpensNone, Replays, Readmits};
 ghost use Rattle.cf_book.specs.declared.refused.BookRefused.TheVariants as refused;
 
 use crate::book::Book;
@@ -18,7 +19,7 @@ use cf_calls::{Drawn, Entry, Verdict, number};
 use cf_chart::{Chart, ChartRefused};
 use cf_disk::Disk;
 use cf_journal::{Journal, open as open_journal, record_len};
-use cf_office::{BookOffice, History, Office, judge};
+use cf_office::{BookOffice, Office, judge};
 use std::alloc::Global;
 
 /// Why no book was opened, with the disk.
@@ -31,6 +32,8 @@ pub struct NotOpened<D: Drop> {
 /// Opens the book of the journal on a disk: the chart and the entries are read, and the entries are judged again, one
 /// after another. It syncs, then reads, and writes nothing.
 pub fn open<D: Disk + Drop>(alloc: Global, mut disk: D) -> Result<Book<D>, NotOpened<D>>
+    ensures ok { IfOk result (λ b. OpensBook D.tells D.content D.is_image D.moment D.was_image D.faults disk b) }
+    ensures err { IfErr result (λ e. OpensNone D.tells D.content D.is_image D.moment D.was_image D.faults disk e.disk e.why) }
 {
     match open_office(alloc, &mut disk) {
         Ok((office, journal)) => Ok(Book {
@@ -108,6 +111,7 @@ fn readmit(office: &mut BookOffice, entry: Entry, gate: u64) -> Result<(), BookR
     requires { HasRecord entry }
     ensures plan { office.new.plan ≡ office.old.plan }
     ensures ok { OnOk result (office.new.entries ≡ office.old.entries ++ entry ∷ []) }
+    ensures few { OnOk result (length office.old.entries < 1048576) }
     ensures answer { Readmits result gate (spec.entry_refusal office.old.plan office.old.entries entry) }
 {
     if let Some(refusal) = refusal_of(office, &entry) {

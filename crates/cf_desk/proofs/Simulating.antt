@@ -62,3 +62,13 @@ module _ {S T : Type 0} (inner : Rule S) (outer : Rule T) (R : S → T → Type 
   outcome_seen s s' held held' t left left' how o r =
       let n : (t' : T) × Ends outer (moment_of t held) (moment_of t' held') left' o.taken how × R s' t' = ends_seen s s' held held' t left' o.taken how o.ends r in
       (n.0, record { taken = o.taken; took = o.took; ends = n.1 }, n.2)
+
+-- the talk of a run, whatever its status
+pub ended_talk : {O : Type 0} (rule : Rule O) (old new : Moment O) (left : Option (List ℕ)) (taken : List ℕ) (how : Ended) → Ends rule old new left taken how
+    → (lines : List (List ℕ)) × (answers : List (List ℕ)) × Talk rule old.office lines answers new.office
+ended_talk rule old new left taken status.Ok e = (_, e.2.holds.answers, e.2.holds.talk)
+ended_talk rule old new left taken status.ReadFault e = (_, e.1.holds.answers, e.1.holds.talk)
+ended_talk rule old new left taken status.WriteFault (inl e) = (_, e.1.holds.answers, e.1.holds.talk)
+ended_talk rule old new left taken status.WriteFault (inr e) = (_, e.holds.holds.answers, e.holds.holds.talk)
+ended_talk rule old new left taken status.InputLimit e = (_, e.holds.holds.answers, e.holds.holds.talk)
+ended_talk rule old new left taken status.NoMemory e = ([], [], e.1)

@@ -106,7 +106,7 @@ fn answer_always<D: Disk + Drop>(
 
 /// A clerk with a book: what answers the lines of a desk.
 #[derive(Drop)]
-pub struct Clerk<D: Disk + Drop> {
+pub struct Clerk<D: Drop> {
     pub alloc: Global,
     pub book: Book<D>,
     // Whether the last line was an accepted change.

@@ -1,10 +1,13 @@
 //! The run of `desk`.
 
-ghost use Rattle.std.specs.Prelude.{◌≡◌, ◌⊎◌, ℕ, List, Option, IsTrue};
+ghost use Rattle.std.specs.Prelude.{◌≡◌, [], ℕ, List, Option, Ok};
+ghost use Rattle.std.specs.Io.KnownBytes.{Consumes};
 ghost use Rattle.cf_base.specs.Causes.{Rose};
 ghost use Rattle.cf_desk.specs.declared.ended.Ended.TheVariants as ended;
-ghost use Rattle.cf_top.specs.Runs.{DeskEnds, DeskRan, status_of_ended, status_of_refused};
+ghost use Rattle.cf_book.specs.Openings.{IsOpened};
+ghost use Rattle.cf_top.specs.Runs.{DeskEnds, DeskKept, opened, status_of_ended, status_of_refused};
 ghost use Rattle.cf_top.specs.Devices.{device};
+ghost use Rattle.cf_top.specs.Words.{command_of};
 
 use crate::clerk::Clerk;
 use crate::running::Ran;
@@ -47,6 +50,12 @@ fn keep_desk<I: Source, O: Sink, D: Disk + Drop>(
     input: &mut I,
     out: &mut O,
 ) -> (Ended, D)
+    requires { IsOpened D.tells D.is_image book.disk book.office book.journal }
+    ensures kept { DeskKept (device D.tells D.content D.is_image D.moment D.was_image D.faults) (opened book.office.plan book.office.entries (D.faults book.disk)) result.1
+        (I.left input.old) (I.left input.new) (O.held out.old) (O.held out.new) result.0 }
+    ensures silent { result.0 ≡ ended.NoMemory → Consumes (I.left input.old) (I.left input.new) [] × (O.held out.new ≡ O.held out.old) × (result.1 ≡ book.disk) }
+    ensures read { result.0 ≡ ended.ReadFault → Rose (I.faults input.old) (I.faults input.new) }
+    ensures write { result.0 ≡ ended.WriteFault → Rose (O.faults out.old) (O.faults out.new) }
 {
     let mut clerk = Clerk {
         alloc,
@@ -66,6 +75,11 @@ fn desk_over<I: Source, O: Sink, D: Disk + Drop>(
     out: &mut O,
     disk: D,
 ) -> Ran<D>
+    ensures ends { DeskEnds (device D.tells D.content D.is_image D.moment D.was_image D.faults) disk result.disk
+        (I.left input.old) (I.left input.new) (O.held out.old) (O.held out.new) result.status }
+    ensures read { result.status ≡ Status.ReadFault → Rose (I.faults input.old) (I.faults input.new) }
+    ensures write { result.status ≡ Status.WriteFault → Rose (O.faults out.old) (O.faults out.new) }
+    ensures disk { result.status ≡ Status.DiskFault → Rose (D.faults disk) (D.faults result.disk) }
 {
     match open(alloc, disk) {
         Ok(book) => {
@@ -91,6 +105,14 @@ pub fn run_desk<I: Source, O: Sink, D: Disk + Drop>(
     out: &mut O,
     disk: D,
 ) -> Ran<D>
+    ensures ends { command_of words.now ≡ Ok Command.Desk
+        → DeskEnds (device D.tells D.content D.is_image D.moment D.was_image D.faults) disk result.disk
+            (I.left input.old) (I.left input.new) (O.held out.old) (O.held out.new) result.status }
+    ensures words { (command_of words.now ≡ Ok Command.Desk → ⊥)
+        → (result.status ≡ Status.BadWords) × (I.left input.new ≡ I.left input.old) × (O.held out.new ≡ O.held out.old) × (result.disk ≡ disk) }
+    ensures read { result.status ≡ Status.ReadFault → Rose (I.faults input.old) (I.faults input.new) }
+    ensures write { result.status ≡ Status.WriteFault → Rose (O.faults out.old) (O.faults out.new) }
+    ensures disk { result.status ≡ Status.DiskFault → Rose (D.faults disk) (D.faults result.disk) }
 {
     match read_words(words) {
         Ok(Command::Desk) => desk_over(alloc, input, out, disk),

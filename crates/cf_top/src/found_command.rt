@@ -1,11 +1,11 @@
 //! The run of `found`.
 
-ghost use Rattle.std.specs.Prelude.{◌≡◌, ◌≢◌, ◌⊎◌, ℕ, List, Option, IsOk};
+ghost use Rattle.std.specs.Prelude.{◌≡◌, ℕ, List, Option, Ok, IsOk};
 ghost use Rattle.cf_base.specs.Causes.{Rose};
 ghost use Rattle.cf_chart.specs.Reading.{chart_of};
 ghost use Rattle.cf_top.specs.Founds.{FoundEnds, FoundOver, FoundWith};
-ghost use Rattle.cf_top.specs.ChartFile.{IsRead};
 ghost use Rattle.cf_top.specs.Devices.{device};
+ghost use Rattle.cf_top.specs.Words.{command_of};
 
 use crate::chart_file::{Unread, read_bytes};
 use crate::status::Status;
@@ -80,7 +80,8 @@ pub fn run_found<C: Source, O: Sink, D: Disk>(
     ensures ends { command_of words.now ≡ Ok Command.Found
         → FoundEnds (device D.tells D.content D.is_image D.moment D.was_image D.faults) (C.left chart.old) (C.left chart.new)
             (O.held out.old) (O.held out.new) disk.old disk.new result }
-    ensures words { (command_of words.now ≡ Ok Command.Found → ⊥) → IsUntouched (C.left chart.old) (C.left chart.new) (O.held out.old) (O.held out.new) disk.old disk.new result }
+    ensures words { (command_of words.now ≡ Ok Command.Found → ⊥)
+        → (result ≡ Status.BadWords) × (C.left chart.new ≡ C.left chart.old) × (O.held out.new ≡ O.held out.old) × (disk.new ≡ disk.old) }
     ensures read { result ≡ Status.ReadFault → Rose (C.faults chart.old) (C.faults chart.new) }
     ensures write { result ≡ Status.WriteFault → Rose (O.faults out.old) (O.faults out.new) }
     ensures disk { result ≡ Status.DiskFault → Rose (D.faults disk.old) (D.faults disk.new) }
