@@ -1,278 +1,125 @@
-//! Two offices over one talk.
+//! Runs of the commands over a disk in memory that fails, stops and is torn; and two offices over one talk.
 
-use crate::clerk::Clerk;
+mod crash;
+mod damage;
+mod founding;
+mod lines;
+mod offices;
+mod rivertown;
+
+use crate::{Ran, Status, run};
 use cf_base::{MemSink, MemSource};
-use cf_chart::Chart;
-use cf_desk::{Ended, run_lines};
-use cf_office::{BookOffice, Office, PlainOffice};
+use cf_disk::MemDisk;
+use rivertown::RIVERTOWN;
 use std::alloc::{AllocError, Global};
 use std::test::Fail;
 
-const CHART: &str = r#"city = "Ferryton"
-first_year = 2026
-first_month = 7
-[[function]]
-id = 1
-name = "Government"
-[[fund]]
-id = 1
-name = "General Fund"
-type = "general"
-level = "object"
-policy = "lapse"
-[[fund]]
-id = 2
-name = "Street Fund"
-type = "special_revenue"
-level = "department"
-policy = "carry"
-[[department]]
-id = 10
-name = "Office"
-function = 1
-[[department]]
-id = 20
-name = "Streets"
-function = 1
-[[object]]
-id = 510
-name = "Supplies"
-class = 5
-kind = "current"
-[[object]]
-id = 520
-name = "Services"
-class = 5
-kind = "current"
-[[source]]
-id = 1
-name = "Fees"
-fund = 1
-kind = "charges"
-function = 1
-window = 30
-[[line]]
-fund = 1
-dept = 10
-object = 510
-[[line]]
-fund = 1
-dept = 10
-object = 520
-[[line]]
-fund = 1
-dept = 20
-object = 510
-[[line]]
-fund = 2
-dept = 20
-[[desk]]
-id = 1
-name = "Council"
-roles = ["council"]
-[[desk]]
-id = 2
-name = "Purchasing and payables"
-roles = ["dept", "purchasing", "payables"]
-[[desk]]
-id = 3
-name = "All"
-roles = ["council", "dept", "purchasing", "payables"]
-"#;
+/// The council adopts 1,000.00 for control line 3 in 2026.
+const ADOPT: &str =
+    r#"{"call":"adopt","desk":1,"key":"b1","on":"2025-07-01","fund":1,"year":2026,"lines":[{"line":3,"amount":100000}],"estimates":[]}"#;
 
-/// Numbers by a linear congruential generator (Knuth's), the same in every run.
+const LOOK: &str = r#"{"call":"line","line":3,"year":2026}"#;
+
+/// The payload of that adoption as an entry. The desk stands at place 1, in two bytes.
+const ADOPTION: [u8; 28] = [
+    0x01, 0x00, 0x01, 0x02, 0x62, 0x31, 0x00, 0x00, 0x4f, 0x2e, 0x00, 0x01, 0x07, 0xea, 0x00, 0x01,
+    0x00, 0x03, 0x00, 0x00, 0x00, 0x00, 0x00, 0x01, 0x86, 0xa0, 0x00, 0x00,
+];
+
+/// The place of the gate of the first record: behind the founding gate, the version, and the chart with its length.
+fn first_gate() -> usize {
+    RIVERTOWN.len().saturating_add(6)
+}
+
+/// How a run ended, what it printed, and the disk.
 #[derive(Drop)]
-struct Draws {
-    state: u64,
+struct Left {
+    status: Status,
+    out: MemSink,
+    disk: MemDisk,
 }
 
-impl Draws {
-    /// A number below `n`.
-    fn below(&mut self, n: u16) -> u16 {
-        self.state = self
-            .state
-            .wrapping_mul(6_364_136_223_846_793_005)
-            .wrapping_add(1_442_695_040_888_963_407);
-        let drawn = (self.state >> 48) as u16;
-        drawn.checked_rem(n).unwrap_or(0)
-    }
-
-    fn year(&mut self) -> u32 {
-        2026 + u32::from(self.below(3))
-    }
-
-    fn desk(&mut self) -> u32 {
-        match self.below(6) {
-            0 => 1,
-            1 => 2,
-            2 => 9,
-            _ => 3,
-        }
-    }
-
-    /// The number of a document, of which there may be none.
-    fn number(&mut self) -> u32 {
-        1 + u32::from(self.below(60))
-    }
-
-    /// The place of an order's item.
-    fn place(&mut self) -> u32 {
-        1 + u32::from(self.below(2))
-    }
-
-    fn fund(&mut self) -> u32 {
-        match self.below(6) {
-            0 => 2,
-            1 => 3,
-            _ => 1,
-        }
-    }
-
-    fn line(&mut self) -> u32 {
-        match self.below(6) {
-            0 => 4,
-            1 => 3,
-            2 => 2,
-            3 => 1,
-            _ => 0,
-        }
-    }
-
-    fn object(&mut self) -> u32 {
-        match self.below(4) {
-            0 => 500,
-            1 => 520,
-            _ => 510,
-        }
+impl Left {
+    fn text(&self) -> &str {
+        str::from_utf8(self.out.bytes()).unwrap_or("no text")
     }
 }
 
-/// A call on documents: requisitions, orders, vouchers on their items, changes, ends and voids.
-fn document_line(alloc: Global, draws: &mut Draws) -> Result<String, AllocError> {
-    let (desk, key) = (2 + u32::from(draws.below(2)), draws.below(9000));
-    let (number, place) = (draws.number(), draws.place());
-    let (object, amount, open) = (draws.object(), draws.below(3000), draws.below(900));
-    match draws.below(12) {
-        0 | 1 => format!(in alloc;
-            "{{\"call\":\"requisition\",\"desk\":{desk},\"key\":\"d{key}\",\"on\":\"2025-08-05\",\"items\":[{{\"fund\":1,\"dept\":10,\"object\":{object},\"amount\":{amount}}},{{\"fund\":1,\"dept\":10,\"object\":510,\"amount\":{open}}}]}}"
-        ),
-        2 => format!(in alloc;
-            "{{\"call\":\"withdraw\",\"desk\":{desk},\"key\":\"d{key}\",\"on\":\"2025-08-05\",\"requisition\":{number}}}"
-        ),
-        3 => format!(in alloc;
-            "{{\"call\":\"order\",\"desk\":{desk},\"key\":\"d{key}\",\"on\":\"2025-08-06\",\"vendor\":7,\"requisition\":{number},\"items\":[{{\"fund\":1,\"dept\":10,\"object\":510,\"amount\":{amount}}}]}}"
-        ),
-        4 | 5 => format!(in alloc;
-            "{{\"call\":\"order\",\"desk\":{desk},\"key\":\"d{key}\",\"on\":\"2025-08-06\",\"vendor\":8,\"items\":[{{\"fund\":1,\"dept\":10,\"object\":510,\"amount\":{amount}}},{{\"fund\":1,\"dept\":10,\"object\":{object},\"amount\":{open}}}]}}"
-        ),
-        6 => format!(in alloc;
-            "{{\"call\":\"change_order\",\"desk\":{desk},\"key\":\"d{key}\",\"on\":\"2025-08-07\",\"order\":{number},\"item\":{place},\"fund\":1,\"dept\":10,\"object\":510,\"by\":-{open}}}"
-        ),
-        7 => format!(in alloc;
-            "{{\"call\":\"cancel_order\",\"desk\":{desk},\"key\":\"d{key}\",\"on\":\"2025-08-07\",\"order\":{number}}}"
-        ),
-        8 | 9 => charge_line(alloc, draws),
-        10 => format!(in alloc;
-            "{{\"call\":\"void_voucher\",\"desk\":{desk},\"key\":\"d{key}\",\"on\":\"2025-08-09\",\"voucher\":{number}}}"
-        ),
-        _ => look_line(alloc, draws),
-    }
+fn source(alloc: Global, text: &str) -> Result<MemSource, AllocError> {
+    Ok(MemSource::new(Vec::from_slice(alloc, text.as_bytes())?))
 }
 
-/// A voucher on an order's items, with each of the ways to liquidate.
-fn charge_line(alloc: Global, draws: &mut Draws) -> Result<String, AllocError> {
-    let (desk, key) = (2 + u32::from(draws.below(2)), draws.below(9000));
-    let (number, place) = (draws.number(), draws.place());
-    let (amount, recorded) = (draws.below(3000), draws.number());
-    match draws.below(3) {
-        0 => format!(in alloc;
-            "{{\"call\":\"voucher\",\"desk\":{desk},\"key\":\"d{key}\",\"on\":\"2025-08-08\",\"vendor\":7,\"items\":[{{\"fund\":1,\"dept\":10,\"object\":510,\"amount\":{amount},\"order\":{number},\"item\":{place}}}]}}"
-        ),
-        1 => format!(in alloc;
-            "{{\"call\":\"voucher\",\"desk\":{desk},\"key\":\"d{key}\",\"on\":\"2025-08-08\",\"vendor\":7,\"items\":[{{\"fund\":1,\"dept\":10,\"object\":510,\"amount\":{amount},\"order\":{number},\"item\":1,\"recorded\":{recorded}}}]}}"
-        ),
-        _ => format!(in alloc;
-            "{{\"call\":\"voucher\",\"desk\":{desk},\"key\":\"d{key}\",\"on\":\"2025-08-08\",\"vendor\":7,\"items\":[{{\"fund\":1,\"dept\":10,\"object\":510,\"amount\":{amount},\"order\":{number},\"item\":1,\"final\":true}},{{\"fund\":1,\"dept\":20,\"object\":510,\"amount\":{recorded}}}]}}"
-        ),
-    }
-}
-
-/// A look at a document.
-fn look_line(alloc: Global, draws: &mut Draws) -> Result<String, AllocError> {
-    let number = draws.number();
-    match draws.below(3) {
-        0 => { format!(in alloc; "{{\"call\":\"requisition\",\"requisition\":{number}}}") }
-        1 => format!(in alloc; "{{\"call\":\"order\",\"order\":{number}}}"),
-        _ => format!(in alloc; "{{\"call\":\"voucher\",\"voucher\":{number}}}"),
-    }
-}
-
-/// A line of a talk: most are calls, some of them with faults, and old keys come again.
-fn line_of(alloc: Global, draws: &mut Draws) -> Result<String, AllocError> {
-    let (desk, year, key) = (draws.desk(), draws.year(), draws.below(900));
-    let (fund, line, other) = (draws.fund(), draws.line(), draws.line());
-    let (object, amount) = (draws.object(), draws.below(9000));
-    match draws.below(9) {
-        0 => format!(in alloc;
-            "{{\"call\":\"adopt\",\"desk\":{desk},\"key\":\"k{key}\",\"on\":\"2025-08-01\",\"fund\":{fund},\"year\":{year},\"lines\":[{{\"line\":{line},\"amount\":{amount}}}],\"estimates\":[]}}"
-        ),
-        1 | 2 => format!(in alloc;
-            "{{\"call\":\"amend\",\"desk\":{desk},\"key\":\"k{key}\",\"on\":\"2025-08-02\",\"fund\":{fund},\"year\":{year},\"line\":{line},\"by\":{amount}0}}"
-        ),
-        3 => format!(in alloc;
-            "{{\"call\":\"amend\",\"desk\":{desk},\"key\":\"k{key}\",\"on\":\"2025-08-02\",\"fund\":{fund},\"year\":{year},\"line\":{line},\"by\":-{amount}}}"
-        ),
-        4 => format!(in alloc;
-            "{{\"call\":\"transfer\",\"desk\":{desk},\"key\":\"k{key}\",\"on\":\"2025-08-03\",\"fund\":{fund},\"year\":{year},\"from\":{line},\"to\":{other},\"amount\":{amount}}}"
-        ),
-        5 | 6 => format!(in alloc;
-            "{{\"call\":\"voucher\",\"desk\":{desk},\"key\":\"k{key}\",\"on\":\"2025-08-04\",\"vendor\":7,\"items\":[{{\"fund\":{fund},\"dept\":10,\"object\":{object},\"amount\":{amount}}},{{\"fund\":1,\"dept\":10,\"object\":510,\"amount\":{amount}}}]}}"
-        ),
-        7 => format!(in alloc;
-            "{{\"call\":\"line\",\"line\":{line},\"year\":{year},\"after\":{key}}}"
-        ),
-        _ => format!(in alloc; "{{\"call\":\"line\",\"line\":{line},\"year\":{year}}}"),
-    }
-}
-
-/// A talk of 2,000 lines.
-fn talk(alloc: Global) -> Result<Vec<u8>, AllocError> {
-    let mut draws = Draws { state: 2026 };
-    let mut bytes = Vec::new(alloc);
-    for n in 0..2000 {
-        let line = if n % 2 == 0 {
-            line_of(alloc, &mut draws)?
-        } else {
-            document_line(alloc, &mut draws)?
-        };
-        bytes.extend_from_slice(line.as_bytes())?;
-        bytes.push(b'\n')?;
-    }
-    Ok(bytes)
-}
-
-/// How a talk with an office of no entries ends, what the office replies, and how many calls it accepts.
-fn replies<B: Office + Drop>(
+/// Runs one word over a disk.
+fn run_word(
     alloc: Global,
-    office: B,
-) -> Result<(Ended, MemSink, u64), AllocError> {
-    let mut clerk = Clerk { alloc, office };
-    let mut source = MemSource::new(talk(alloc)?);
-    let mut sink = MemSink::new(alloc);
-    let ended = run_lines(alloc, &mut clerk, &mut source, &mut sink);
-    Ok((ended, sink, clerk.office.len()))
+    word: &str,
+    chart: &str,
+    lines: &str,
+    disk: MemDisk,
+) -> Result<Left, AllocError> {
+    let words = vec![in alloc; String::from_str(alloc, word)?]?;
+    let mut chart = source(alloc, chart)?;
+    let mut input = source(alloc, lines)?;
+    let mut out = MemSink::new(alloc);
+    let Ran { status, disk } = run(
+        alloc,
+        words.as_slice(),
+        &mut chart,
+        &mut input,
+        &mut out,
+        disk,
+    );
+    Ok(Left { status, out, disk })
+}
+
+fn run_found(alloc: Global, disk: MemDisk) -> Result<Left, AllocError> {
+    run_word(alloc, "found", RIVERTOWN, "", disk)
+}
+
+fn run_desk(alloc: Global, lines: &str, disk: MemDisk) -> Result<Left, AllocError> {
+    run_word(alloc, "desk", "", lines, disk)
+}
+
+/// A disk with these bytes, all of them synced.
+fn disk_with(alloc: Global, bytes: &[u8]) -> Result<MemDisk, AllocError> {
+    MemDisk::new(alloc, Vec::from_slice(alloc, bytes)?)
+}
+
+/// The bytes of a journal with no entry.
+fn founded(alloc: Global) -> Result<Vec<u8>, AllocError> {
+    let left = run_found(alloc, disk_with(alloc, b"")?)?;
+    Vec::from_slice(alloc, left.disk.bytes())
 }
 
 #[test]
-fn both_offices_reply_the_same(rt: HostRuntime) -> Result<(), Fail> {
+fn a_second_run_goes_on_from_the_first(rt: HostRuntime) -> Result<(), Fail> {
     let alloc = rt.alloc();
-    let plain = Chart::read(alloc, CHART.as_bytes()).ok().ok_or("no chart")?;
-    let book = Chart::read(alloc, CHART.as_bytes()).ok().ok_or("no chart")?;
-    let (plain_end, by_sums, _) = replies(alloc, PlainOffice::new(alloc, plain))?;
-    let (book_end, by_running_numbers, accepted) = replies(alloc, BookOffice::new(alloc, book))?;
-    assert_eq!(rt; plain_end, Ended::Ok);
-    assert_eq!(rt; book_end, Ended::Ok);
-    assert!(rt; accepted > 300);
-    assert_eq!(rt; by_running_numbers.bytes(), by_sums.bytes());
+    let day =
+        r#"{"call":"adopt","desk":1,"key":"b1","on":"2025-07-01","fund":1,"year":2026,"lines":[{"line":3,"amount":100000}],"estimates":[]}
+{"call":"voucher","desk":4,"key":"v1","on":"2025-07-05","vendor":77,"items":[{"fund":1,"dept":20,"object":510,"amount":60000}]}
+{"call":"voucher","desk":4,"key":"v2","on":"2025-07-05","vendor":77,"items":[{"fund":1,"dept":20,"object":510,"amount":40000}]}
+{"call":"voucher","desk":4,"key":"v3","on":"2025-07-05","vendor":77,"items":[{"fund":1,"dept":20,"object":510,"amount":1}]}
+{"call":"line","line":3,"year":2026}
+"#;
+    let first = run_desk(alloc, day, disk_with(alloc, founded(alloc)?.as_slice())?)?;
+    assert_eq!(rt; first.status, Status::Ok);
+    assert_eq!(rt;
+        first.text(),
+        r#"{"at":1,"ok":{}}
+{"at":2,"ok":{"assets":[],"voucher":1}}
+{"at":3,"ok":{"assets":[],"voucher":2}}
+{"at":3,"no":{"asked":"1","code":24,"line":3,"name":"Exceeds","room":"0"}}
+{"at":3,"is":{"appropriated":"100000","encumbered":"0","expended":"100000","held":"0","original":"100000","room":"0"}}
+"#
+    );
+    let second = run_desk(alloc, LOOK, disk_with(alloc, first.disk.bytes())?)?;
+    assert_eq!(rt; second.status, Status::Ok);
+    assert_eq!(rt;
+        second.text(),
+        r#"{"at":3,"is":{"appropriated":"100000","encumbered":"0","expended":"100000","held":"0","original":"100000","room":"0"}}
+"#
+    );
+    let same = second.disk.bytes() == first.disk.bytes();
+    assert!(rt; same, "a look changes the journal");
     Ok(())
 }
