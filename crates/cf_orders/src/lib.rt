@@ -17,6 +17,8 @@ mod rows;
 mod rules;
 mod steps;
 mod sums;
+#[cfg(test)]
+mod tests;
 mod vouchers;
 mod year_end;
 
