@@ -173,16 +173,16 @@ talk_doubt s (l ∷ lines) (a ∷ answers) last e talk doubt = elim (talk_doubt 
         said = [];
         says = answers;
         lines_are = refl;
-        answers_are = ap (λ (x : List ℕ). x ∷ answers) of.2.2.2.1;
+        answers_are = ap (λ (x : List ℕ). x ∷ answers) of.4;
         here = s;
         next = talk.0;
         talked = refl;
-        answered = subst (λ (x : List ℕ). Answers LineAnswer s l x talk.0) of.2.2.2.1 talk.1;
+        answered = subst (λ (x : List ℕ). Answers LineAnswer s l x talk.0) of.4 talk.1;
         talks = talk.2;
         call = of.0;
         called = of.1;
-        would = of.2.0;
-        unmoved = kept.1 ∙ of.2.1;
+        would = of.2;
+        unmoved = kept.1 ∙ of.3;
       })
     ]
   ]
@@ -196,13 +196,13 @@ talk_laws start last lines answers none talk =
       later = on.later;
       goes_on = on.entries;
       same_chart = on.plan;
-      faults = λ ls as t. talk_rose start ls as last t;
-      doubt = λ ls as t. by_doubt ls as t last.doubt refl;
+      faults = λ ls said t. talk_rose start ls said last t;
+      doubt = λ ls said t. by_doubt ls said t last.doubt refl;
     }
   where
-    by_doubt : (ls as : List (List ℕ)) → Talk LineAnswer start ls as last → (doubt : Option Entry) → last.doubt ≡ doubt → IfSome doubt (IsOfDiskLine start ls as last)
-    by_doubt ls as t None is = tt
-    by_doubt ls as t (Some e) is = elim (talk_doubt start ls as last e t is) [
+    by_doubt : (ls said : List (List ℕ)) → Talk LineAnswer start ls said last → (doubt : Option Entry) → last.doubt ≡ doubt → IfSome doubt (IsOfDiskLine start ls said last)
+    by_doubt ls said t None is = tt
+    by_doubt ls said t (Some e) is = elim (talk_doubt start ls said last e t is) [
         inl kept ↦ absurd (let bad : (let x : Option Entry = None in x) ≡ Some e = sym none ∙ kept.0 in cc)
       | inr of ↦ of
       ]

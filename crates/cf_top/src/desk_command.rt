@@ -65,7 +65,9 @@ fn keep_desk<I: Source, O: Sink, D: Disk + Drop>(
     let how = run_lines(alloc, &mut clerk, input, out);
     // The office says of its entries what the run hands on.
     let _sound = clerk.book.office.entries();
-    (how, clerk.book.disk)
+    let Clerk { book, .. } = clerk;
+    let Book { disk, .. } = book;
+    (how, disk)
 }
 
 /// Opens the journal of the disk, and keeps a desk over it.
