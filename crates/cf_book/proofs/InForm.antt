@@ -1,5 +1,5 @@
 -- An entry that the step adds is in form.
-use Rattle.std.proofs.Common.{◌≡◌, ℕ, Bool, true, false, not, ◌&&◌, List, [], ◌∷◌, ◌++◌, map, None, unsigned_abs, refl, ap, ◌∙◌, arith}
+use Rattle.std.proofs.Common.{◌≡◌, ℕ, true, List, [], ◌∷◌, ◌++◌, map, None, unsigned_abs, refl, ap, arith}
 use Rattle.std.specs.List.{list_all}
 use Rattle.cf_base.specs.Money.{is_amount}
 use Rattle.cf_calls.specs.declared.acts.Act.{Act}

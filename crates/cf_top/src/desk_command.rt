@@ -109,7 +109,7 @@ pub fn run_desk<I: Source, O: Sink, D: Disk + Drop>(
 ) -> Ran<D>
     ensures ends { command_of words.now ≡ Ok Command.Desk
         → DeskEnds (device D.tells D.content D.is_image D.moment D.was_image D.faults) disk result.disk
-            (I.left input.old) (I.left input.new) (O.held out.old) (O.held out.new) result.status }
+        (I.left input.old) (I.left input.new) (O.held out.old) (O.held out.new) result.status }
     ensures words { (command_of words.now ≡ Ok Command.Desk → ⊥)
         → (result.status ≡ Status.BadWords) × (I.left input.new ≡ I.left input.old) × (O.held out.new ≡ O.held out.old) × (result.disk ≡ disk) }
     ensures read { result.status ≡ Status.ReadFault → Rose (I.faults input.old) (I.faults input.new) }
