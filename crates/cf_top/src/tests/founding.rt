@@ -1,7 +1,7 @@
 //! Founding, and what is there before it.
 
 use super::rivertown::RIVERTOWN;
-use super::{ADOPT, disk_with, run_desk, run_found, run_word};
+use super::{ADOPT, check, check_bytes, desk_on, disk_with, found_on, run_word};
 use crate::Status;
 use cf_chart::ChartFault;
 use cf_disk::MemDisk;
@@ -11,16 +11,13 @@ use std::test::Fail;
 #[test]
 fn a_journal_is_founded_once(rt: HostRuntime) -> Result<(), Fail> {
     let alloc = rt.alloc();
-    let first = run_found(alloc, disk_with(alloc, b"")?)?;
-    assert_eq!(rt; first.status, Status::Ok);
-    assert_eq!(rt; first.text(), "founded\n");
-    let bytes = Vec::from_slice(alloc, first.disk.bytes())?;
-    let len = bytes.len() as u64;
-    let again = run_found(alloc, first.disk)?;
-    assert_eq!(rt; again.status, Status::AlreadyFounded { len, byte: 1 });
-    assert_eq!(rt; again.text(), "");
-    let same = again.disk.bytes() == bytes.as_slice();
-    assert!(rt; same, "the journal changed");
+    let disk = disk_with(alloc, b"")?;
+    let disk = found_on(&rt, alloc, RIVERTOWN, disk, Status::Ok, "founded\n")?;
+    let len = disk.bytes().len() as u64;
+    let again = disk_with(alloc, disk.bytes())?;
+    let already = Status::AlreadyFounded { len, byte: 1 };
+    let again = found_on(&rt, alloc, RIVERTOWN, again, already, "")?;
+    check_bytes(&rt, &again, disk.bytes());
     Ok(())
 }
 
@@ -33,27 +30,19 @@ fn late_chart(alloc: Global) -> Result<String, AllocError> {
 }
 
 #[test]
-fn a_chart_with_a_fault_founds_nothing(rt: HostRuntime) -> Result<(), Fail> {
+fn what_founds_nothing_leaves_the_disk(rt: HostRuntime) -> Result<(), Fail> {
     let alloc = rt.alloc();
     let chart = late_chart(alloc)?;
-    let left = run_word(alloc, "found", chart.as_str(), "", disk_with(alloc, b"")?)?;
     let fault = ChartFault::Window {
         source: 1,
         days: 61,
     };
-    assert_eq!(rt; left.status, Status::ChartRefused { fault });
-    assert_eq!(rt; left.text(), "");
-    assert_eq!(rt; left.disk.calls().len(), 0);
-    Ok(())
-}
-
-#[test]
-fn a_desk_needs_a_journal(rt: HostRuntime) -> Result<(), Fail> {
-    let alloc = rt.alloc();
-    let left = run_desk(alloc, ADOPT, disk_with(alloc, b"")?)?;
-    assert_eq!(rt; left.status, Status::NotFounded { len: 0, byte: None });
-    assert_eq!(rt; left.text(), "");
-    assert_eq!(rt; left.disk.bytes().len(), 0);
+    let refused = Status::ChartRefused { fault };
+    let disk = disk_with(alloc, b"")?;
+    let disk = found_on(&rt, alloc, chart.as_str(), disk, refused, "")?;
+    let unfounded = Status::NotFounded { len: 0, byte: None };
+    let disk = desk_on(&rt, alloc, ADOPT, disk, unfounded, "")?;
+    check_bytes(&rt, &disk, b"");
     Ok(())
 }
 
@@ -62,26 +51,20 @@ fn other_words_do_nothing(rt: HostRuntime) -> Result<(), Fail> {
     let alloc = rt.alloc();
     for word in ["", "Found", "found ", "desks"] {
         let left = run_word(alloc, word, RIVERTOWN, ADOPT, disk_with(alloc, b"")?)?;
-        assert_eq!(rt; left.status, Status::BadWords, "{word}");
-        assert_eq!(rt; left.text(), "");
-        assert_eq!(rt; left.disk.calls().len(), 0);
+        let disk = check(&rt, left, Status::BadWords, "");
+        check_bytes(&rt, &disk, b"");
     }
     Ok(())
 }
 
-/// How founding on an empty disk ends whose call of this number fails. It makes 8 calls.
-fn found_failing(alloc: Global, call: u64) -> Result<Status, AllocError> {
-    let fails = vec![in alloc; call]?;
-    let disk = MemDisk::with_faults(alloc, Vec::new(alloc), fails, 0)?;
-    Ok(run_found(alloc, disk)?.status)
-}
-
+/// Founding on an empty disk makes 8 calls.
 #[test]
 fn a_call_that_fails_is_a_disk_fault(rt: HostRuntime) -> Result<(), Fail> {
+    let alloc = rt.alloc();
     for call in 1..=8 {
-        let status = found_failing(rt.alloc(), call)?;
-        assert_eq!(rt; status, Status::DiskFault, "call {call} fails");
+        let fails = vec![in alloc; call]?;
+        let disk = MemDisk::with_faults(alloc, Vec::new(alloc), fails, 0)?;
+        let _ = found_on(&rt, alloc, RIVERTOWN, disk, Status::DiskFault, "")?;
     }
-    assert_eq!(rt; found_failing(rt.alloc(), 9)?, Status::Ok);
     Ok(())
 }
