@@ -81,19 +81,6 @@ fn check_bytes(rt: &impl Abort, disk: &MemDisk, bytes: &[u8]) {
     assert!(rt; same, "the journal is another");
 }
 
-/// Founds on a disk with this chart.
-fn found_on(
-    rt: &impl Abort,
-    alloc: Global,
-    chart: &str,
-    disk: MemDisk,
-    status: Status,
-    text: &str,
-) -> Result<MemDisk, AllocError> {
-    let left = run_word(alloc, "found", chart, "", disk)?;
-    Ok(check(rt, left, status, text))
-}
-
 /// Keeps a desk over a disk with these lines.
 fn desk_on(
     rt: &impl Abort,
