@@ -12,6 +12,7 @@ use cf_base::{MemSink, MemSource};
 use cf_disk::MemDisk;
 use rivertown::RIVERTOWN;
 use std::alloc::{AllocError, Global};
+use std::process::Abort;
 use std::test::Fail;
 
 /// The council adopts 1,000.00 for control line 3 in 2026.
@@ -37,12 +38,6 @@ struct Left {
     status: Status,
     out: MemSink,
     disk: MemDisk,
-}
-
-impl Left {
-    fn text(&self) -> &str {
-        str::from_utf8(self.out.bytes()).unwrap_or("no text")
-    }
 }
 
 fn source(alloc: Global, text: &str) -> Result<MemSource, AllocError> {
@@ -72,12 +67,31 @@ fn run_word(
     Ok(Left { status, out, disk })
 }
 
-fn run_found(alloc: Global, disk: MemDisk) -> Result<Left, AllocError> {
-    run_word(alloc, "found", RIVERTOWN, "", disk)
+/// A run ended like this and printed this. The disk.
+fn check(rt: &impl Abort, left: Left, status: Status, text: &str) -> MemDisk {
+    let printed = str::from_utf8(left.out.bytes()).unwrap_or("no text");
+    assert_eq!(rt; left.status, status);
+    assert_eq!(rt; printed, text);
+    left.disk
 }
 
-fn run_desk(alloc: Global, lines: &str, disk: MemDisk) -> Result<Left, AllocError> {
-    run_word(alloc, "desk", "", lines, disk)
+/// The disk has these bytes.
+fn check_bytes(rt: &impl Abort, disk: &MemDisk, bytes: &[u8]) {
+    let same = disk.bytes() == bytes;
+    assert!(rt; same, "the journal is another");
+}
+
+/// Keeps a desk over a disk with these lines.
+fn desk_on(
+    rt: &impl Abort,
+    alloc: Global,
+    lines: &str,
+    disk: MemDisk,
+    status: Status,
+    text: &str,
+) -> Result<MemDisk, AllocError> {
+    let left = run_word(alloc, "desk", "", lines, disk)?;
+    Ok(check(rt, left, status, text))
 }
 
 /// A disk with these bytes, all of them synced.
@@ -87,39 +101,42 @@ fn disk_with(alloc: Global, bytes: &[u8]) -> Result<MemDisk, AllocError> {
 
 /// The bytes of a journal with no entry.
 fn founded(alloc: Global) -> Result<Vec<u8>, AllocError> {
-    let left = run_found(alloc, disk_with(alloc, b"")?)?;
+    let left = run_word(alloc, "found", RIVERTOWN, "", disk_with(alloc, b"")?)?;
     Vec::from_slice(alloc, left.disk.bytes())
 }
 
-#[test]
-fn a_second_run_goes_on_from_the_first(rt: HostRuntime) -> Result<(), Fail> {
-    let alloc = rt.alloc();
-    let day =
-        r#"{"call":"adopt","desk":1,"key":"b1","on":"2025-07-01","fund":1,"year":2026,"lines":[{"line":3,"amount":100000}],"estimates":[]}
+/// A disk with a journal with no entry, on which calls fail.
+fn founded_disk(alloc: Global, fails: &[u64], stop: u64) -> Result<MemDisk, AllocError> {
+    let fails = Vec::from_slice(alloc, fails)?;
+    MemDisk::with_faults(alloc, founded(alloc)?, fails, stop)
+}
+
+const DAY: &str =
+    r#"{"call":"adopt","desk":1,"key":"b1","on":"2025-07-01","fund":1,"year":2026,"lines":[{"line":3,"amount":100000}],"estimates":[]}
 {"call":"voucher","desk":4,"key":"v1","on":"2025-07-05","vendor":77,"items":[{"fund":1,"dept":20,"object":510,"amount":60000}]}
 {"call":"voucher","desk":4,"key":"v2","on":"2025-07-05","vendor":77,"items":[{"fund":1,"dept":20,"object":510,"amount":40000}]}
 {"call":"voucher","desk":4,"key":"v3","on":"2025-07-05","vendor":77,"items":[{"fund":1,"dept":20,"object":510,"amount":1}]}
 {"call":"line","line":3,"year":2026}
 "#;
-    let first = run_desk(alloc, day, disk_with(alloc, founded(alloc)?.as_slice())?)?;
-    assert_eq!(rt; first.status, Status::Ok);
-    assert_eq!(rt;
-        first.text(),
-        r#"{"at":1,"ok":{}}
+
+const DAY_SAID: &str = r#"{"at":1,"ok":{}}
 {"at":2,"ok":{"assets":[],"voucher":1}}
 {"at":3,"ok":{"assets":[],"voucher":2}}
 {"at":3,"no":{"asked":"1","code":24,"line":3,"name":"Exceeds","room":"0"}}
 {"at":3,"is":{"appropriated":"100000","encumbered":"0","expended":"100000","held":"0","original":"100000","room":"0"}}
-"#
-    );
-    let second = run_desk(alloc, LOOK, disk_with(alloc, first.disk.bytes())?)?;
-    assert_eq!(rt; second.status, Status::Ok);
-    assert_eq!(rt;
-        second.text(),
-        r#"{"at":3,"is":{"appropriated":"100000","encumbered":"0","expended":"100000","held":"0","original":"100000","room":"0"}}
-"#
-    );
-    let same = second.disk.bytes() == first.disk.bytes();
-    assert!(rt; same, "a look changes the journal");
+"#;
+
+const SPENT: &str =
+    r#"{"at":3,"is":{"appropriated":"100000","encumbered":"0","expended":"100000","held":"0","original":"100000","room":"0"}}
+"#;
+
+#[test]
+fn a_second_run_goes_on_from_the_first(rt: HostRuntime) -> Result<(), Fail> {
+    let alloc = rt.alloc();
+    let first = founded_disk(alloc, &[], 0)?;
+    let first = desk_on(&rt, alloc, DAY, first, Status::Ok, DAY_SAID)?;
+    let second = disk_with(alloc, first.bytes())?;
+    let second = desk_on(&rt, alloc, LOOK, second, Status::Ok, SPENT)?;
+    check_bytes(&rt, &second, first.bytes());
     Ok(())
 }
