@@ -1,6 +1,35 @@
-//! Lines of a generated talk.
+//! Lines of a generated talk: templates, in which marks stand for drawn numbers.
 
 use std::alloc::{AllocError, Global};
+
+/// `%` stands for a desk, `@` for a key's number, `^` for a fund, `&` for a year, `~` for a line, `$` for an amount, `#` for a
+/// document's number and `!` for the place of an order's item. Some are of nothing that is there.
+const TEMPLATES: [&str; 24] = [
+    r#"{"call":"adopt","desk":%,"key":"k@","on":"2025-08-01","fund":^,"year":&,"lines":[{"line":~,"amount":$}],"estimates":[]}"#,
+    r#"{"call":"amend","desk":%,"key":"k@","on":"2025-08-02","fund":^,"year":&,"line":~,"by":$0}"#,
+    r#"{"call":"amend","desk":3,"key":"k@","on":"2025-08-02","fund":1,"year":2026,"line":~,"by":$0}"#,
+    r#"{"call":"amend","desk":3,"key":"k@","on":"2025-08-02","fund":1,"year":2026,"line":~,"by":-$}"#,
+    r#"{"call":"transfer","desk":3,"key":"k@","on":"2025-08-03","fund":1,"year":2026,"from":~,"to":~,"amount":$}"#,
+    r#"{"call":"voucher","desk":%,"key":"k@","on":"2025-08-04","vendor":7,"items":[{"fund":^,"dept":10,"object":510,"amount":$},{"fund":1,"dept":10,"object":520,"amount":$}]}"#,
+    r#"{"call":"voucher","desk":2,"key":"k@","on":"2025-08-04","vendor":7,"items":[{"fund":1,"dept":10,"object":510,"amount":$}]}"#,
+    r#"{"call":"line","line":~,"year":&,"after":@}"#,
+    r#"{"call":"line","line":~,"year":2026}"#,
+    r#"{"call":"requisition","desk":2,"key":"k@","on":"2025-08-05","items":[{"fund":1,"dept":10,"object":510,"amount":$},{"fund":1,"dept":10,"object":520,"amount":$}]}"#,
+    r#"{"call":"requisition","desk":%,"key":"k@","on":"2025-08-05","items":[{"fund":1,"dept":10,"object":510,"amount":$}]}"#,
+    r#"{"call":"withdraw","desk":2,"key":"k@","on":"2025-08-05","requisition":#}"#,
+    r#"{"call":"order","desk":3,"key":"k@","on":"2025-08-06","vendor":7,"requisition":#,"items":[{"fund":1,"dept":10,"object":510,"amount":$}]}"#,
+    r#"{"call":"order","desk":3,"key":"k@","on":"2025-08-06","vendor":8,"items":[{"fund":1,"dept":10,"object":510,"amount":$},{"fund":1,"dept":10,"object":520,"amount":$}]}"#,
+    r#"{"call":"order","desk":2,"key":"k@","on":"2025-08-06","vendor":8,"items":[{"fund":1,"dept":10,"object":510,"amount":$}]}"#,
+    r#"{"call":"change_order","desk":3,"key":"k@","on":"2025-08-07","order":#,"item":!,"fund":1,"dept":10,"object":510,"by":-$}"#,
+    r#"{"call":"cancel_order","desk":3,"key":"k@","on":"2025-08-07","order":#}"#,
+    r#"{"call":"voucher","desk":3,"key":"k@","on":"2025-08-08","vendor":8,"items":[{"fund":1,"dept":10,"object":510,"amount":$,"order":#,"item":1}]}"#,
+    r#"{"call":"voucher","desk":3,"key":"k@","on":"2025-08-08","vendor":8,"items":[{"fund":1,"dept":10,"object":510,"amount":$,"order":#,"item":1,"recorded":$}]}"#,
+    r#"{"call":"voucher","desk":3,"key":"k@","on":"2025-08-08","vendor":8,"items":[{"fund":1,"dept":10,"object":520,"amount":$,"order":#,"item":2,"final":true}]}"#,
+    r#"{"call":"void_voucher","desk":3,"key":"k@","on":"2025-08-09","voucher":#}"#,
+    r#"{"call":"requisition","requisition":#}"#,
+    r#"{"call":"order","order":#}"#,
+    r#"{"call":"voucher","voucher":#}"#,
+];
 
 /// Numbers by a linear congruential generator (Knuth's), the same in every run.
 #[derive(Drop)]
@@ -23,140 +52,45 @@ impl Draws {
         drawn.checked_rem(n).unwrap_or(0)
     }
 
-    fn year(&mut self) -> u32 {
-        2026 + u32::from(self.below(3))
+    /// The number that stands for a mark: the least one, and how many there are.
+    fn for_mark(&mut self, least: u32, many: u16) -> Option<u32> {
+        Some(u32::from(self.below(many)).saturating_add(least))
     }
 
-    fn desk(&mut self) -> u32 {
-        match self.below(6) {
-            0 => 1,
-            1 => 2,
-            2 => 9,
-            _ => 3,
-        }
-    }
-
-    /// The number of a document, of which there may be none.
-    fn number(&mut self) -> u32 {
-        1 + u32::from(self.below(60))
-    }
-
-    /// The place of an order's item.
-    fn place(&mut self) -> u32 {
-        1 + u32::from(self.below(2))
-    }
-
-    fn fund(&mut self) -> u32 {
-        match self.below(6) {
-            0 => 2,
-            1 => 3,
-            _ => 1,
-        }
-    }
-
-    fn line(&mut self) -> u32 {
-        match self.below(6) {
-            0 => 4,
-            1 => 3,
-            2 => 2,
-            3 => 1,
-            _ => 0,
-        }
-    }
-
-    fn object(&mut self) -> u32 {
-        match self.below(4) {
-            0 => 500,
-            1 => 520,
-            _ => 510,
+    /// The number for a byte of a template, or none where the byte stands for itself.
+    fn number(&mut self, byte: u8) -> Option<u32> {
+        match byte {
+            b'%' => self.for_mark(1, 4),
+            b'@' => self.for_mark(0, 3000),
+            b'^' => self.for_mark(1, 3),
+            b'&' => self.for_mark(2026, 3),
+            b'~' => self.for_mark(0, 5),
+            b'$' => self.for_mark(0, 3000),
+            b'#' => self.for_mark(1, 60),
+            b'!' => self.for_mark(1, 2),
+            _ => None,
         }
     }
 }
 
-/// A call on documents: requisitions, orders, vouchers on their items, changes, ends and voids.
-pub fn document_line(alloc: Global, draws: &mut Draws) -> Result<String, AllocError> {
-    let (desk, key) = (2 + u32::from(draws.below(2)), draws.below(9000));
-    let (number, place) = (draws.number(), draws.place());
-    let (object, amount, open) = (draws.object(), draws.below(3000), draws.below(900));
-    match draws.below(12) {
-        0 | 1 => format!(in alloc;
-            "{{\"call\":\"requisition\",\"desk\":{desk},\"key\":\"d{key}\",\"on\":\"2025-08-05\",\"items\":[{{\"fund\":1,\"dept\":10,\"object\":{object},\"amount\":{amount}}},{{\"fund\":1,\"dept\":10,\"object\":510,\"amount\":{open}}}]}}"
-        ),
-        2 => format!(in alloc;
-            "{{\"call\":\"withdraw\",\"desk\":{desk},\"key\":\"d{key}\",\"on\":\"2025-08-05\",\"requisition\":{number}}}"
-        ),
-        3 => format!(in alloc;
-            "{{\"call\":\"order\",\"desk\":{desk},\"key\":\"d{key}\",\"on\":\"2025-08-06\",\"vendor\":7,\"requisition\":{number},\"items\":[{{\"fund\":1,\"dept\":10,\"object\":510,\"amount\":{amount}}}]}}"
-        ),
-        4 | 5 => format!(in alloc;
-            "{{\"call\":\"order\",\"desk\":{desk},\"key\":\"d{key}\",\"on\":\"2025-08-06\",\"vendor\":8,\"items\":[{{\"fund\":1,\"dept\":10,\"object\":510,\"amount\":{amount}}},{{\"fund\":1,\"dept\":10,\"object\":{object},\"amount\":{open}}}]}}"
-        ),
-        6 => format!(in alloc;
-            "{{\"call\":\"change_order\",\"desk\":{desk},\"key\":\"d{key}\",\"on\":\"2025-08-07\",\"order\":{number},\"item\":{place},\"fund\":1,\"dept\":10,\"object\":510,\"by\":-{open}}}"
-        ),
-        7 => format!(in alloc;
-            "{{\"call\":\"cancel_order\",\"desk\":{desk},\"key\":\"d{key}\",\"on\":\"2025-08-07\",\"order\":{number}}}"
-        ),
-        8 | 9 => charge_line(alloc, draws),
-        10 => format!(in alloc;
-            "{{\"call\":\"void_voucher\",\"desk\":{desk},\"key\":\"d{key}\",\"on\":\"2025-08-09\",\"voucher\":{number}}}"
-        ),
-        _ => look_line(alloc, draws),
+/// Appends a byte of a template, or the number that it stands for.
+fn put(alloc: Global, byte: u8, draws: &mut Draws, line: &mut Vec<u8>) -> Result<(), AllocError> {
+    match draws.number(byte) {
+        Some(number) => {
+            let digits = format!(in alloc; "{number}")?;
+            line.extend_from_slice(digits.as_bytes())
+        }
+        None => line.extend_from_slice(&[byte]),
     }
 }
 
-/// A voucher on an order's items, with each of the ways to liquidate.
-fn charge_line(alloc: Global, draws: &mut Draws) -> Result<String, AllocError> {
-    let (desk, key) = (2 + u32::from(draws.below(2)), draws.below(9000));
-    let (number, place) = (draws.number(), draws.place());
-    let (amount, recorded) = (draws.below(3000), draws.number());
-    match draws.below(3) {
-        0 => format!(in alloc;
-            "{{\"call\":\"voucher\",\"desk\":{desk},\"key\":\"d{key}\",\"on\":\"2025-08-08\",\"vendor\":7,\"items\":[{{\"fund\":1,\"dept\":10,\"object\":510,\"amount\":{amount},\"order\":{number},\"item\":{place}}}]}}"
-        ),
-        1 => format!(in alloc;
-            "{{\"call\":\"voucher\",\"desk\":{desk},\"key\":\"d{key}\",\"on\":\"2025-08-08\",\"vendor\":7,\"items\":[{{\"fund\":1,\"dept\":10,\"object\":510,\"amount\":{amount},\"order\":{number},\"item\":1,\"recorded\":{recorded}}}]}}"
-        ),
-        _ => format!(in alloc;
-            "{{\"call\":\"voucher\",\"desk\":{desk},\"key\":\"d{key}\",\"on\":\"2025-08-08\",\"vendor\":7,\"items\":[{{\"fund\":1,\"dept\":10,\"object\":510,\"amount\":{amount},\"order\":{number},\"item\":1,\"final\":true}},{{\"fund\":1,\"dept\":20,\"object\":510,\"amount\":{recorded}}}]}}"
-        ),
+/// The next line of the talk.
+pub fn next_line(alloc: Global, draws: &mut Draws) -> Result<Vec<u8>, AllocError> {
+    let drawn = usize::from(draws.below(24));
+    let template = TEMPLATES.get(drawn).copied().unwrap_or("");
+    let mut line = Vec::new(alloc);
+    for byte in template.as_bytes() {
+        put(alloc, *byte, draws, &mut line)?;
     }
-}
-
-/// A look at a document.
-fn look_line(alloc: Global, draws: &mut Draws) -> Result<String, AllocError> {
-    let number = draws.number();
-    match draws.below(3) {
-        0 => { format!(in alloc; "{{\"call\":\"requisition\",\"requisition\":{number}}}") }
-        1 => format!(in alloc; "{{\"call\":\"order\",\"order\":{number}}}"),
-        _ => format!(in alloc; "{{\"call\":\"voucher\",\"voucher\":{number}}}"),
-    }
-}
-
-/// A line of a talk: most are calls, some of them with faults, and old keys come again.
-pub fn line_of(alloc: Global, draws: &mut Draws) -> Result<String, AllocError> {
-    let (desk, year, key) = (draws.desk(), draws.year(), draws.below(900));
-    let (fund, line, other) = (draws.fund(), draws.line(), draws.line());
-    let (object, amount) = (draws.object(), draws.below(9000));
-    match draws.below(9) {
-        0 => format!(in alloc;
-            "{{\"call\":\"adopt\",\"desk\":{desk},\"key\":\"k{key}\",\"on\":\"2025-08-01\",\"fund\":{fund},\"year\":{year},\"lines\":[{{\"line\":{line},\"amount\":{amount}}}],\"estimates\":[]}}"
-        ),
-        1 | 2 => format!(in alloc;
-            "{{\"call\":\"amend\",\"desk\":{desk},\"key\":\"k{key}\",\"on\":\"2025-08-02\",\"fund\":{fund},\"year\":{year},\"line\":{line},\"by\":{amount}0}}"
-        ),
-        3 => format!(in alloc;
-            "{{\"call\":\"amend\",\"desk\":{desk},\"key\":\"k{key}\",\"on\":\"2025-08-02\",\"fund\":{fund},\"year\":{year},\"line\":{line},\"by\":-{amount}}}"
-        ),
-        4 => format!(in alloc;
-            "{{\"call\":\"transfer\",\"desk\":{desk},\"key\":\"k{key}\",\"on\":\"2025-08-03\",\"fund\":{fund},\"year\":{year},\"from\":{line},\"to\":{other},\"amount\":{amount}}}"
-        ),
-        5 | 6 => format!(in alloc;
-            "{{\"call\":\"voucher\",\"desk\":{desk},\"key\":\"k{key}\",\"on\":\"2025-08-04\",\"vendor\":7,\"items\":[{{\"fund\":{fund},\"dept\":10,\"object\":{object},\"amount\":{amount}}},{{\"fund\":1,\"dept\":10,\"object\":510,\"amount\":{amount}}}]}}"
-        ),
-        7 => format!(in alloc;
-            "{{\"call\":\"line\",\"line\":{line},\"year\":{year},\"after\":{key}}}"
-        ),
-        _ => format!(in alloc; "{{\"call\":\"line\",\"line\":{line},\"year\":{year}}}"),
-    }
+    Ok(line)
 }

@@ -2,7 +2,7 @@
 
 ghost use Rattle.cf_calls.specs.Form.{IsCallInForm};
 
-use super::lines::{Draws, document_line, line_of};
+use super::lines::{Draws, next_line};
 use cf_calls::Call;
 use cf_chart::Chart;
 use cf_json::{read_call, write_posted};
@@ -96,26 +96,17 @@ fn reply<B: Office>(alloc: Global, office: &mut B, call: &Call) -> Result<Vec<u8
 /// A line of the talk, and whether both offices give the same for it. What is no call goes to neither.
 fn agree_on<A: Office, B: Office>(
     alloc: Global,
-    line: &str,
+    line: &[u8],
     first: &mut A,
     second: &mut B,
 ) -> Result<bool, AllocError> {
-    match read_call(alloc, line.as_bytes()) {
+    match read_call(alloc, line) {
         Ok(call) => {
             let given = reply(alloc, first, &call)?;
             let other = reply(alloc, second, &call)?;
             Ok(given.as_slice() == other.as_slice())
         }
         Err(_) => Ok(true),
-    }
-}
-
-/// The line at a place of the talk.
-fn line_at(alloc: Global, place: u32, draws: &mut Draws) -> Result<String, AllocError> {
-    if place % 2 == 0 {
-        line_of(alloc, draws)
-    } else {
-        document_line(alloc, draws)
     }
 }
 
@@ -128,9 +119,9 @@ fn both_offices_reply_the_same(rt: HostRuntime) -> Result<(), Fail> {
     let mut book = BookOffice::new(alloc, chart);
     let mut draws = Draws::new();
     for place in 0..2000 {
-        let line = line_at(alloc, place, &mut draws)?;
-        let agrees = agree_on(alloc, line.as_str(), &mut plain, &mut book)?;
-        assert!(rt; agrees, "the replies differ to {line}");
+        let line = next_line(alloc, &mut draws)?;
+        let agrees = agree_on(alloc, line.as_slice(), &mut plain, &mut book)?;
+        assert!(rt; agrees, "the replies differ to line {place}");
     }
     assert!(rt; book.len() > 300);
     assert_eq!(rt; book.len(), plain.len());
