@@ -1,14 +1,15 @@
 #!/bin/sh
 # What calls cost over a short and a long history, on the built program: microseconds a direct voucher and a look
 # after 1,000 and after 100,000 accepted entries, vouchers a second, and bytes of memory an entry; then microseconds a
-# voucher on an order's item, and its void, after 1,000 and after 100,000 orders.
+# voucher on an order's item, and its void, after 1,000 and after 100,000 orders. The journal lies in memory (/dev/shm),
+# where a sync costs nothing, so this is the work of the program and of the system's calls; bench/durable.sh has the disk's.
 top=$(cd "$(dirname "$0")/.." && pwd)
 "$top/cityfund" > /dev/null 2>&1 # builds it where it is out of date
-scratch=$(mktemp -d) || exit 1
+scratch=$(mktemp -d /dev/shm/growth.XXXXXX) || exit 1
 trap 'rm -rf "$scratch"' EXIT
 cp "$top/examples/rivertown/chart.toml" "$scratch/chart.toml"
 cd "$scratch" && python3 - "$top/crates/cityfund/out/cityfund" <<'PY'
-import subprocess, sys, threading, time
+import os, subprocess, sys, threading, time
 
 ADOPT = ('{"call":"adopt","desk":1,"key":"b","on":"2025-07-01","fund":1,"year":2026,'
          '"lines":[{"line":3,"amount":1000000000}],"estimates":[]}\n')
@@ -39,12 +40,19 @@ def talk(desk, lines):
     writer.join()
     return time.time() - start, sum(b'"ok"' in reply for reply in replies)
 
+def fresh_desk():
+    """A desk over a journal with no entry."""
+    if os.path.exists("fund.journal"):
+        os.remove("fund.journal")
+    subprocess.run([sys.argv[1], "found"], stdout=subprocess.DEVNULL, check=True)
+    return subprocess.Popen([sys.argv[1], "desk"], stdin=subprocess.PIPE, stdout=subprocess.PIPE)
+
 def resident(desk):
     with open(f"/proc/{desk.pid}/statm") as pages:
         return int(pages.read().split()[1]) * 4096
 
 for entries in (1_000, 100_000):
-    desk = subprocess.Popen([sys.argv[1], "desk"], stdin=subprocess.PIPE, stdout=subprocess.PIPE)
+    desk = fresh_desk()
     talk(desk, [ADOPT])
     before = resident(desk)
     talk(desk, vouchers(0, entries - 1))
@@ -57,7 +65,7 @@ for entries in (1_000, 100_000):
           f"a look {look / BATCH * 1e6:.1f} us, {grown:,.0f} bytes an entry, status {status}")
 
 for documents in (1_000, 100_000):
-    desk = subprocess.Popen([sys.argv[1], "desk"], stdin=subprocess.PIPE, stdout=subprocess.PIPE)
+    desk = fresh_desk()
     talk(desk, [ADOPT])
     talk(desk, orders(documents))
     seconds, accepted = talk(desk, item_vouchers(BATCH, documents))

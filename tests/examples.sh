@@ -1,35 +1,79 @@
 #!/bin/sh
-# Runs each talk of examples/ through the launcher, in a folder of its own with the chart of Rivertown, and
-# compares what it prints with the replies beside it.
+# Runs the examples through the launcher and compares what it prints with the replies beside them: each talk of
+# examples/ over a journal of its own, founded with the chart of Rivertown, and the day of examples/two-runs/ by two
+# desks, one after the other, over one journal. Then what founding and opening refuse.
 cd "$(dirname "$0")/.." || exit 1
 top=$(pwd)
 scratch=$(mktemp -d) || exit 1
 trap 'rm -rf "$scratch"' EXIT
-cp examples/rivertown/chart.toml "$scratch/chart.toml"
 passed=0
 failed=0
-for talk in examples/*.jsonl; do
-    replies=${talk%.jsonl}.replies
-    (cd "$scratch" && "$top/cityfund" desk < "$top/$talk" > got)
-    status=$?
-    if [ "$status" -eq 0 ] && cmp -s "$scratch/got" "$replies"; then
+
+# verdict NAME WHETHER-IT-HOLDS
+verdict() {
+    if [ "$2" -eq 0 ]; then
         passed=$((passed + 1))
     else
         failed=$((failed + 1))
-        echo "$talk: status $status"
-        diff "$scratch/got" "$replies"
+        echo "failed: $1"
     fi
+}
+
+# expect NAME STATUS TEXT COMMAND..: runs the command in the folder of the journal.
+expect() {
+    name=$1 wanted=$2 text=$3
+    shift 3
+    said=$(cd "$scratch" && "$top/cityfund" "$@" 2>&1 < /dev/null)
+    status=$?
+    [ "$status" -eq "$wanted" ] && [ "$said" = "$text" ]
+    verdict "$name: status $status: $said" $?
+}
+
+# talk LINES REPLIES: a desk over the journal that is there.
+talk() {
+    (cd "$scratch" && "$top/cityfund" desk < "$top/$1" > got)
+    status=$?
+    [ "$status" -eq 0 ] && diff "$scratch/got" "$2"
+    verdict "$1: status $status" $?
+}
+
+fresh() {
+    rm -f "$scratch/fund.journal"
+    cp examples/rivertown/chart.toml "$scratch/chart.toml"
+}
+
+for lines in examples/*.jsonl; do
+    fresh
+    expect "found for $lines" 0 founded found
+    talk "$lines" "${lines%.jsonl}.replies"
 done
 
-# A property tax window of 61 days breaks the chart's rule of 60 (GASB Codification P70): status 3.
+fresh
+expect "found for two runs" 0 founded found
+talk examples/two-runs/morning.jsonl examples/two-runs/morning.replies
+# The journal has the chart, so the desk needs no other.
+rm "$scratch/chart.toml"
+talk examples/two-runs/afternoon.jsonl examples/two-runs/afternoon.replies
+cp "$scratch/fund.journal" "$scratch/before"
+
+expect "found without a chart" 4 "cityfund: read fault" found
+cp examples/rivertown/chart.toml "$scratch/chart.toml"
+expect "found again" 8 "cityfund: already founded" found
+expect "other words" 2 "cityfund: bad words" desk found
+expect "a desk without lines" 0 "" desk
+cmp -s "$scratch/fund.journal" "$scratch/before"
+verdict "the journal stays" $?
+
+# Another version of the journal.
+printf '\002' | dd of="$scratch/fund.journal" bs=1 seek=1 conv=notrunc 2> /dev/null
+expect "another version" 9 "cityfund: damaged at 1" desk
+
+fresh
+expect "a desk without a journal" 7 "cityfund: not founded" desk
+# A property tax window of 61 days breaks the chart's rule of 60 (GASB Codification P70).
 sed 's/^window = 60$/window = 61/' examples/rivertown/chart.toml > "$scratch/chart.toml"
-said=$(cd "$scratch" && "$top/cityfund" desk < "$top/examples/first-day.jsonl" 2>&1)
-status=$?
-if [ "$status" -eq 3 ] && [ "$said" = "cityfund: chart refused" ]; then
-    passed=$((passed + 1))
-else
-    failed=$((failed + 1))
-    echo "a window of 61: status $status: $said"
-fi
+expect "a window of 61" 3 "cityfund: chart refused" found
+expect "a desk after a refused chart" 7 "cityfund: not founded" desk
+
 echo "examples: $passed passed, $failed failed"
 [ "$failed" -eq 0 ]

@@ -10,8 +10,8 @@ use cf_base::{Failed, Sink};
 // The room that an answer needs: one that is longer makes its own.
 const ANSWER_ROOM: usize = 1024;
 
-// Writes all of it, or a front of it.
-fn write_all<K: Sink>(sink: &mut K, bytes: &[u8]) -> Result<(), Failed>
+/// Writes all of it, or a front of it where a write fails.
+pub fn write_all<K: Sink>(sink: &mut K, bytes: &[u8]) -> Result<(), Failed>
     ensures ok { OnOk result (Appends (K.held sink.old) (K.held sink.new) bytes.now) }
     ensures err { OnErr result ((rest : List ℕ) × Wrote (K.held sink.old) (K.held sink.new) bytes.now rest) }
     ensures cause { HasCause (K.faults sink.old) (K.faults sink.new) result }

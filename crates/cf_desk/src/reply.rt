@@ -19,7 +19,7 @@ fn put_long(out: &mut Vec<u8>)
 fn put_line<O: Office>(office: &mut O, line: &Line, out: &mut Vec<u8>)
     requires { vec_len out.old + 1024 ≤ vec_capacity out.old }
     ensures puts { (text : List ℕ) → IsLine line.now text
-        → Puts O.answers (O.state office.old) text (O.state office.new) out.old.items out.new.items }
+        → Puts O.answers office.old text office.new out.old.items out.new.items }
     ensures newline { vec_len out.new + 1 ≤ vec_capacity out.new }
     ensures capacity { vec_capacity out.old ≤ vec_capacity out.new }
 {
@@ -34,7 +34,7 @@ fn put_line<O: Office>(office: &mut O, line: &Line, out: &mut Vec<u8>)
 pub fn put_reply<O: Office>(office: &mut O, line: &Line, out: &mut Vec<u8>)
     requires { vec_len out.old + 1024 ≤ vec_capacity out.old }
     ensures replies { (text : List ℕ) → IsLine line.now text
-        → Replies O.answers (O.state office.old) text (O.state office.new) out.old.items out.new.items }
+        → Replies O.answers office.old text office.new out.old.items out.new.items }
     ensures capacity { vec_capacity out.old ≤ vec_capacity out.new }
 {
     put_line(office, line, out);

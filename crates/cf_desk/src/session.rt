@@ -20,11 +20,11 @@ fn end_line<O: Office, K: Sink>(
 ) -> Result<(), Failed>
     requires { 1024 ≤ vec_capacity pending.old }
     ensures ok { OnOk result (Feeds O.answers
-        (state_of (O.state office.old) (K.held sink.old) line.old pending.old.items)
-        (state_of (O.state office.new) (K.held sink.new) line.new pending.new.items) (10 ∷ [])) }
+        (state_of office.old (K.held sink.old) line.old pending.old.items)
+        (state_of office.new (K.held sink.new) line.new pending.new.items) (10 ∷ [])) }
     ensures err { OnErr result (Breaks O.answers
-        (state_of (O.state office.old) (K.held sink.old) line.old pending.old.items)
-        (moment_of (O.state office.new) (K.held sink.new)) (10 ∷ [])) }
+        (state_of office.old (K.held sink.old) line.old pending.old.items)
+        (moment_of office.new (K.held sink.new)) (10 ∷ [])) }
     ensures capacity { vec_capacity pending.old ≤ vec_capacity pending.new }
     ensures cause { HasCause (K.faults sink.old) (K.faults sink.new) result }
 {
@@ -48,11 +48,11 @@ fn feed<O: Office, K: Sink>(
 ) -> Result<(), Failed>
     requires { 1024 ≤ vec_capacity pending.old }
     ensures ok { OnOk result (Feeds O.answers
-        (state_of (O.state office.old) (K.held sink.old) line.old pending.old.items)
-        (state_of (O.state office.new) (K.held sink.new) line.new pending.new.items) piece.now) }
+        (state_of office.old (K.held sink.old) line.old pending.old.items)
+        (state_of office.new (K.held sink.new) line.new pending.new.items) piece.now) }
     ensures err { OnErr result (Breaks O.answers
-        (state_of (O.state office.old) (K.held sink.old) line.old pending.old.items)
-        (moment_of (O.state office.new) (K.held sink.new)) piece.now) }
+        (state_of office.old (K.held sink.old) line.old pending.old.items)
+        (moment_of office.new (K.held sink.new)) piece.now) }
     ensures capacity { vec_capacity pending.old ≤ vec_capacity pending.new }
     ensures cause { HasCause (K.faults sink.old) (K.faults sink.new) result }
 {
@@ -80,12 +80,12 @@ pub fn feed_whole<O: Office, K: Sink>(
 ) -> Result<(), Failed>
     requires { 1024 ≤ vec_capacity pending.old }
     ensures ok { OnOk result (Feeds O.answers
-        (state_of (O.state office.old) (K.held sink.old) line.old pending.old.items)
-        (state_of (O.state office.new) (K.held sink.new) line.new pending.new.items) piece.now) }
+        (state_of office.old (K.held sink.old) line.old pending.old.items)
+        (state_of office.new (K.held sink.new) line.new pending.new.items) piece.now) }
     ensures written { OnOk result (pending.new.items ≡ []) }
     ensures err { OnErr result (Breaks O.answers
-        (state_of (O.state office.old) (K.held sink.old) line.old pending.old.items)
-        (moment_of (O.state office.new) (K.held sink.new)) piece.now) }
+        (state_of office.old (K.held sink.old) line.old pending.old.items)
+        (moment_of office.new (K.held sink.new)) piece.now) }
     ensures capacity { vec_capacity pending.old ≤ vec_capacity pending.new }
     ensures cause { HasCause (K.faults sink.old) (K.faults sink.new) result }
 {

@@ -1,5 +1,4 @@
 ghost use Rattle.std.specs.Prelude.{◌≢◌, List, [], ◌+◌, ◌≤◌};
-ghost use Rattle.cf_model.specs.State.{empty_office, blank_plan};
 
 use crate::{Ended, Office, run_lines};
 use cf_base::{Failed, MemSink, MemSource, Sink, Source};
@@ -24,8 +23,6 @@ fn sign_of(line: &[u8]) -> u8
 }
 
 impl Office for FirstLetter {
-    ghost state = { λ _. empty_office blank_plan };
-
     ghost answers = { λ _ _ _ _. Unit {0} };
 
     fn answer(&mut self, line: &[u8], out: &mut Vec<u8>) {

@@ -1,3 +1,4 @@
+pub mod BookState
 pub mod BookView
 pub mod Keys
 pub mod Least

@@ -1,11 +1,13 @@
 //! The office that answers by running numbers and look-ups.
 
-ghost use Rattle.std.specs.Prelude.{◌≡◌, ◌≤◌, [], length, take, ℕ};
+ghost use Rattle.std.specs.Prelude.{◌≡◌, ◌≤◌, ◌++◌, ◌∷◌, [], length, take, ℕ, IfOk, IfSome};
+ghost use Rattle.cf_calls.specs.declared.entry.Entry.{Entry};
 ghost use Rattle.cf_model.specs.LineNumbers.{HasRoom};
-ghost use Rattle.cf_model.specs.Step.{IsLegal};
+ghost use Rattle.cf_model.specs.Step.{Adds, IsLegal, made_by};
+ghost use Rattle.cf_office.specs.BookState.{IsPrepared};
 
 use crate::history::{History, Office};
-use crate::prepared::{apply_lines, apply_rest, reserve};
+use crate::prepared::{Prepared, apply_lines, apply_rest, reserve};
 use crate::rest::Rest;
 use cf_budget::Lines;
 use cf_calls::{Change, Entry, LineNumbers, Made};
@@ -22,9 +24,9 @@ pub struct BookOffice {
 }
 
 impl Model for BookOffice {
-    ghost use Rattle.cf_model.specs.State.{OfficeState};
+    ghost use Rattle.cf_office.specs.BookState.{BookState};
 
-    ghost Value = { OfficeState };
+    ghost Value = { BookState };
 
     ghost use Rattle.cf_office.specs.BookView.{book_state, IsTied};
 
@@ -53,6 +55,27 @@ impl BookOffice {
         ensures control { (n : ℕ) → HasRoom self.now.plan (take n self.now.entries) }
     {
         self.rest.entries()
+    }
+
+    /// Takes all memory of the application of an entry that the rules accept. The history stays.
+    pub fn reserve(&mut self, entry: Entry) -> Result<Prepared, AllocError>
+        requires { Adds self.old.plan self.old.entries entry }
+        ensures plan { self.new.plan ≡ self.old.plan }
+        ensures entries { self.new.entries ≡ self.old.entries }
+        ensures ok { IfOk result (λ p. IsPrepared self.new p entry) }
+    {
+        reserve(&mut self.lines, &mut self.rest, entry)
+    }
+
+    /// Adds the entry that is prepared, and says what it made. It takes no memory.
+    pub fn apply(&mut self, prepared: Prepared) -> Made
+        requires { (e : Entry) × IsPrepared self.old prepared e }
+        ensures plan { self.new.plan ≡ self.old.plan }
+        ensures entries { IfSome self.old.ready (λ e. self.new.entries ≡ self.old.entries ++ e ∷ []) }
+        ensures made { IfSome self.old.ready (λ e. result ≡ made_by e.drawn e.change.act) }
+    {
+        apply_lines(&mut self.lines, prepared.lines);
+        apply_rest(&mut self.rest, prepared.rest)
     }
 }
 
@@ -96,8 +119,7 @@ impl History for BookOffice {
 
 impl Office for BookOffice {
     fn accept(&mut self, entry: Entry) -> Result<Made, AllocError> {
-        let prepared = reserve(&mut self.lines, &mut self.rest, entry)?;
-        apply_lines(&mut self.lines, prepared.lines);
-        Ok(apply_rest(&mut self.rest, prepared.rest))
+        let prepared = self.reserve(entry)?;
+        Ok(self.apply(prepared))
     }
 }

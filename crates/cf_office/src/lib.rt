@@ -18,7 +18,7 @@ mod verdict;
 pub use book::BookOffice;
 pub use history::{History, Office};
 pub use plain::PlainOffice;
-pub use posting::post;
+pub use posting::{look_reply, post, refusal_reply, repeat_reply};
 pub use prepared::{Prepared, PreparedLines, PreparedRest, apply_lines, apply_rest, reserve};
 pub use rest::Rest;
 pub use verdict::{answer, judge, made_of};

@@ -1,15 +1,17 @@
 //! One call over an office: judged, and its entry added where the rules accept it.
 
-ghost use Rattle.std.specs.Prelude.{◌≡◌, Some, None, List};
+ghost use Rattle.std.specs.Prelude.{◌≡◌, Some, None, List, length};
 ghost use Rattle.cf_calls.specs.Form.{IsCallInForm, IsChangeInForm, IsReadInForm};
 ghost use Rattle.cf_calls.specs.declared.call.Call.TheVariants as calls;
+ghost use Rattle.cf_calls.specs.declared.reply.Body.TheVariants as bodies;
+ghost use Rattle.cf_calls.specs.declared.reply.Posted.TheVariants as posted;
 ghost use Rattle.cf_calls.specs.declared.reply.Verdict.TheVariants.{Accept};
 ghost use Rattle.cf_model.specs.Step as step;
 ghost use Rattle.cf_office.specs.Posts.{Posts, IsReply};
 
-use crate::history::Office;
+use crate::history::{History, Office};
 use crate::verdict::{answer, judge};
-use cf_calls::{Body, Call, Change, Drawn, Look, Posted, Reply, Verdict, entry_of};
+use cf_calls::{Body, Call, Change, Drawn, Look, Posted, Refusal, Reply, Verdict, entry_of};
 use std::alloc::Global;
 
 /// What the office gives for a call: the step's reply, with the step's next history; want of memory, which
@@ -21,22 +23,47 @@ pub fn post<B: Office>(alloc: Global, office: &mut B, call: &Call) -> Option<Pos
 {
     match call {
         Call::Change(change) => post_change(alloc, office, change),
-        Call::Look(look) => post_look(alloc, office, look),
+        Call::Look(look) => look_reply(alloc, office, look),
     }
 }
 
-fn post_look<B: Office>(alloc: Global, office: &B, look: &Look) -> Option<Posted>
+/// What is given for a look: what it shows, want of memory, or `None` for a look that the office doesn't know yet.
+pub fn look_reply<H: History>(alloc: Global, history: &H, look: &Look) -> Option<Posted>
     requires { IsReadInForm look.now.read }
-    ensures { Posts (B.History.plan office.now) (B.History.entries office.now) (calls.Look look.now) (B.History.entries office.now) result }
+    ensures { Posts (H.plan history.now) (H.entries history.now) (calls.Look look.now) (H.entries history.now) result }
 {
-    match answer(alloc, office, look) {
+    match answer(alloc, history, look) {
         Ok(Some(body)) => Some(Posted::Reply(Reply {
-            at: office.len(),
+            at: history.len(),
             body,
         })),
         Ok(None) => None,
         Err(_) => Some(Posted::NoMemory),
     }
+}
+
+/// The reply to a change that repeats the call at a place.
+pub fn repeat_reply<H: History>(history: &H, was: u64) -> Posted
+    ensures { result ≡ posted.Reply (record { at = length (H.entries history.now); body = bodies.Done (step.made_at (H.entries history.now) was) (Some was) }) }
+{
+    let made = history.made_at(was);
+    Posted::Reply(Reply {
+        at: history.len(),
+        body: Body::Done {
+            made,
+            was: Some(was),
+        },
+    })
+}
+
+/// The reply to a change that a rule refuses.
+pub fn refusal_reply<H: History>(history: &H, refusal: Refusal) -> Posted
+    ensures { result ≡ posted.Reply (record { at = length (H.entries history.now); body = bodies.Refused refusal }) }
+{
+    Posted::Reply(Reply {
+        at: history.len(),
+        body: Body::Refused(refusal),
+    })
 }
 
 fn post_change<B: Office>(alloc: Global, office: &mut B, change: &Change) -> Option<Posted>
@@ -46,20 +73,8 @@ fn post_change<B: Office>(alloc: Global, office: &mut B, change: &Change) -> Opt
 {
     match judge(office, change) {
         Verdict::Accept(drawn) => Some(accept(alloc, office, change, drawn)),
-        Verdict::Repeat { was } => {
-            let made = office.made_at(was);
-            Some(Posted::Reply(Reply {
-                at: office.len(),
-                body: Body::Done {
-                    made,
-                    was: Some(was),
-                },
-            }))
-        }
-        Verdict::Refuse(refusal) => Some(Posted::Reply(Reply {
-            at: office.len(),
-            body: Body::Refused(refusal),
-        })),
+        Verdict::Repeat { was } => Some(repeat_reply(office, was)),
+        Verdict::Refuse(refusal) => Some(refusal_reply(office, refusal)),
         Verdict::Unbuilt => None,
     }
 }

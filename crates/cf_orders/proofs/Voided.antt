@@ -70,7 +70,7 @@ views_orders g keeps uses uses2 (x ∷ old) (y ∷ new) e =
 
 -- ---- payments
 
-any_push : (p : ℕ → Bool) (xs : List ℕ) (x : ℕ) → list_any p (xs ++ x ∷ []) ≡ (list_any p xs || p x)
+pub any_push : (p : ℕ → Bool) (xs : List ℕ) (x : ℕ) → list_any p (xs ++ x ∷ []) ≡ (list_any p xs || p x)
 any_push p [] x = last (p x)
   where
     last : (b : Bool) → (b || false) ≡ b

@@ -68,7 +68,7 @@ pub fn release_move(row: &HoldRow) -> LineMove
     made
 }
 
-fn is_open(state: RequisitionState) -> bool
+pub fn is_open(state: RequisitionState) -> bool
     ensures { result ≡ spec.is_open state }
 {
     match state {

@@ -2,7 +2,8 @@
 #![tactic(auto)]
 
 use cf_base::{FileSource, StdSink, StdSource};
-use cf_top::{Status, run};
+use cf_disk::FileDisk;
+use cf_top::{Ran, Status, run};
 use std::process::ExitCode;
 use std::{env, io};
 
@@ -25,18 +26,23 @@ fn main(rt: HostRuntime) -> ExitCode {
     let mut chart = FileSource::new(&rt, "chart.toml");
     let mut input = StdSource::new(rt.reader());
     let mut out = StdSink::new(rt.stdout());
+    let disk = FileDisk::new(&rt, "fund.journal");
     let status = match words(&rt) {
-        Ok(words) => run(
-            rt.alloc(),
-            words.as_slice(),
-            &mut chart,
-            &mut input,
-            &mut out,
-        ),
+        Ok(words) => {
+            let Ran { status, disk: _ } = run(
+                rt.alloc(),
+                words.as_slice(),
+                &mut chart,
+                &mut input,
+                &mut out,
+                disk,
+            );
+            status
+        }
         Err(error) => wordless(&error),
     };
     if status != Status::Ok {
-        let _ = eprintln!(rt; "cityfund: {}", status.text());
+        let _ = eprintln!(rt; "cityfund: {status}");
     }
     ExitCode::from(status.code())
 }

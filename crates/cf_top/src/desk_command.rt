@@ -1,0 +1,126 @@
+//! The run of `desk`.
+
+ghost use Rattle.std.specs.Prelude.{◌≡◌, [], ℕ, List, Option, Ok};
+ghost use Rattle.std.specs.Io.KnownBytes.{Consumes};
+ghost use Rattle.cf_base.specs.Causes.{Rose};
+ghost use Rattle.cf_desk.specs.declared.ended.Ended.TheVariants as ended;
+ghost use Rattle.cf_book.specs.Openings.{IsOpened};
+ghost use Rattle.cf_top.specs.Runs.{DeskEnds, DeskKept, opened, status_of_ended, status_of_refused};
+ghost use Rattle.cf_top.specs.Devices.{device};
+ghost use Rattle.cf_top.specs.Words.{command_of};
+
+use crate::clerk::Clerk;
+use crate::running::Ran;
+use crate::status::Status;
+use crate::words::{Command, read_words};
+use cf_base::{Sink, Source};
+use cf_book::{Book, BookRefused, NotOpened, open};
+use cf_desk::{Ended, run_lines};
+use cf_disk::Disk;
+use std::alloc::Global;
+
+fn status_of(how: Ended) -> Status
+    ensures { result ≡ status_of_ended how }
+{
+    match how {
+        Ended::Ok => Status::Ok,
+        Ended::ReadFault => Status::ReadFault,
+        Ended::WriteFault => Status::WriteFault,
+        Ended::InputLimit => Status::InputLimit,
+        Ended::NoMemory => Status::NoMemory,
+    }
+}
+
+/// The status of a journal that isn't opened.
+fn refusal_status(why: BookRefused) -> Status
+    ensures { result ≡ status_of_refused why }
+{
+    match why {
+        BookRefused::Disk => Status::DiskFault,
+        BookRefused::NotFounded { len, byte } => Status::NotFounded { len, byte },
+        BookRefused::Damaged { offset, refusal } => Status::Damaged { offset, refusal },
+        BookRefused::NoMemory => Status::NoMemory,
+    }
+}
+
+/// Keeps a desk over a book to the end of its input, and gives its disk back.
+fn keep_desk<I: Source, O: Sink, D: Disk + Drop>(
+    alloc: Global,
+    book: Book<D>,
+    input: &mut I,
+    out: &mut O,
+) -> (Ended, D)
+    requires { IsOpened D.tells D.is_image book.disk book.office book.journal }
+    ensures kept { DeskKept (device D.tells D.content D.is_image D.moment D.was_image D.faults) (opened book.office.plan book.office.entries (D.faults book.disk)) result.1
+        (I.left input.old) (I.left input.new) (O.held out.old) (O.held out.new) result.0 }
+    ensures silent { result.0 ≡ ended.NoMemory → Consumes (I.left input.old) (I.left input.new) [] × (O.held out.new ≡ O.held out.old) × (result.1 ≡ book.disk) }
+    ensures read { result.0 ≡ ended.ReadFault → Rose (I.faults input.old) (I.faults input.new) }
+    ensures write { result.0 ≡ ended.WriteFault → Rose (O.faults out.old) (O.faults out.new) }
+{
+    let mut clerk = Clerk {
+        alloc,
+        book,
+        accepted: false,
+    };
+    let how = run_lines(alloc, &mut clerk, input, out);
+    // The office says of its entries what the run hands on.
+    let _sound = clerk.book.office.entries();
+    let Clerk { book, .. } = clerk;
+    let Book { disk, .. } = book;
+    (how, disk)
+}
+
+/// Opens the journal of the disk, and keeps a desk over it.
+fn desk_over<I: Source, O: Sink, D: Disk + Drop>(
+    alloc: Global,
+    input: &mut I,
+    out: &mut O,
+    disk: D,
+) -> Ran<D>
+    ensures ends { DeskEnds (device D.tells D.content D.is_image D.moment D.was_image D.faults) disk result.disk
+        (I.left input.old) (I.left input.new) (O.held out.old) (O.held out.new) result.status }
+    ensures read { result.status ≡ Status.ReadFault → Rose (I.faults input.old) (I.faults input.new) }
+    ensures write { result.status ≡ Status.WriteFault → Rose (O.faults out.old) (O.faults out.new) }
+    ensures disk { result.status ≡ Status.DiskFault → Rose (D.faults disk) (D.faults result.disk) }
+{
+    match open(alloc, disk) {
+        Ok(book) => {
+            let (how, disk) = keep_desk(alloc, book, input, out);
+            Ran {
+                status: status_of(how),
+                disk,
+            }
+        }
+        Err(NotOpened { disk, why }) => Ran {
+            status: refusal_status(why),
+            disk,
+        },
+    }
+}
+
+/// The run of `desk`: opens the journal, then reads one call per line of the input and answers each on one line.
+/// Other words are `BadWords`, and nothing is read or written.
+pub fn run_desk<I: Source, O: Sink, D: Disk + Drop>(
+    alloc: Global,
+    words: &[String],
+    input: &mut I,
+    out: &mut O,
+    disk: D,
+) -> Ran<D>
+    ensures ends { command_of words.now ≡ Ok Command.Desk
+        → DeskEnds (device D.tells D.content D.is_image D.moment D.was_image D.faults) disk result.disk
+        (I.left input.old) (I.left input.new) (O.held out.old) (O.held out.new) result.status }
+    ensures words { (command_of words.now ≡ Ok Command.Desk → ⊥)
+        → (result.status ≡ Status.BadWords) × (I.left input.new ≡ I.left input.old) × (O.held out.new ≡ O.held out.old) × (result.disk ≡ disk) }
+    ensures read { result.status ≡ Status.ReadFault → Rose (I.faults input.old) (I.faults input.new) }
+    ensures write { result.status ≡ Status.WriteFault → Rose (O.faults out.old) (O.faults out.new) }
+    ensures disk { result.status ≡ Status.DiskFault → Rose (D.faults disk) (D.faults result.disk) }
+{
+    match read_words(words) {
+        Ok(Command::Desk) => desk_over(alloc, input, out, disk),
+        _ => Ran {
+            status: Status::BadWords,
+            disk,
+        },
+    }
+}
