@@ -3,8 +3,8 @@ use std::fs::{self, File};
 use std::io::{Cursor, Write};
 use std::test::Fail;
 
-// A file of this test's own, in the folder for files that don't last.
-const PATH: &str = "/tmp/cf_base_file_source";
+// A file of this test's own, in the folder that it runs in.
+const PATH: &str = "source.test";
 
 #[test]
 fn a_file_is_read_to_its_end(rt: HostRuntime) -> Result<(), Fail> {
@@ -22,7 +22,7 @@ fn a_file_is_read_to_its_end(rt: HostRuntime) -> Result<(), Fail> {
 
 #[test]
 fn a_file_that_is_missing_is_a_fault(rt: HostRuntime) -> Result<(), Fail> {
-    let mut source = FileSource::new(&rt, "/tmp/cf_base_no_such_file");
+    let mut source = FileSource::new(&rt, "nowhere/source.test");
     let mut bytes = [0; 4];
     assert_eq!(rt; source.read(&mut bytes), Err(Failed));
     Ok(())
