@@ -11,10 +11,11 @@ ghost use Rattle.cf_office.specs.Least.{closed_where};
 ghost use Rattle.cf_chart.specs.Plan.{object_at, desk_at, is_capital_kind};
 
 use crate::history::History;
-use cf_base::{Day, MOST_CENTS, fiscal_year, month_of};
+use cf_base::{Day, MOST_CENTS, month_of};
 use cf_calls::items::{AccountItem, Charge, LineAmount, SourceAmount, VoucherItem};
 use cf_calls::{Act, Refusal, Role, has_role, role_of};
 use cf_chart::{Chart, ObjectKind};
+use cf_orders::{document_year, year_of_day};
 
 /// The most entries that a history may have.
 pub const MOST_ENTRIES: u64 = 1_048_576;
@@ -214,30 +215,6 @@ pub fn amount_rule(chart: &Chart, act: &Act) -> Option<Refusal>
 }
 
 // ---- months and years
-
-/// The fiscal year of a day.
-pub fn year_of_day(chart: &Chart, on: Day) -> u16
-    requires { is_day on ≡ true }
-    ensures value { result ≡ calendar.year_of_day chart.now on }
-    ensures within { result ≤ 2200 }
-{
-    fiscal_year(chart.first_month(), month_of(on))
-}
-
-/// The fiscal year of a change's document: that of its day, or for a voucher of the year just ended the one
-/// before.
-pub fn document_year(chart: &Chart, on: Day, act: &Act) -> u16
-    requires { is_day on ≡ true }
-    ensures value { result ≡ calendar.document_year chart.now on act.now }
-    ensures within { result ≤ 2200 }
-{
-    let year = year_of_day(chart, on);
-    if act.is_back() {
-        year.saturating_sub(1)
-    } else {
-        year
-    }
-}
 
 /// Whether the month of a day is closed: none but those before the chart's first one are, as the office
 /// doesn't know the closing of months yet.

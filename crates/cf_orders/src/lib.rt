@@ -22,6 +22,7 @@ mod tests;
 mod vouchers;
 mod year_end;
 
+pub use fiscal::{document_year, year_of_day};
 pub use moves::LineMove;
 pub use orders::Orders;
 pub use year_end::{Released, RollItem, RollLists};
