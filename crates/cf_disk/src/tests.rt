@@ -35,6 +35,7 @@ fn a_file_is_a_disk(rt: HostRuntime) {
     assert!(rt; bytes_at(&mut again, 0, &mut all));
     assert_eq!(rt; all.as_slice(), b"abcd\0\0gh".as_slice());
     assert!(rt; !bytes_at(&mut again, 6, &mut three));
+    assert!(rt; fs::remove_file(&rt, "journal.test").is_ok());
 }
 
 #[test]
