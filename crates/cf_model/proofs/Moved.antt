@@ -5,7 +5,7 @@ use Rattle.std.proofs.lemmas.Int.{ints}
 use Rattle.std.proofs.lemmas.List.Sums.{sum_by-cons, sum_by-append}
 use Rattle.cf_base.specs.declared.calendar.Day.{Day}
 use Rattle.cf_calls.specs.declared.acts.Act.{Act}
-use Rattle.cf_calls.specs.declared.acts.Act.TheVariants.{Adopt, Amend, Transfer, Requisition, Withdraw, Order, ChangeOrder, CancelOrder, Voucher, VoidVoucher}
+use Rattle.cf_calls.specs.declared.acts.Act.TheVariants.{Adopt, Amend, Transfer, Requisition, Withdraw, Order, ChangeOrder, CancelOrder, Voucher, VoidVoucher, Receive, Interfund}
 use Rattle.cf_calls.specs.declared.items.AccountItem.{AccountItem}
 use Rattle.cf_calls.specs.declared.items.VoucherItem.{VoucherItem}
 use Rattle.cf_calls.specs.declared.shown.RequisitionState.{RequisitionState}
@@ -179,6 +179,8 @@ held_rises plan s number desk on (VoidVoucher n) line year built =
 held_rises plan s number desk on (Adopt a) line year built = all_kept (held_at plan line year) plan line year (λ m. m.held) s.holds [] refl
 held_rises plan s number desk on (Amend a) line year built = all_kept (held_at plan line year) plan line year (λ m. m.held) s.holds [] refl
 held_rises plan s number desk on (Transfer t) line year built = all_kept (held_at plan line year) plan line year (λ m. m.held) s.holds [] refl
+held_rises plan s number desk on (Receive r) line year built = all_kept (held_at plan line year) plan line year (λ m. m.held) s.holds [] refl
+held_rises plan s number desk on (Interfund m) line year built = all_kept (held_at plan line year) plan line year (λ m. m.held) s.holds [] refl
 held_rises plan s number desk on _ line year built = cc
 
 -- ---- what is spent
@@ -248,4 +250,6 @@ expended_rises plan s number desk on (CancelOrder n) line year built =
 expended_rises plan s number desk on (Adopt a) line year built = all_kept (expended_at plan line year) plan line year (λ m. m.expended) s.expenditures [] refl
 expended_rises plan s number desk on (Amend a) line year built = all_kept (expended_at plan line year) plan line year (λ m. m.expended) s.expenditures [] refl
 expended_rises plan s number desk on (Transfer t) line year built = all_kept (expended_at plan line year) plan line year (λ m. m.expended) s.expenditures [] refl
+expended_rises plan s number desk on (Receive r) line year built = all_kept (expended_at plan line year) plan line year (λ m. m.expended) s.expenditures [] refl
+expended_rises plan s number desk on (Interfund m) line year built = all_kept (expended_at plan line year) plan line year (λ m. m.expended) s.expenditures [] refl
 expended_rises plan s number desk on _ line year built = cc

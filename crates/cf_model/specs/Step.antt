@@ -2,7 +2,9 @@
 use Rattle.std.specs.Prelude.{◌≡◌, ℕ, ◌+◌, ◌-◌, Bool, true, false, not, if◌then◌else◌, List, [], ◌∷◌, ◌++◌, length, Option, Some, None, is_some, option_map, slice_get}
 use Rattle.std.specs.List.{list_all}
 use Rattle.cf_calls.specs.declared.acts.Act.{Act}
-use Rattle.cf_calls.specs.declared.acts.Act.TheVariants.{Adopt, Amend, Transfer, Requisition, Withdraw, Order, ChangeOrder, CancelOrder, Voucher, VoidVoucher}
+use Rattle.cf_calls.specs.declared.acts.Act.TheVariants.{Adopt, Amend, Transfer, Requisition, Withdraw, Order, ChangeOrder, CancelOrder, Voucher, VoidVoucher, Receive, Interfund}
+use Rattle.cf_calls.specs.declared.acts.FundMoveKind.{FundMoveKind}
+use Rattle.cf_calls.specs.declared.acts.FundMoveKind.TheVariants as move
 use Rattle.cf_calls.specs.declared.call.Call.{Call}
 use Rattle.cf_calls.specs.declared.call.Call.TheVariants as call
 use Rattle.cf_calls.specs.declared.call.Change.{Change}
@@ -44,7 +46,11 @@ is_capital (Some o) = is_capital_kind o.kind
 abbrev pub is_current : Plan → VoucherItem → Bool
 is_current plan i = not (is_capital (object_at plan i.account.object))
 
--- the council's calls, requisitions, orders and vouchers, but for voucher items on capital objects
+abbrev pub is_transfer : FundMoveKind → Bool
+is_transfer move.Transfer = true
+is_transfer _ = false
+
+-- the council's calls, requisitions, orders, vouchers but for items on capital objects, receipts and transfers between funds
 abbrev pub is_built : Plan → Act → Bool
 is_built plan (Adopt a) = true
 is_built plan (Amend a) = true
@@ -56,6 +62,8 @@ is_built plan (ChangeOrder c) = true
 is_built plan (CancelOrder n) = true
 is_built plan (Voucher v) = list_all (is_current plan) v.items
 is_built plan (VoidVoucher n) = true
+is_built plan (Receive r) = true
+is_built plan (Interfund m) = is_transfer m.what
 is_built plan _ = false
 
 -- ---- what an accepted change draws and makes

@@ -1,7 +1,7 @@
 -- What an accepted entry's documents need, and what they become.
 use Rattle.std.proofs.Common.{◌≡◌, true, List, [], ◌∷◌, ◌++◌, length, None, refl, sym, ◌∙◌, ap, arith}
 use Rattle.cf_calls.specs.declared.acts.Act.{Act}
-use Rattle.cf_calls.specs.declared.acts.Act.TheVariants.{Adopt, Amend, Transfer, Requisition, Withdraw, Order, ChangeOrder, CancelOrder, Voucher, VoidVoucher}
+use Rattle.cf_calls.specs.declared.acts.Act.TheVariants.{Adopt, Amend, Transfer, Requisition, Withdraw, Order, ChangeOrder, CancelOrder, Voucher, VoidVoucher, Receive, Interfund}
 use Rattle.cf_calls.specs.declared.entry.Drawn.{Drawn}
 use Rattle.cf_calls.specs.declared.entry.Entry.{Entry}
 use Rattle.cf_chart.specs.Plan.{Plan}
@@ -28,6 +28,8 @@ pays_none plan xs (ChangeOrder c) built = tt
 pays_none plan xs (CancelOrder n) built = tt
 pays_none plan xs (Voucher v) built = tt
 pays_none plan xs (VoidVoucher n) built = tt
+pays_none plan xs (Receive r) built = tt
+pays_none plan xs (Interfund m) built = tt
 pays_none plan xs _ built = cc
 
 pub rolls_none : (plan : Plan) (act : Act) → is_built plan act ≡ true → rolled_year plan act ≡ None
@@ -41,6 +43,8 @@ rolls_none plan (ChangeOrder c) built = refl
 rolls_none plan (CancelOrder n) built = refl
 rolls_none plan (Voucher v) built = refl
 rolls_none plan (VoidVoucher n) built = refl
+rolls_none plan (Receive r) built = refl
+rolls_none plan (Interfund m) built = refl
 rolls_none plan _ built = cc
 
 -- the rules on documents allow an accepted entry

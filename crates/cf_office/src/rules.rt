@@ -12,6 +12,7 @@ ghost use Rattle.cf_chart.specs.Plan.{object_at, desk_at, is_capital_kind};
 
 use crate::history::History;
 use cf_base::{Day, MOST_CENTS, month_of};
+use cf_calls::acts::FundMoveKind;
 use cf_calls::items::{AccountItem, Charge, LineAmount, SourceAmount, VoucherItem};
 use cf_calls::{Act, Refusal, Role, has_role, role_of};
 use cf_chart::{Chart, ObjectKind};
@@ -62,8 +63,17 @@ fn are_current(chart: &Chart, items: &[VoucherItem]) -> bool
     items.iter().all(|item| is_current(chart, item))
 }
 
-/// Whether the office knows this change: the council's calls, requisitions, orders and vouchers, but for
-/// voucher items on capital objects.
+fn is_transfer(what: FundMoveKind) -> bool
+    ensures { result ≡ step.is_transfer what }
+{
+    match what {
+        FundMoveKind::Transfer => true,
+        FundMoveKind::Loan | FundMoveKind::Repay => false,
+    }
+}
+
+/// Whether the office knows this change: the council's calls, requisitions, orders, vouchers but for items on
+/// capital objects, receipts and transfers between funds.
 pub fn is_built(chart: &Chart, act: &Act) -> bool
     ensures { result ≡ step.is_built chart.now act.now }
 {
@@ -72,7 +82,8 @@ pub fn is_built(chart: &Chart, act: &Act) -> bool
         Act::Requisition(_) | Act::Withdraw(_) => true,
         Act::Order(_) | Act::ChangeOrder(_) | Act::CancelOrder(_) => true,
         Act::Voucher(v) => are_current(chart, v.items.as_slice()),
-        Act::VoidVoucher(_) => true,
+        Act::VoidVoucher(_) | Act::Receive(_) => true,
+        Act::Interfund(m) => is_transfer(m.what),
         _ => false,
     }
 }
@@ -210,6 +221,8 @@ pub fn amount_rule(chart: &Chart, act: &Act) -> Option<Refusal>
         Act::Order(o) => accounts_amount_fault(o.items.as_slice()),
         Act::ChangeOrder(c) => or(amount_fault(c.by.unsigned_abs()), None),
         Act::Voucher(v) => items_amount_fault(v.items.as_slice()),
+        Act::Receive(r) => or(amount_fault(r.amount), None),
+        Act::Interfund(m) => or(amount_fault(m.amount), None),
         _ => None,
     }
 }

@@ -20,6 +20,7 @@ use Rattle.cf_model.specs.DocumentRules.{state_refusal, on_order_refusal, open_r
 use Rattle.cf_model.specs.DocumentsShown.{requisition_shown, order_shown, voucher_shown}
 use Rattle.cf_model.specs.Moves.{Move}
 use Rattle.cf_orders.specs.declared.moves.LineMove.{LineMove}
+use Rattle.cf_orders.specs.declared.spent.VoucherItem.{VoucherItem}
 use Rattle.cf_orders.specs.Rows.{is_void}
 
 -- for how many rows and documents of each kind there is memory
@@ -79,6 +80,11 @@ PaysNoVoid expenditures _ = Unit {0}
 abbrev pub open_if : Option OrderItem → ℕ
 open_if None = 0
 open_if (Some i) = open_of i
+
+-- ---- what vouchers spend
+
+abbrev pub item_of : Expenditure → VoucherItem
+item_of x = record { fund = x.account.fund; dept = x.account.dept; object = x.account.object; amount = x.account.amount; year = x.year }
 
 -- ---- moves
 
