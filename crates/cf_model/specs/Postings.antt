@@ -3,14 +3,12 @@ use Rattle.std.specs.Prelude.{ℕ, Bool, false, if◌then◌else◌, List, [], �
 use Rattle.cf_base.specs.declared.calendar.Day.{Day}
 use Rattle.cf_calls.specs.declared.acts.Act.{Act}
 use Rattle.cf_calls.specs.declared.acts.Act.TheVariants.{Voucher, VoidVoucher, Pay, Receive, Interfund}
-use Rattle.cf_calls.specs.declared.acts.FundMove.{FundMove}
 use Rattle.cf_calls.specs.declared.acts.FundMoveKind.{FundMoveKind}
 use Rattle.cf_calls.specs.declared.acts.FundMoveKind.TheVariants as move
 use Rattle.cf_calls.specs.declared.entry.Entry.{Entry}
 use Rattle.cf_calls.specs.declared.items.AccountItem.{AccountItem}
-use Rattle.cf_calls.specs.declared.items.SourceAmount.{SourceAmount}
 use Rattle.cf_calls.specs.declared.read.Basis.{Basis}
-use Rattle.cf_calls.specs.declared.read.Basis.TheVariants.{Fund as FundBasis}
+use Rattle.cf_calls.specs.declared.read.Basis.TheVariants.{Fund as FundBasis, Gov as GovBasis}
 use Rattle.cf_chart.specs.declared.rows.Department.{Department}
 use Rattle.cf_chart.specs.declared.rows.Object.{Object}
 use Rattle.cf_chart.specs.declared.rows.RevenueSource.{RevenueSource}
@@ -22,8 +20,13 @@ use Rattle.cf_model.specs.Documents.{Expenditure, Documents, no_documents, docum
 use Rattle.cf_model.specs.Moves.{spent_by}
 use Rattle.cf_post.specs.Accounts as account
 use Rattle.cf_post.specs.declared.deed.Deed.{Deed}
-use Rattle.cf_post.specs.declared.deed.Deed.TheVariants.{SpendCurrent, SpendCapital, UnspendCurrent, UnspendCapital, PayItem, Receive as ReceiveCash, TransferFunds, LendFunds, RepayFunds}
-use Rattle.cf_post.specs.Table.{posts_of}
+use Rattle.cf_post.specs.declared.deed.Deed.TheVariants as deed
+use Rattle.cf_post.specs.declared.deed.FundsAmount.{FundsAmount}
+use Rattle.cf_post.specs.declared.deed.Spent.{Spent}
+use Rattle.cf_post.specs.declared.deed.Spent.TheVariants.{Current, Capital}
+use Rattle.cf_post.specs.declared.deed.SpentItem.{SpentItem}
+use Rattle.cf_post.specs.Rows.{without_zeros}
+use Rattle.cf_post.specs.Table.{fund_rows, gov_rows}
 
 -- ---- the letters of a deed
 
@@ -49,40 +52,44 @@ fund_of plan source = fund_if (source_at plan source)
 
 -- ---- the deeds of an act
 
--- an item on a capital object is an outlay, and one on another an expenditure of its department's function
-abbrev pub spend : Plan → ℕ → AccountItem → Deed
-spend plan year a =
-    if is_capital (object_at plan a.object) then SpendCapital year a.fund a.amount else SpendCurrent year a.fund (function_of plan a.dept) a.amount
+-- an item on a capital object is spent on an asset, and one on another on its department's function
+abbrev pub spent_on : Plan → AccountItem → Spent
+spent_on plan a = if is_capital (object_at plan a.object) then Capital else Current (function_of plan a.dept)
 
--- the same taken back
-abbrev pub unspend : Plan → ℕ → AccountItem → Deed
-unspend plan year a =
-    if is_capital (object_at plan a.object) then UnspendCapital year a.fund a.amount else UnspendCurrent year a.fund (function_of plan a.dept) a.amount
+abbrev pub spent_item : Plan → ℕ → AccountItem → SpentItem
+spent_item plan year a = record { voucher_year = year; fund = a.fund; spent = spent_on plan a; amount = a.amount }
 
 abbrev pub pay_items : ℕ → List Expenditure → List ℕ → List Deed
 pay_items year expenditures [] = []
 pay_items year expenditures (n ∷ vouchers) =
-    map (λ x. PayItem year x.account.fund x.account.amount) (spent_by n expenditures) ++ pay_items year expenditures vouchers
+    map (λ x. deed.Pay (record { year = year; fund = x.account.fund; amount = x.account.amount })) (spent_by n expenditures)
+    ++ pay_items year expenditures vouchers
 
-abbrev pub fund_deed : ℕ → FundMove → FundMoveKind → Deed
-fund_deed year m move.Transfer = TransferFunds year m.from m.to m.amount
-fund_deed year m move.Loan = LendFunds year m.from m.to m.amount
-fund_deed year m move.Repay = RepayFunds year m.from m.to m.amount
+abbrev pub fund_deed : FundMoveKind → FundsAmount → Deed
+fund_deed move.Transfer a = deed.Transfer a
+fund_deed move.Loan a = deed.Loan a
+fund_deed move.Repay a = deed.Repay a
 
 -- what an act does to accounts, over the documents before it, for the acts that the office knows and for payments
 abbrev pub deeds_of : Plan → Documents → Day → Act → List Deed
-deeds_of plan s on (Voucher v) = map (λ i. spend plan (document_year plan on (Voucher v)) i.account) v.items
-deeds_of plan s on (VoidVoucher n) = map (λ x. unspend plan x.year x.account) (spent_by n s.expenditures)
+deeds_of plan s on (Voucher v) = map (λ i. deed.Voucher (spent_item plan (document_year plan on (Voucher v)) i.account)) v.items
+deeds_of plan s on (VoidVoucher n) = map (λ x. deed.VoidVoucher (spent_item plan x.year x.account)) (spent_by n s.expenditures)
 deeds_of plan s on (Pay p) = pay_items (year_of_day plan on) s.expenditures p.vouchers
-deeds_of plan s on (Receive r) = ReceiveCash (year_of_day plan on) (fund_of plan r.source) r.source r.amount ∷ []
-deeds_of plan s on (Interfund m) = fund_deed (year_of_day plan on) m m.what ∷ []
+deeds_of plan s on (Receive r) =
+    deed.Receive (record { year = year_of_day plan on; fund = fund_of plan r.source; source = r.source; amount = r.amount }) ∷ []
+deeds_of plan s on (Interfund m) = fund_deed m.what (record { year = year_of_day plan on; from = m.from; to = m.to; amount = m.amount }) ∷ []
 deeds_of plan s on _ = []
 
 -- ---- posts
 
+abbrev pub rows_of : Basis → Deed → List Post
+rows_of FundBasis d = fund_rows d
+rows_of GovBasis d = gov_rows d
+
+-- posts of zero are left out
 abbrev pub posts_by : Basis → List Deed → List Post
 posts_by basis [] = []
-posts_by basis (d ∷ deeds) = posts_of basis d ++ posts_by basis deeds
+posts_by basis (d ∷ deeds) = without_zeros (rows_of basis d) ++ posts_by basis deeds
 
 -- what an act posts on a basis, over the documents before it
 abbrev pub act_posts : Basis → Plan → Documents → Day → Act → List Post

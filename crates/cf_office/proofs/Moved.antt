@@ -230,6 +230,6 @@ moves_are plan s on (ChangeOrder c) built p q r line year = refl
 moves_are plan s on (CancelOrder n) built p q r line year = refl
 moves_are plan s on (Voucher v) built p q r line year = refl
 moves_are plan s on (VoidVoucher n) built p q r line year = refl
-moves_are plan s on (Receive r) built p q r line year = refl
+moves_are plan s on (Receive c) built p q r line year = refl
 moves_are plan s on (Interfund m) built p q r line year = refl
 moves_are plan s on _ built p q r line year = cc

@@ -4,17 +4,19 @@ ghost use Rattle.std.specs.Prelude.{◌≡◌, ◌<◌, ◌≤◌, ◌+◌, ◌^
 ghost use Rattle.cf_calls.specs.Acts.{adoption_of};
 ghost use Rattle.cf_model.specs.Documents.{documents_of, documents_step};
 ghost use Rattle.cf_budget.specs.InYears.{value_of, or_else, ReadsSame};
+ghost use Rattle.cf_model.specs.Postings.{balance_of};
 ghost use Rattle.cf_model.specs.Rules.{adopted_at};
 ghost use Rattle.cf_model.specs.Step.{Adds, IsLegal, known_at, is_same, entry_at, made_at, made_by};
 ghost use Rattle.cf_office.specs.Keys.{place_of, has_key, SameKeys, PutsKey};
 ghost use Rattle.cf_office.specs.RestView.{has_budget, PutsBudget, CanTakeIn};
 
+use crate::accounts::Accounts;
 use crate::keys::{Known, place_in, put_place, reserve_key};
 use crate::plain;
 use crate::verdict::made_of;
 use cf_budget::{InYear, put_in, reserve_in, value_in};
 use cf_calls::acts::Adoption;
-use cf_calls::{Act, Change, Entry, Made};
+use cf_calls::{Act, Basis, Change, Entry, Made};
 use cf_chart::Chart;
 use cf_orders::Orders;
 use std::alloc::{AllocError, Global};
@@ -30,6 +32,7 @@ pub struct Rest {
     known: Known,
     adopted: BTreeMap<InYear, u64>,
     orders: Orders,
+    accounts: Accounts,
     ready: Option<Entry>,
 }
 
@@ -59,6 +62,7 @@ impl Rest {
             known: BTreeMap::new(alloc),
             adopted: BTreeMap::new(alloc),
             orders: Orders::new(alloc),
+            accounts: Accounts::new(alloc),
             ready: None,
         }
     }
@@ -125,6 +129,14 @@ impl Rest {
         reserve_place(self.alloc, &mut self.known, &entry.change)?;
         reserve_budget(&mut self.adopted, &entry.change.act)?;
         self.orders.reserve(&entry.change.act)?;
+        let change = &entry.change;
+        self.accounts.reserve(
+            self.alloc,
+            &self.chart,
+            &self.orders,
+            change.on,
+            &change.act,
+        )?;
         self.entries.reserve(1)?;
         self.ready = Some(entry);
         Ok(())
@@ -144,6 +156,8 @@ impl Rest {
         let place = self.entries.len() as u64 + 1;
         note_place(&mut self.known, &entry.change, place);
         put_budget(&mut self.adopted, &entry.change.act, place);
+        let _first = self.chart.first_year();
+        self.accounts.apply();
         take_in(&mut self.orders, &self.chart, &entry);
         let made = made_of(entry.drawn, &entry.change.act);
         self.entries.push_reserved(entry);
@@ -155,6 +169,13 @@ impl Rest {
         ensures { result.now.documents ≡ documents_of self.now.plan self.now.entries }
     {
         &self.orders
+    }
+
+    /// The balance of an account of a fund through a fiscal year.
+    pub fn balance(&self, basis: Basis, year: u16, fund: u16, account: u32) -> i128
+        ensures { result ≡ balance_of basis self.now.plan year fund account self.now.entries }
+    {
+        self.accounts.balance(basis, year, fund, account)
     }
 }
 

@@ -4,6 +4,7 @@ ghost use Rattle.std.specs.Prelude.{◌≡◌, ◌∷◌, [], ◌≤◌, ◌+◌
 ghost use Rattle.std.specs.List.{list_all};
 ghost use Rattle.cf_base.specs.Calendar.{is_day, month_of_day};
 ghost use Rattle.cf_model.specs.Calendar as calendar;
+ghost use Rattle.cf_model.specs.Postings as postings;
 ghost use Rattle.cf_model.specs.Rules as spec;
 ghost use Rattle.cf_model.specs.Rules.{first_refusal};
 ghost use Rattle.cf_model.specs.Step as step;
@@ -42,8 +43,8 @@ fn is_capital_object(kind: &ObjectKind) -> bool
     }
 }
 
-fn is_capital(chart: &Chart, object: u16) -> bool
-    ensures { result ≡ step.is_capital (object_at chart.now object) }
+pub fn is_capital(chart: &Chart, object: u16) -> bool
+    ensures { result ≡ postings.is_capital (object_at chart.now object) }
 {
     match chart.object(object) {
         Some(row) => is_capital_object(&row.kind),

@@ -1,6 +1,6 @@
 //! What a voucher spends, item by item, for those who post it.
 
-ghost use Rattle.std.specs.Prelude.{◌≡◌, option_map, slice_get};
+ghost use Rattle.std.specs.Prelude.{◌≡◌, ◌≤◌, length, option_map, slice_get};
 ghost use Rattle.cf_model.specs.Moves.{spent_by};
 ghost use Rattle.cf_orders.specs.Register as spec;
 ghost use Rattle.cf_orders.specs.Rows.{view_charge};
@@ -31,6 +31,14 @@ fn item_of(row: &ChargeRow) -> VoucherItem
 }
 
 impl Orders {
+    /// How many items a voucher has, at most 32, whether it is void or not; 0 where there is no such voucher.
+    pub fn voucher_items(&self, voucher: u32) -> u16
+        ensures value { result ≡ length (spent_by voucher self.now.documents.expenditures) }
+        ensures few { result ≤ 32 }
+    {
+        self.spent(voucher) as u16
+    }
+
     /// The item of a voucher at a place, from 0, whether the voucher is void or not. `None` past the last one, and
     /// where there is no such voucher.
     pub fn voucher_item(&self, voucher: u32, nth: u16) -> Option<VoucherItem>

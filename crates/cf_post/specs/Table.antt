@@ -1,94 +1,93 @@
--- The posting table: what each deed posts on each basis of accounting (GASB Statement 34: modified accrual in the funds, accrual
--- in the government-wide statements).
-use Rattle.std.specs.Prelude.{ℕ, ◌+◌, ◌-◌, Bool, not, ◌==◌, List, [], ◌∷◌, ◌++◌, ℤ, pos, ◌-ℤ◌, unsigned_abs}
-use Rattle.std.specs.List.{filter}
-use Rattle.cf_calls.specs.declared.read.Basis.{Basis}
-use Rattle.cf_calls.specs.declared.read.Basis.TheVariants.{Fund, Gov}
+-- The posting table: the posts of a deed on both bases, posts of zero among them.
+use Rattle.std.specs.Prelude.{ℕ, ◌+◌, ◌-◌, List, [], ◌∷◌, ◌++◌}
 use Rattle.cf_ledger.specs.declared.post.Post.{Post}
 use Rattle.cf_post.specs.declared.deed.Deed.{Deed}
-use Rattle.cf_post.specs.declared.deed.Deed.TheVariants.{SpendCurrent, SpendCapital, UnspendCurrent, UnspendCapital, PayItem, Bill, Collect, Receive, WriteOff, Donate, Dispose, Issue, PayDue, EarnLeave, UseLeave, MatureLeave, TransferFunds, LendFunds, RepayFunds, Depreciate, AccrueInterest}
-use Rattle.cf_post.specs.Accounts.{cash, receivables, due_from_funds, capital_assets, accumulated_depreciation, vouchers_payable, debt_due, due_to_funds, bonds_payable, accrued_interest, compensated_absences, unavailable_revenue, revenue_of, donated_assets, gain_on_sales, spending_of, capital_outlay, debt_principal, interest, transfers_in, debt_proceeds, sale_of_assets, transfers_out}
+use Rattle.cf_post.specs.declared.deed.Deed.TheVariants.{Voucher, VoidVoucher, Pay, Bill, Collect, Receive, WriteOff, Donate, Dispose, Issue, PayDue, EarnLeave, UseLeave, MatureLeave, Transfer, Loan, Repay, Depreciate, AccrueInterest}
+use Rattle.cf_post.specs.declared.deed.DuePayment.{DuePayment}
+use Rattle.cf_post.specs.declared.deed.FundsAmount.{FundsAmount}
+use Rattle.cf_post.specs.declared.deed.Spent.{Spent}
+use Rattle.cf_post.specs.declared.deed.Spent.TheVariants.{Current, Capital}
+use Rattle.cf_post.specs.Accounts.{cash, receivables, due_from_funds, capital_assets, depreciation, payables, debt_due, due_to_funds, bonds, accrued_interest, leave, unavailable, revenue_of, donated_to, gain, current_of, capital_outlay, principal, interest, transfers_in, proceeds, asset_sales, transfers_out}
+use Rattle.cf_post.specs.Rows.{debit, credit, double, turned}
 
-abbrev pub debit : ℕ → ℕ → ℕ → ℕ → Post
-debit year fund account amount = record { year = year; fund = fund; account = account; amount = pos amount }
+-- what a fund spends on: capital assets are an expenditure when they are bought (GASB Codification 1600: current
+-- financial resources)
+abbrev pub expenditure : Spent → ℕ
+expenditure (Current function) = current_of function
+expenditure Capital = capital_outlay
 
-abbrev pub credit : ℕ → ℕ → ℕ → ℕ → Post
-credit year fund account amount = record { year = year; fund = fund; account = account; amount = pos 0 -ℤ pos amount }
+-- what the city spends on: capital assets stay, as assets (GASB Statement 34: economic resources)
+abbrev pub expense : Spent → ℕ
+expense (Current function) = current_of function
+expense Capital = capital_assets
 
--- an amount is debited to one account of a fund and credited to another
-abbrev pub both : ℕ → ℕ → ℕ → ℕ → ℕ → List Post
-both year fund debited credited amount = debit year fund debited amount ∷ credit year fund credited amount ∷ []
+-- principal and interest fall due in one year, and are paid in the same or another
+abbrev pub due_rows : DuePayment → ℕ → ℕ → ℕ → List Post
+due_rows p fund principal interest =
+    debit p.due_year fund principal p.principal ∷ debit p.due_year fund interest p.interest ∷ credit p.due_year fund debt_due (p.principal + p.interest)
+    ∷ double p.year fund debt_due cash (p.principal + p.interest)
 
--- ---- the funds
+-- an amount leaves one fund in cash, against the one account, and comes to another, against the other
+abbrev pub between_rows : FundsAmount → ℕ → ℕ → List Post
+between_rows t debited credited = double t.year t.from debited cash t.amount ++ double t.year t.to cash credited t.amount
+
+-- ---- the modified accrual basis (GASB Codification 1600): fund statements
 
 abbrev pub fund_rows : Deed → List Post
-fund_rows (SpendCurrent year fund function amount) = both year fund (spending_of function) vouchers_payable amount
-fund_rows (SpendCapital year fund amount) = both year fund capital_outlay vouchers_payable amount
-fund_rows (UnspendCurrent year fund function amount) = credit year fund (spending_of function) amount ∷ debit year fund vouchers_payable amount ∷ []
-fund_rows (UnspendCapital year fund amount) = credit year fund capital_outlay amount ∷ debit year fund vouchers_payable amount ∷ []
-fund_rows (PayItem year fund amount) = both year fund vouchers_payable cash amount
--- a receivable that isn't available is a deferred inflow of resources (GASB Statement 65)
-fund_rows (Bill levy_year fund source amount) = both levy_year fund receivables unavailable_revenue amount
-fund_rows (Collect year recognised_year fund source amount) =
-    both year fund cash receivables amount ++ both recognised_year fund unavailable_revenue (revenue_of source) amount
-fund_rows (Receive year fund source amount) = both year fund cash (revenue_of source) amount
-fund_rows (WriteOff year fund source amount) = both year fund unavailable_revenue receivables amount
-fund_rows (Donate year function amount) = []
-fund_rows (Dispose year fund function cost depreciation proceeds) = both year fund cash sale_of_assets proceeds
-fund_rows (Issue year fund amount) = both year fund cash debt_proceeds amount
-fund_rows (PayDue due_year year fund principal paid) =
-    debit due_year fund debt_principal principal ∷ debit due_year fund interest paid ∷ credit due_year fund debt_due (principal + paid)
-    ∷ both year fund debt_due cash (principal + paid)
-fund_rows (EarnLeave year function amount) = []
-fund_rows (UseLeave year function amount) = []
-fund_rows (MatureLeave year fund function amount) = both year fund (spending_of function) cash amount
-fund_rows (TransferFunds year from to amount) = both year from transfers_out cash amount ++ both year to cash transfers_in amount
-fund_rows (LendFunds year from to amount) = both year from due_from_funds cash amount ++ both year to cash due_to_funds amount
-fund_rows (RepayFunds year from to amount) = both year from due_to_funds cash amount ++ both year to cash due_from_funds amount
-fund_rows (Depreciate year function amount) = []
-fund_rows (AccrueInterest year amount) = []
+-- an expenditure when the liability is incurred
+fund_rows (Voucher i) = double i.voucher_year i.fund (expenditure i.spent) payables i.amount
+fund_rows (VoidVoucher i) = turned i.voucher_year i.fund (expenditure i.spent) payables i.amount
+fund_rows (Pay a) = double a.year a.fund payables cash a.amount
+-- property tax that is not yet available is a deferred inflow (GASB Codification P70; GASB Statement 65)
+fund_rows (Bill l) = double l.levy_year l.fund receivables unavailable l.amount
+-- and revenue of the year that it is available for
+fund_rows (Collect c) = double c.year c.fund cash receivables c.amount ++ double c.recognised_year c.fund unavailable (revenue_of c.source) c.amount
+fund_rows (Receive s) = double s.year s.fund cash (revenue_of s.source) s.amount
+fund_rows (WriteOff s) = double s.year s.fund unavailable receivables s.amount
+-- a gift of a capital asset is no current financial resource, and only what a sale brings is one
+fund_rows (Donate a) = []
+fund_rows (Dispose d) = double d.year d.fund cash asset_sales d.proceeds
+-- proceeds of debt are another financing source, and principal and interest are expenditures when due
+fund_rows (Issue a) = double a.year a.fund cash proceeds a.amount
+fund_rows (PayDue p) = due_rows p p.fund principal interest
+-- leave is an expenditure when it has matured (GASB Interpretation 6)
+fund_rows (EarnLeave a) = []
+fund_rows (UseLeave a) = []
+fund_rows (MatureLeave m) = double m.year m.fund (current_of m.function) cash m.amount
+-- transfers are no revenues and expenditures, and loans are assets and liabilities of the funds (GASB Statement 34)
+fund_rows (Transfer t) = between_rows t transfers_out transfers_in
+fund_rows (Loan t) = between_rows t due_from_funds due_to_funds
+fund_rows (Repay t) = between_rows t due_to_funds due_from_funds
+-- depreciation and interest that is not yet due are no uses of current financial resources
+fund_rows (Depreciate a) = []
+fund_rows (AccrueInterest a) = []
 
--- ---- the government as a whole, whose posts have fund 0
-
--- a gain of a sale is credited, and a loss is an expense of the function
-abbrev pub gain_or_loss : ℕ → ℕ → ℕ → ℕ → List Post
-gain_or_loss year function cost received = credit year 0 gain_on_sales (received - cost) ∷ debit year 0 (spending_of function) (cost - received) ∷ []
+-- ---- the accrual basis (GASB Statement 34): government-wide statements, which are of no fund
 
 abbrev pub gov_rows : Deed → List Post
-gov_rows (SpendCurrent year fund function amount) = both year 0 (spending_of function) vouchers_payable amount
-gov_rows (SpendCapital year fund amount) = both year 0 capital_assets vouchers_payable amount
-gov_rows (UnspendCurrent year fund function amount) = credit year 0 (spending_of function) amount ∷ debit year 0 vouchers_payable amount ∷ []
-gov_rows (UnspendCapital year fund amount) = credit year 0 capital_assets amount ∷ debit year 0 vouchers_payable amount ∷ []
-gov_rows (PayItem year fund amount) = both year 0 vouchers_payable cash amount
-gov_rows (Bill levy_year fund source amount) = both levy_year 0 receivables (revenue_of source) amount
-gov_rows (Collect year recognised_year fund source amount) = both year 0 cash receivables amount
-gov_rows (Receive year fund source amount) = both year 0 cash (revenue_of source) amount
-gov_rows (WriteOff year fund source amount) = both year 0 (revenue_of source) receivables amount
-gov_rows (Donate year function amount) = both year 0 capital_assets (donated_assets function) amount
-gov_rows (Dispose year fund function cost depreciation proceeds) =
-    debit year 0 cash proceeds ∷ debit year 0 accumulated_depreciation depreciation ∷ credit year 0 capital_assets cost
-    ∷ gain_or_loss year function cost (proceeds + depreciation)
-gov_rows (Issue year fund amount) = both year 0 cash bonds_payable amount
-gov_rows (PayDue due_year year fund principal paid) =
-    debit due_year 0 bonds_payable principal ∷ debit due_year 0 accrued_interest paid ∷ credit due_year 0 debt_due (principal + paid)
-    ∷ both year 0 debt_due cash (principal + paid)
-gov_rows (EarnLeave year function amount) = both year 0 (spending_of function) compensated_absences amount
-gov_rows (UseLeave year function amount) = both year 0 compensated_absences (spending_of function) amount
-gov_rows (MatureLeave year fund function amount) = both year 0 compensated_absences cash amount
-gov_rows (TransferFunds year from to amount) = []
-gov_rows (LendFunds year from to amount) = []
-gov_rows (RepayFunds year from to amount) = []
-gov_rows (Depreciate year function amount) = both year 0 (spending_of function) accumulated_depreciation amount
-gov_rows (AccrueInterest year amount) = both year 0 interest accrued_interest amount
-
--- ---- what is posted: posts of zero are left out
-
-abbrev pub is_something : Post → Bool
-is_something p = not (unsigned_abs p.amount == 0)
-
-abbrev pub deed_rows : Basis → Deed → List Post
-deed_rows Fund deed = fund_rows deed
-deed_rows Gov deed = gov_rows deed
-
-abbrev pub posts_of : Basis → Deed → List Post
-posts_of basis deed = filter is_something (deed_rows basis deed)
+gov_rows (Voucher i) = double i.voucher_year 0 (expense i.spent) payables i.amount
+gov_rows (VoidVoucher i) = turned i.voucher_year 0 (expense i.spent) payables i.amount
+gov_rows (Pay a) = double a.year 0 payables cash a.amount
+-- property tax is revenue of the year that it is levied for (GASB Statement 33)
+gov_rows (Bill l) = double l.levy_year 0 receivables (revenue_of l.source) l.amount
+gov_rows (Collect c) = double c.year 0 cash receivables c.amount
+gov_rows (Receive s) = double s.year 0 cash (revenue_of s.source) s.amount
+gov_rows (WriteOff s) = double s.year 0 (revenue_of s.source) receivables s.amount
+gov_rows (Donate a) = double a.year 0 capital_assets (donated_to a.function) a.amount
+-- a sale leaves a gain or a loss, or neither: at most one of the last two is not zero
+gov_rows (Dispose d) =
+    debit d.year 0 cash d.proceeds ∷ debit d.year 0 depreciation d.depreciation ∷ credit d.year 0 capital_assets d.cost
+    ∷ credit d.year 0 gain (d.proceeds + d.depreciation - d.cost) ∷ debit d.year 0 (current_of d.function) (d.cost - (d.proceeds + d.depreciation)) ∷ []
+-- debt is a liability from its issue on, and interest accrues
+gov_rows (Issue a) = double a.year 0 cash bonds a.amount
+gov_rows (PayDue p) = due_rows p 0 bonds accrued_interest
+-- leave is an expense when it is earned (GASB Statement 101); that of its use is in the pay, which vouchers enter
+gov_rows (EarnLeave a) = double a.year 0 (current_of a.function) leave a.amount
+gov_rows (UseLeave a) = double a.year 0 leave (current_of a.function) a.amount
+gov_rows (MatureLeave m) = double m.year 0 leave cash m.amount
+-- what one fund has of another is nothing to the city
+gov_rows (Transfer t) = []
+gov_rows (Loan t) = []
+gov_rows (Repay t) = []
+gov_rows (Depreciate a) = double a.year 0 (current_of a.function) depreciation a.amount
+gov_rows (AccrueInterest a) = double a.year 0 interest accrued_interest a.amount

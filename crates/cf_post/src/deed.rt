@@ -1,129 +1,197 @@
-//! What is posted: one deed for each row of the posting table.
+//! What an entry did, as the posting table reads it. Amounts are in cents and years are fiscal years.
 
-/// What a call, or one item of it, does to accounts, on both bases of accounting (GASB Statement 34). Amounts are in cents, years
-/// are fiscal years, and a function is that of the department.
+ghost use Rattle.std.specs.Prelude.{◌≡◌};
+
+use crate::rows::{FundYear, at};
+
+/// What an item of a voucher is spent on.
+#[derive(Clone, Copy, Debug, PartialEq, Eq)]
+pub enum Spent {
+    /// Current spending of a function.
+    Current(u16),
+    Capital,
+}
+
+/// An item of a voucher, with the voucher's year.
+#[derive(Clone, Copy, Debug, PartialEq, Eq)]
+pub struct SpentItem {
+    pub voucher_year: u16,
+    pub fund: u16,
+    pub spent: Spent,
+    pub amount: u64,
+}
+
+impl SpentItem {
+    pub(crate) fn at(&self) -> FundYear
+        ensures { result ≡ record { year = self.now.voucher_year; fund = self.now.fund } }
+    {
+        at(self.voucher_year, self.fund)
+    }
+}
+
+/// An amount of a fund.
+#[derive(Clone, Copy, Debug, PartialEq, Eq)]
+pub struct FundAmount {
+    pub year: u16,
+    pub fund: u16,
+    pub amount: u64,
+}
+
+impl FundAmount {
+    pub(crate) fn at(&self) -> FundYear
+        ensures { result ≡ record { year = self.now.year; fund = self.now.fund } }
+    {
+        at(self.year, self.fund)
+    }
+}
+
+/// An amount of a function.
+#[derive(Clone, Copy, Debug, PartialEq, Eq)]
+pub struct FunctionAmount {
+    pub year: u16,
+    pub function: u16,
+    pub amount: u64,
+}
+
+/// A tax bill.
+#[derive(Clone, Copy, Debug, PartialEq, Eq)]
+pub struct Levy {
+    pub levy_year: u16,
+    pub fund: u16,
+    pub source: u16,
+    pub amount: u64,
+}
+
+impl Levy {
+    pub(crate) fn at(&self) -> FundYear
+        ensures { result ≡ record { year = self.now.levy_year; fund = self.now.fund } }
+    {
+        at(self.levy_year, self.fund)
+    }
+}
+
+/// An amount of a source of revenue.
+#[derive(Clone, Copy, Debug, PartialEq, Eq)]
+pub struct SourceAmount {
+    pub year: u16,
+    pub fund: u16,
+    pub source: u16,
+    pub amount: u64,
+}
+
+impl SourceAmount {
+    pub(crate) fn at(&self) -> FundYear
+        ensures { result ≡ record { year = self.now.year; fund = self.now.fund } }
+    {
+        at(self.year, self.fund)
+    }
+}
+
+/// Cash for a bill, with the year that its revenue is recognised in.
+#[derive(Clone, Copy, Debug, PartialEq, Eq)]
+pub struct Collection {
+    pub year: u16,
+    pub recognised_year: u16,
+    pub fund: u16,
+    pub source: u16,
+    pub amount: u64,
+}
+
+/// A capital asset that is disposed of, with the function that acquired it. The proceeds are the fund's.
+#[derive(Clone, Copy, Debug, PartialEq, Eq)]
+pub struct Disposal {
+    pub year: u16,
+    pub fund: u16,
+    pub function: u16,
+    pub cost: u64,
+    pub depreciation: u64,
+    pub proceeds: u64,
+}
+
+impl Disposal {
+    pub(crate) fn at(&self) -> FundYear
+        ensures { result ≡ record { year = self.now.year; fund = self.now.fund } }
+    {
+        at(self.year, self.fund)
+    }
+}
+
+/// A payment of a bond, with the year that it is due in.
+#[derive(Clone, Copy, Debug, PartialEq, Eq)]
+pub struct DuePayment {
+    pub due_year: u16,
+    pub year: u16,
+    pub fund: u16,
+    pub principal: u64,
+    pub interest: u64,
+}
+
+/// Leave that is paid out.
+#[derive(Clone, Copy, Debug, PartialEq, Eq)]
+pub struct MaturedLeave {
+    pub year: u16,
+    pub fund: u16,
+    pub function: u16,
+    pub amount: u64,
+}
+
+impl MaturedLeave {
+    pub(crate) fn at(&self) -> FundYear
+        ensures { result ≡ record { year = self.now.year; fund = self.now.fund } }
+    {
+        at(self.year, self.fund)
+    }
+}
+
+/// An amount that goes from one fund to another.
+#[derive(Clone, Copy, Debug, PartialEq, Eq)]
+pub struct FundsAmount {
+    pub year: u16,
+    pub from: u16,
+    pub to: u16,
+    pub amount: u64,
+}
+
+/// An amount of the city as a whole.
+#[derive(Clone, Copy, Debug, PartialEq, Eq)]
+pub struct CityAmount {
+    pub year: u16,
+    pub amount: u64,
+}
+
+/// A row of the posting table. Entries of other kinds have no posts. A voucher, a void and a payment of vouchers have a
+/// deed for each item; the closing of a month has one for each function with depreciation, and one for interest. So each
+/// deed has a few posts, and no list.
 #[derive(Clone, Copy, Debug, PartialEq, Eq)]
 pub enum Deed {
-    /// A voucher's item on a current object, in the voucher's year.
-    SpendCurrent {
-        year: u16,
-        fund: u16,
-        function: u16,
-        amount: u64,
-    },
-    /// A voucher's item on a capital object, in the voucher's year.
-    SpendCapital { year: u16, fund: u16, amount: u64 },
-    /// A voided voucher's item on a current object, in the voucher's year.
-    UnspendCurrent {
-        year: u16,
-        fund: u16,
-        function: u16,
-        amount: u64,
-    },
-    /// A voided voucher's item on a capital object, in the voucher's year.
-    UnspendCapital { year: u16, fund: u16, amount: u64 },
-    /// A voucher's item that is paid.
-    PayItem { year: u16, fund: u16, amount: u64 },
-    /// A bill, in its levy year.
-    Bill {
-        levy_year: u16,
-        fund: u16,
-        source: u16,
-        amount: u64,
-    },
-    /// A collection on a bill: cash in the year of its day, fund revenue in the year in which it is recognised.
-    Collect {
-        year: u16,
-        recognised_year: u16,
-        fund: u16,
-        source: u16,
-        amount: u64,
-    },
-    /// A receipt without a bill.
-    Receive {
-        year: u16,
-        fund: u16,
-        source: u16,
-        amount: u64,
-    },
-    /// A write-off of a bill.
-    WriteOff {
-        year: u16,
-        fund: u16,
-        source: u16,
-        amount: u64,
-    },
-    /// A donated capital asset.
-    Donate {
-        year: u16,
-        function: u16,
-        amount: u64,
-    },
-    /// The disposal of a capital asset: what it cost, its accumulated depreciation, and the proceeds, which go to a fund.
-    Dispose {
-        year: u16,
-        fund: u16,
-        function: u16,
-        cost: u64,
-        depreciation: u64,
-        proceeds: u64,
-    },
-    /// The issue of a bond.
-    Issue { year: u16, fund: u16, amount: u64 },
-    /// The payment of a bond's due payment: an expenditure of the year in which it is due, and cash of the year of its day.
-    PayDue {
-        due_year: u16,
-        year: u16,
-        fund: u16,
-        principal: u64,
-        interest: u64,
-    },
-    /// Leave that is earned.
-    EarnLeave {
-        year: u16,
-        function: u16,
-        amount: u64,
-    },
-    /// Leave that is used. The pay of that time comes by vouchers.
-    UseLeave {
-        year: u16,
-        function: u16,
-        amount: u64,
-    },
-    /// Leave that is paid out.
-    MatureLeave {
-        year: u16,
-        fund: u16,
-        function: u16,
-        amount: u64,
-    },
-    /// A transfer of cash between funds.
-    TransferFunds {
-        year: u16,
-        from: u16,
-        to: u16,
-        amount: u64,
-    },
-    /// A loan of cash between funds.
-    LendFunds {
-        year: u16,
-        from: u16,
-        to: u16,
-        amount: u64,
-    },
-    /// The repayment of a loan between funds.
-    RepayFunds {
-        year: u16,
-        from: u16,
-        to: u16,
-        amount: u64,
-    },
-    /// The depreciation that the close of a month charges to a function.
-    Depreciate {
-        year: u16,
-        function: u16,
-        amount: u64,
-    },
-    /// The interest that the close of a month accrues.
-    AccrueInterest { year: u16, amount: u64 },
+    /// An item of a voucher is entered.
+    Voucher(SpentItem),
+    /// An item of a voucher is voided.
+    VoidVoucher(SpentItem),
+    /// An item of a voucher is paid.
+    Pay(FundAmount),
+    Bill(Levy),
+    Collect(Collection),
+    /// Revenue is received in cash.
+    Receive(SourceAmount),
+    /// A bill is written off.
+    WriteOff(SourceAmount),
+    /// A capital asset is donated.
+    Donate(FunctionAmount),
+    Dispose(Disposal),
+    /// A bond is issued.
+    Issue(FundAmount),
+    PayDue(DuePayment),
+    EarnLeave(FunctionAmount),
+    UseLeave(FunctionAmount),
+    MatureLeave(MaturedLeave),
+    Transfer(FundsAmount),
+    /// One fund lends to another.
+    Loan(FundsAmount),
+    /// One fund repays another.
+    Repay(FundsAmount),
+    /// A month's depreciation of a function.
+    Depreciate(FunctionAmount),
+    /// A month's interest of all bonds.
+    AccrueInterest(CityAmount),
 }

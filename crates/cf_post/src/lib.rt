@@ -1,7 +1,11 @@
-//! The posting table: what each deed posts to accounts, on both bases of accounting.
+//! The posting table: the debits and credits of what an entry did, on both bases of accounting.
 #![tactic(auto)]
 
-mod deed;
+pub mod accounts;
+pub mod deed;
+mod rows;
+mod table;
 
 pub use cf_ledger::Post;
 pub use deed::Deed;
+pub use table::{fund_posts, gov_posts, put_fund, put_gov};
