@@ -23,7 +23,7 @@ use Rattle.cf_model.proofs.Legal.{legal_induction}
 use Rattle.cf_model.proofs.Changed.{original_push, added_push, removed_push, plain_appropriated, nothing_carried}
 use Rattle.cf_model.proofs.Room.{room_now}
 
-small : (a : ℕ) → bad_amount (amount a) ≡ None → a ≤ 10000000000000
+pub small : (a : ℕ) → bad_amount (amount a) ≡ None → a ≤ 10000000000000
 small a e = let b = refuse_none _ (refusal.AmountRange a) e in grind arith
 
 zero_or : (b : Bool) (n m : ℕ) → n ≤ m → (if b then n else 0) ≤ m

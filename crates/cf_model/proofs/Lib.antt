@@ -1,5 +1,6 @@
 pub mod Accepted
 pub mod Asked
+pub mod Balanced
 pub mod Bounds
 pub mod Cases
 pub mod Changed
@@ -7,7 +8,10 @@ pub mod Encumbered
 pub mod First
 pub mod Legal
 pub mod Moved
+pub mod Posted
 pub mod Room
+pub mod Sized
+pub mod Spent
 pub mod Stripped
 pub mod Sums
 pub mod Tidy

@@ -29,7 +29,7 @@ documents_push plan s (x ∷ h) e = documents_push plan (documents_step plan s x
 
 -- ---- lists
 
-all_append : {A : Type 0} (P : A → Type 0) (xs ys : List A) → AllByRecursion P xs → AllByRecursion P ys → AllByRecursion P (xs ++ ys)
+pub all_append : {A : Type 0} (P : A → Type 0) (xs ys : List A) → AllByRecursion P xs → AllByRecursion P ys → AllByRecursion P (xs ++ ys)
 all_append P [] ys a b = b
 all_append P (x ∷ xs) ys a b = (a.0, all_append P xs ys a.1 b)
 
@@ -37,7 +37,7 @@ pub all_map : {A B : Type 0} (P : A → Type 0) (Q : B → Type 0) (f : A → B)
 all_map P Q f h [] a = tt
 all_map P Q f h (x ∷ xs) a = (h x a.0, all_map P Q f h xs a.1)
 
-all_new : {A B : Type 0} (Q : B → Type 0) (f : A → B) → ((x : A) → Q (f x)) → (xs : List A) → AllByRecursion Q (map f xs)
+pub all_new : {A B : Type 0} (Q : B → Type 0) (f : A → B) → ((x : A) → Q (f x)) → (xs : List A) → AllByRecursion Q (map f xs)
 all_new Q f h [] = tt
 all_new Q f h (x ∷ xs) = (h x, all_new Q f h xs)
 

@@ -1,4 +1,5 @@
 pub mod Asks
+pub mod Cash
 pub mod Cleared
 pub mod Least
 pub mod Makes
