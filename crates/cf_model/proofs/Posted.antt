@@ -99,25 +99,17 @@ two : (year fund a b : ℕ) (m n : ℤ) → IsBookYear year → AllByRecursion I
 two year fund a b m n y = (one year fund a m y, (one year fund b n y, tt))
 
 deed_years : (basis : Basis) (d : Deed) → AreBookYears d → AllByRecursion IsInYears (rows_of basis d)
-deed_years FundBasis (deed.Voucher i) y = two _ _ _ _ _ _ y.0
-deed_years FundBasis (deed.VoidVoucher i) y = two _ _ _ _ _ _ y.0
-deed_years FundBasis (deed.Pay a) y = two _ _ _ _ _ _ y.0
-deed_years FundBasis (deed.Bill l) y = two _ _ _ _ _ _ y.0
 deed_years FundBasis (deed.Collect c) y = (one _ _ _ _ y.0, (one _ _ _ _ y.0, two _ _ _ _ _ _ y.1.0))
-deed_years FundBasis (deed.Receive s) y = two _ _ _ _ _ _ y.0
-deed_years FundBasis (deed.WriteOff s) y = two _ _ _ _ _ _ y.0
 deed_years FundBasis (deed.Donate a) y = tt
-deed_years FundBasis (deed.Dispose d) y = two _ _ _ _ _ _ y.0
-deed_years FundBasis (deed.Issue a) y = two _ _ _ _ _ _ y.0
 deed_years FundBasis (deed.PayDue p) y = (one _ _ _ _ y.0, (one _ _ _ _ y.0, (one _ _ _ _ y.0, two _ _ _ _ _ _ y.1.0)))
 deed_years FundBasis (deed.EarnLeave a) y = tt
 deed_years FundBasis (deed.UseLeave a) y = tt
-deed_years FundBasis (deed.MatureLeave m) y = two _ _ _ _ _ _ y.0
 deed_years FundBasis (deed.Transfer t) y = (one _ _ _ _ y.0, (one _ _ _ _ y.0, two _ _ _ _ _ _ y.0))
 deed_years FundBasis (deed.Loan t) y = (one _ _ _ _ y.0, (one _ _ _ _ y.0, two _ _ _ _ _ _ y.0))
 deed_years FundBasis (deed.Repay t) y = (one _ _ _ _ y.0, (one _ _ _ _ y.0, two _ _ _ _ _ _ y.0))
 deed_years FundBasis (deed.Depreciate a) y = tt
 deed_years FundBasis (deed.AccrueInterest a) y = tt
+deed_years FundBasis _ y = two _ _ _ _ _ _ y.0
 deed_years GovBasis (deed.Dispose d) y = (one _ _ _ _ y.0, (one _ _ _ _ y.0, (one _ _ _ _ y.0, two _ _ _ _ _ _ y.0)))
 deed_years GovBasis (deed.PayDue p) y = (one _ _ _ _ y.0, (one _ _ _ _ y.0, (one _ _ _ _ y.0, two _ _ _ _ _ _ y.1.0)))
 deed_years GovBasis (deed.Transfer t) y = tt
@@ -141,7 +133,7 @@ day_in : (plan : Plan) (h : List Entry) (on : Day) → 1971 ≤ plan.first_year 
 day_in plan h on from day period =
     record { first = omega (arith, from, day_from plan h on period); last = omega (arith, day_year plan on day) }
 
--- the deeds of an act are, by the rules on periods, for each act that has any
+-- by the rules on months and years each deed of an act is of such years, whether or not the office knows the act
 deeds_years : (plan : Plan) (h : List Entry) (on : Day) (act : Act) → 1971 ≤ plan.first_year → is_day on ≡ true → period_refusal plan h on ≡ None → closed_refusal plan h on act ≡ None →
     AllByRecursion (IsSpent plan) (documents_of plan h).expenditures → AllByRecursion AreBookYears (deeds_of plan (documents_of plan h) on act)
 deeds_years plan h on (Voucher v) from day period closed spent =
@@ -157,12 +149,16 @@ deeds_years plan h on (Receive r) from day period closed spent = ((day_in plan h
 deeds_years plan h on (Interfund m) from day period closed spent = (between m.what _ (day_in plan h on from day period), tt)
 deeds_years plan h on _ from day period closed spent = tt
 
+-- so are its posts
+pub act_posts_years : (basis : Basis) (plan : Plan) (h : List Entry) (on : Day) (act : Act) → 1971 ≤ plan.first_year → is_day on ≡ true → period_refusal plan h on ≡ None → closed_refusal plan h on act ≡ None →
+    AllByRecursion (IsSpent plan) (documents_of plan h).expenditures → All IsInYears (act_posts basis plan (documents_of plan h) on act)
+act_posts_years basis plan h on act from day period closed spent =
+    All-from_recursion IsInYears (act_posts basis plan (documents_of plan h) on act)
+    (all_posts IsInYears AreBookYears basis (deed_years basis) (deeds_of plan (documents_of plan h) on act) (deeds_years plan h on act from day period closed spent))
+
 -- an accepted entry's posts are in the years of the books
 pub posts_years : (basis : Basis) (plan : Plan) (h : List Entry) (e : Entry) → 1971 ≤ plan.first_year → IsLegal plan h → Adds plan h e →
     All IsInYears (act_posts basis plan (documents_of plan h) e.change.on e.change.act)
 posts_years basis plan h e from legal adds =
     let a = accepted plan h e adds in
-    let posts = act_posts basis plan (documents_of plan h) e.change.on e.change.act in
-    All-from_recursion IsInYears posts
-    (all_posts IsInYears AreBookYears basis (deed_years basis) (deeds_of plan (documents_of plan h) e.change.on e.change.act)
-    (deeds_years plan h e.change.on e.change.act from adds.form.on a.period a.closed (are_spent plan h legal).each))
+    act_posts_years basis plan h e.change.on e.change.act from adds.form.on a.period a.closed (are_spent plan h legal).each

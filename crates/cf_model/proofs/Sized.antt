@@ -2,7 +2,8 @@
 use Rattle.std.proofs.Common.{◌≡◌, ℕ, suc, ◌+◌, ◌*◌, ◌^◌, ◌≤◌, ◌<◌, Bool, true, false, if◌then◌else◌, ◌==◌, List, [], ◌∷◌, ◌++◌, map, length, None, unsigned_abs, arith, length-append}
 use Rattle.std.specs.List.{filter, AllByRecursion}
 use Rattle.std.proofs.lemmas.Int.{ints}
-use Rattle.std.proofs.lemmas.List.Sums.{sum_by-cons, sum_by-append}
+use Rattle.std.proofs.lemmas.List.{length-map}
+use Rattle.std.proofs.lemmas.List.Sums.{sum_by-cons, sum_by-append, length-filter, count_by-le-length}
 use Rattle.cf_base.specs.declared.calendar.Day.{Day}
 use Rattle.cf_calls.specs.declared.acts.Act.{Act}
 use Rattle.cf_calls.specs.declared.acts.Act.TheVariants.{Voucher, VoidVoucher, Pay, Receive, Interfund}
@@ -27,7 +28,7 @@ use Rattle.cf_model.proofs.Bounds.{small}
 use Rattle.cf_model.proofs.First.{or_else_none}
 use Rattle.cf_model.proofs.Legal.{legal_induction}
 use Rattle.cf_model.proofs.Posted.{all_filter, posts_push}
-use Rattle.cf_model.proofs.Spent.{IsSpent, AreSpent, spent_start, spent_step, are_spent, length_map}
+use Rattle.cf_model.proofs.Spent.{IsSpent, AreSpent, spent_start, spent_step, are_spent}
 use Rattle.cf_model.proofs.Tidy.{all_append, all_map}
 use Rattle.cf_post.specs.declared.deed.Deed.{Deed}
 use Rattle.cf_post.specs.declared.deed.Deed.TheVariants as deed
@@ -37,12 +38,7 @@ use Rattle.cf_post.specs.Rows.{without_zeros}
 -- ---- lists
 
 filter_le : {A : Type 0} (p : A → Bool) (xs : List A) → length (filter p xs) ≤ length xs
-filter_le p [] = omega arith
-filter_le p (x ∷ xs) = by_test (p x) (filter_le p xs)
-  where
-    by_test : (b : Bool) → length (filter p xs) ≤ length xs → length (if b then x ∷ filter p xs else filter p xs) ≤ suc (length xs)
-    by_test true l = omega (arith, l)
-    by_test false l = omega (arith, l)
+filter_le p xs = rw (length-filter p xs) (count_by-le-length p xs)
 
 sizes_filter : (p : Post → Bool) (posts : List Post) → sizes (filter p posts) ≤ sizes posts
 sizes_filter p [] = omega arith
@@ -76,44 +72,16 @@ amount_of (deed.Depreciate a) = a.amount
 amount_of (deed.AccrueInterest a) = a.amount
 
 deed_sizes : (basis : Basis) (d : Deed) → sizes (rows_of basis d) ≤ amount_of d * 4
-deed_sizes FundBasis (deed.Voucher i) = omega (arith, ints)
-deed_sizes FundBasis (deed.VoidVoucher i) = omega (arith, ints)
-deed_sizes FundBasis (deed.Pay a) = omega (arith, ints)
-deed_sizes FundBasis (deed.Bill l) = omega (arith, ints)
-deed_sizes FundBasis (deed.Collect c) = omega (arith, ints)
-deed_sizes FundBasis (deed.Receive s) = omega (arith, ints)
-deed_sizes FundBasis (deed.WriteOff s) = omega (arith, ints)
 deed_sizes FundBasis (deed.Donate a) = omega arith
-deed_sizes FundBasis (deed.Dispose d) = omega (arith, ints)
-deed_sizes FundBasis (deed.Issue a) = omega (arith, ints)
-deed_sizes FundBasis (deed.PayDue p) = omega (arith, ints)
 deed_sizes FundBasis (deed.EarnLeave a) = omega arith
 deed_sizes FundBasis (deed.UseLeave a) = omega arith
-deed_sizes FundBasis (deed.MatureLeave m) = omega (arith, ints)
-deed_sizes FundBasis (deed.Transfer t) = omega (arith, ints)
-deed_sizes FundBasis (deed.Loan t) = omega (arith, ints)
-deed_sizes FundBasis (deed.Repay t) = omega (arith, ints)
 deed_sizes FundBasis (deed.Depreciate a) = omega arith
 deed_sizes FundBasis (deed.AccrueInterest a) = omega arith
-deed_sizes GovBasis (deed.Voucher i) = omega (arith, ints)
-deed_sizes GovBasis (deed.VoidVoucher i) = omega (arith, ints)
-deed_sizes GovBasis (deed.Pay a) = omega (arith, ints)
-deed_sizes GovBasis (deed.Bill l) = omega (arith, ints)
-deed_sizes GovBasis (deed.Collect c) = omega (arith, ints)
-deed_sizes GovBasis (deed.Receive s) = omega (arith, ints)
-deed_sizes GovBasis (deed.WriteOff s) = omega (arith, ints)
-deed_sizes GovBasis (deed.Donate a) = omega (arith, ints)
-deed_sizes GovBasis (deed.Dispose d) = omega (arith, ints)
-deed_sizes GovBasis (deed.Issue a) = omega (arith, ints)
-deed_sizes GovBasis (deed.PayDue p) = omega (arith, ints)
-deed_sizes GovBasis (deed.EarnLeave a) = omega (arith, ints)
-deed_sizes GovBasis (deed.UseLeave a) = omega (arith, ints)
-deed_sizes GovBasis (deed.MatureLeave m) = omega (arith, ints)
+deed_sizes FundBasis _ = omega (arith, ints)
 deed_sizes GovBasis (deed.Transfer t) = omega arith
 deed_sizes GovBasis (deed.Loan t) = omega arith
 deed_sizes GovBasis (deed.Repay t) = omega arith
-deed_sizes GovBasis (deed.Depreciate a) = omega (arith, ints)
-deed_sizes GovBasis (deed.AccrueInterest a) = omega (arith, ints)
+deed_sizes GovBasis _ = omega (arith, ints)
 
 abbrev IsSmallDeed : Deed → Type 0
 IsSmallDeed d = amount_of d ≤ 10000000000000
@@ -128,7 +96,7 @@ deeds_sizes basis (d ∷ deeds) all =
     adds : (a b c d n : ℕ) → a ≤ b → b ≤ d * 4 → d ≤ 10000000000000 → c ≤ n * 40000000000000 → a + c ≤ suc n * 40000000000000
     adds a b c d n h i j k = omega arith
 
--- ---- the deeds of an act: few, and small
+-- ---- the deeds of an act: few, and small (33554432 is 32 items in each of 2^20 entries)
 
 items_small : (plan : Plan) (year : ℕ) (items : List VoucherItem) → first_refusal bad_amount (map (λ i. amount i.account.amount) items) ≡ None →
     AllByRecursion IsSmallDeed (map (λ i. deed.Voucher (spent_item plan year i.account)) items)
@@ -163,12 +131,12 @@ payments_few : (year : ℕ) (xs : List Expenditure) (vouchers : List ℕ) → le
 payments_few year xs [] l = omega arith
 payments_few year xs (n ∷ vouchers) l =
     let pay = λ (x : Expenditure). deed.Pay (record { year = year; fund = x.account.fund; amount = x.account.amount }) in
-    rw (length-append (map pay (spent_by n xs)) (pay_items year xs vouchers), length_map pay (spent_by n xs))
+    rw (length-append (map pay (spent_by n xs)) (pay_items year xs vouchers), length-map (spent_by n xs) pay)
     (omega (arith, filter_le (λ (x : Expenditure). x.voucher == n) xs, payments_few year xs vouchers l))
 
 deeds_few : (plan : Plan) (s : Documents) (on : Day) (act : Act) → IsActInForm on act → length s.expenditures ≤ 33554432 → length (deeds_of plan s on act) ≤ 2147483648
-deeds_few plan s on (Voucher v) form few = rw length_map (omega (arith, form.count.to))
-deeds_few plan s on (VoidVoucher n) form few = rw length_map (omega (arith, filter_le (λ (x : Expenditure). x.voucher == n) s.expenditures, few))
+deeds_few plan s on (Voucher v) form few = rw length-map (omega (arith, form.count.to))
+deeds_few plan s on (VoidVoucher n) form few = rw length-map (omega (arith, filter_le (λ (x : Expenditure). x.voucher == n) s.expenditures, few))
 deeds_few plan s on (Pay p) form few = omega (arith, payments_few (year_of_day plan on) s.expenditures p.vouchers few, form.0.to)
 deeds_few plan s on (Receive r) form few = omega arith
 deeds_few plan s on (Interfund m) form few = omega arith
@@ -176,32 +144,35 @@ deeds_few plan s on _ form few = omega arith
 
 -- ---- what is posted
 
--- the amounts that an entry posts come to at most this, in cents
+-- the amounts that an entry posts come to at most this, in cents: it pays at most 64 vouchers, and there are at most 32 * 2^20
+-- items, which post at most 4 * 10^13 each
 abbrev pub most_posted : ℕ
 most_posted = 100000000000000000000000
+
+-- what an act posts does, by the rule on amounts, whether or not the office knows it
+pub act_posts_small : (basis : Basis) (plan : Plan) (s : Documents) (on : Day) (act : Act) → IsActInForm on act → amount_refusal act ≡ None →
+    AllByRecursion (IsSpent plan) s.expenditures → length s.expenditures ≤ 33554432 → sizes (act_posts basis plan s on act) ≤ most_posted
+act_posts_small basis plan s on act form none spent few =
+    bound _ _ (deeds_sizes basis (deeds_of plan s on act) (deeds_small plan s on act none spent)) (deeds_few plan s on act form few)
+  where
+    bound : (size n : ℕ) → size ≤ n * 40000000000000 → n ≤ 2147483648 → size ≤ most_posted
+    bound size n l m = omega arith
 
 entry_small : (basis : Basis) (plan : Plan) (h : List Entry) (e : Entry) → AreSpent plan h → Adds plan h e →
     sizes (act_posts basis plan (documents_of plan h) e.change.on e.change.act) ≤ most_posted
 entry_small basis plan h e s adds =
-    let a = accepted plan h e adds in
-    let d = documents_of plan h in
-    let room = accepted_fits plan h e adds in
-    let few : length d.expenditures ≤ 33554432 = omega (arith, s.few, room) in
-    bound _ _ (deeds_sizes basis (deeds_of plan d e.change.on e.change.act) (deeds_small plan d e.change.on e.change.act a.amounts s.each))
-    (deeds_few plan d e.change.on e.change.act adds.form.act few)
-  where
-    bound : (size n : ℕ) → size ≤ n * 40000000000000 → n ≤ 2147483648 → size ≤ 100000000000000000000000
-    bound size n l m = omega arith
+    act_posts_small basis plan (documents_of plan h) e.change.on e.change.act adds.form.act (accepted plan h e adds).amounts s.each
+    (omega (arith, s.few, accepted_fits plan h e adds))
 
-record IsSmall (basis : Basis) (plan : Plan) (history : List Entry) : Type 0 where
+record IsLittle (basis : Basis) (plan : Plan) (history : List Entry) : Type 0 where
   pub spent : AreSpent plan history
   pub sizes : sizes (posts_in basis plan history) ≤ most_posted * length history
 
 -- a legal history posts little
 pub posts_small : (basis : Basis) (plan : Plan) (h : List Entry) → IsLegal plan h → sizes (posts_in basis plan h) ≤ most_posted * length h
-posts_small basis plan h legal = (legal_induction plan (IsSmall basis plan) (record { spent = spent_start plan; sizes = omega arith }) step h legal).sizes
+posts_small basis plan h legal = (legal_induction plan (IsLittle basis plan) (record { spent = spent_start plan; sizes = omega arith }) step h legal).sizes
   where
-    step : (h : List Entry) (e : Entry) → IsSmall basis plan h → Adds plan h e → IsSmall basis plan (h ++ e ∷ [])
+    step : (h : List Entry) (e : Entry) → IsLittle basis plan h → Adds plan h e → IsLittle basis plan (h ++ e ∷ [])
     step h e s adds =
         let new = act_posts basis plan (documents_of plan h) e.change.on e.change.act in
         record {

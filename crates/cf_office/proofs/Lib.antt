@@ -1,6 +1,8 @@
+pub mod Accounts
 pub mod Asks
 pub mod Cash
 pub mod Cleared
+pub mod Deeds
 pub mod Least
 pub mod Makes
 pub mod Moved

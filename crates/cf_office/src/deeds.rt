@@ -1,11 +1,11 @@
 //! What an act does to accounts, as deeds of the posting table.
 
-ghost use Rattle.std.specs.Prelude.{◌≡◌, ◌∷◌, [], true, map, IfOk};
+ghost use Rattle.std.specs.Prelude.{◌≡◌, ◌∷◌, [], true, map, option_map, slice_get, IfOk, OnOk};
 ghost use Rattle.cf_base.specs.Calendar.{is_day};
 ghost use Rattle.cf_model.specs.Moves.{spent_by};
 ghost use Rattle.cf_model.specs.Postings as spec;
 ghost use Rattle.cf_model.specs.Step as step;
-ghost use Rattle.cf_office.specs.Deeds.{item_account};
+ghost use Rattle.cf_office.specs.Deeds.{item_account, with_next};
 
 use crate::rules::is_capital;
 use cf_base::Day;
@@ -86,6 +86,29 @@ fn spend_each(
     Ok(deeds)
 }
 
+/// What the void of a voucher takes back of its item at a place.
+fn unspend_at(chart: &Chart, orders: &Orders, voucher: u32, nth: u16) -> Option<Deed>
+    ensures { result ≡ option_map (λ x. Deed.VoidVoucher (spec.spent_item chart.now x.year x.account)) (slice_get (spent_by voucher orders.now.documents.expenditures) nth) }
+{
+    match orders.voucher_item(voucher, nth) {
+        Some(item) => Some(Deed::VoidVoucher(spent_item(
+            chart,
+            item.year,
+            account_of(item),
+        ))),
+        None => None,
+    }
+}
+
+fn push_if(deeds: &mut Vec<Deed>, deed: Option<Deed>) -> Result<(), AllocError>
+    ensures { OnOk result (deeds.new.items ≡ with_next deeds.old.items deed) }
+{
+    match deed {
+        Some(deed) => deeds.push(deed),
+        None => Ok(()),
+    }
+}
+
 /// What the void of a voucher takes back.
 fn unspend_each(
     alloc: Global,
@@ -97,10 +120,7 @@ fn unspend_each(
 {
     let mut deeds = Vec::new(alloc);
     for nth in 0..orders.voucher_items(voucher) {
-        if let Some(item) = orders.voucher_item(voucher, nth) {
-            let taken_back = spent_item(chart, item.year, account_of(item));
-            deeds.push(Deed::VoidVoucher(taken_back))?;
-        }
+        push_if(&mut deeds, unspend_at(chart, orders, voucher, nth))?;
     }
     Ok(deeds)
 }
