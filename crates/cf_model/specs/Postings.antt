@@ -70,7 +70,7 @@ fund_deed move.Transfer a = deed.Transfer a
 fund_deed move.Loan a = deed.Loan a
 fund_deed move.Repay a = deed.Repay a
 
--- what an act does to accounts, over the documents before it, for the acts that the office knows and for payments
+-- what an act does to accounts, over the documents before it, for the acts that the office knows
 abbrev pub deeds_of : Plan → Documents → Day → Act → List Deed
 deeds_of plan s on (Voucher v) = map (λ i. deed.Voucher (spent_item plan (document_year plan on (Voucher v)) i.account)) v.items
 deeds_of plan s on (VoidVoucher n) = map (λ x. deed.VoidVoucher (spent_item plan x.year x.account)) (spent_by n s.expenditures)
