@@ -1,9 +1,8 @@
 -- What contracts see of the register.
-use Rattle.std.specs.Prelude.{◌≡◌, ℕ, ◌+◌, ◌*◌, ◌<◌, ◌≤◌, ◌^◌, Bool, false, ◌==◌, ◌&&◌, List, [], length, Option, Some, None, unsigned_abs}
-use Rattle.std.specs.List.{list_any, AllByRecursion}
+use Rattle.std.specs.Prelude.{◌≡◌, ℕ, ◌+◌, ◌*◌, ◌<◌, ◌≤◌, ◌^◌, List, [], length, Option, Some, None, unsigned_abs}
+use Rattle.std.specs.List.{AllByRecursion}
 use Rattle.cf_base.specs.declared.calendar.Day.{Day}
 use Rattle.cf_calls.specs.declared.acts.Act.{Act}
-use Rattle.cf_calls.specs.declared.acts.Act.TheVariants.{Pay}
 use Rattle.cf_calls.specs.declared.entry.Drawn.{Drawn}
 use Rattle.cf_calls.specs.declared.entry.Entry.{Entry}
 use Rattle.cf_calls.specs.declared.read.Read.{Read}
@@ -21,7 +20,6 @@ use Rattle.cf_model.specs.DocumentsShown.{requisition_shown, order_shown, vouche
 use Rattle.cf_model.specs.Moves.{Move}
 use Rattle.cf_orders.specs.declared.moves.LineMove.{LineMove}
 use Rattle.cf_orders.specs.declared.spent.VoucherItem.{VoucherItem}
-use Rattle.cf_orders.specs.Rows.{is_void}
 
 -- for how many rows and documents of each kind there is memory
 pub record Room : Type 0 where
@@ -68,14 +66,6 @@ pub record IsAllowed (plan : Plan) (s : Documents) (on : Day) (act : Act) : Type
   pub on_order : on_order_refusal s act ≡ None
   pub opens : open_refusal s act ≡ None
 
--- no voucher that is paid is void
-abbrev pub is_paid_void : List ℕ → Expenditure → Bool
-is_paid_void vouchers x = is_void x.state && list_any (λ n. n == x.voucher) vouchers
-
-abbrev pub PaysNoVoid : List Expenditure → Act → Type 0
-PaysNoVoid expenditures (Pay p) = list_any (is_paid_void p.vouchers) expenditures ≡ false
-PaysNoVoid expenditures _ = Unit {0}
-
 -- what is open of an item, and nothing where there is none
 abbrev pub open_if : Option OrderItem → ℕ
 open_if None = 0
@@ -106,9 +96,8 @@ document_shown plan s (read.Order n) = order_shown plan n s.items
 document_shown plan s (read.Voucher n) = voucher_shown n s.expenditures
 document_shown plan s _ = None
 
--- an act in form for every day, within the limits of amounts, that pays nothing and rolls no year
+-- an act in form for every day, within the limits of amounts, that rolls no year
 pub record IsPlain (act : Act) : Type 0 where
   pub form : (on : Day) → IsActInForm on act
   pub amounts : amount_refusal act ≡ None
   pub rolls : (plan : Plan) → rolled_year plan act ≡ None
-  pub pays : (expenditures : List Expenditure) → PaysNoVoid expenditures act
