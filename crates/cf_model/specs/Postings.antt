@@ -59,11 +59,12 @@ spent_on plan a = if is_capital (object_at plan a.object) then Capital else Curr
 abbrev pub spent_item : Plan → ℕ → AccountItem → SpentItem
 spent_item plan year a = record { voucher_year = year; fund = a.fund; spent = spent_on plan a; amount = a.amount }
 
+abbrev pub pay_deed : ℕ → Expenditure → Deed
+pay_deed year x = deed.Pay (record { year = year; fund = x.account.fund; amount = x.account.amount })
+
 abbrev pub pay_items : ℕ → List Expenditure → List ℕ → List Deed
 pay_items year expenditures [] = []
-pay_items year expenditures (n ∷ vouchers) =
-    map (λ x. deed.Pay (record { year = year; fund = x.account.fund; amount = x.account.amount })) (spent_by n expenditures)
-    ++ pay_items year expenditures vouchers
+pay_items year expenditures (n ∷ vouchers) = map (pay_deed year) (spent_by n expenditures) ++ pay_items year expenditures vouchers
 
 abbrev pub fund_deed : FundMoveKind → FundsAmount → Deed
 fund_deed move.Transfer a = deed.Transfer a
