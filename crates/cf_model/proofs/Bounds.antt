@@ -6,7 +6,7 @@ use Rattle.std.proofs.lemmas.List.Sums.{sum_by-cons}
 use Rattle.cf_base.specs.declared.calendar.Month.{Month}
 use Rattle.cf_base.specs.Calendar.{year_of_month}
 use Rattle.cf_calls.specs.declared.acts.Act.{Act}
-use Rattle.cf_calls.specs.declared.acts.Act.TheVariants.{Adopt, Amend, Transfer, Requisition, Withdraw, Order, ChangeOrder, CancelOrder, Voucher, VoidVoucher, Receive, Interfund}
+use Rattle.cf_calls.specs.declared.acts.Act.TheVariants.{Adopt, Amend, Transfer, Requisition, Withdraw, Order, ChangeOrder, CancelOrder, Voucher, VoidVoucher, Pay, Receive, Interfund}
 use Rattle.cf_calls.specs.declared.entry.Entry.{Entry}
 use Rattle.cf_calls.specs.declared.items.LineAmount.{LineAmount}
 use Rattle.cf_calls.specs.declared.refusal.Refusal.TheVariants as refusal
@@ -76,6 +76,7 @@ act_small plan line year e (ChangeOrder c) built form none = record { adopted = 
 act_small plan line year e (CancelOrder n) built form none = record { adopted = omega arith; added = omega arith; removed = omega arith }
 act_small plan line year e (Voucher v) built form none = record { adopted = omega arith; added = omega arith; removed = omega arith }
 act_small plan line year e (VoidVoucher n) built form none = record { adopted = omega arith; added = omega arith; removed = omega arith }
+act_small plan line year e (Pay p) built form none = record { adopted = omega arith; added = omega arith; removed = omega arith }
 act_small plan line year e (Receive r) built form none = record { adopted = omega arith; added = omega arith; removed = omega arith }
 act_small plan line year e (Interfund m) built form none = record { adopted = omega arith; added = omega arith; removed = omega arith }
 act_small plan line year e _ built form none = cc
@@ -130,6 +131,7 @@ closes_none plan (ChangeOrder c) built = (λ m. refl, λ y. refl)
 closes_none plan (CancelOrder n) built = (λ m. refl, λ y. refl)
 closes_none plan (Voucher v) built = (λ m. refl, λ y. refl)
 closes_none plan (VoidVoucher n) built = (λ m. refl, λ y. refl)
+closes_none plan (Pay p) built = (λ m. refl, λ y. refl)
 closes_none plan (Receive r) built = (λ m. refl, λ y. refl)
 closes_none plan (Interfund m) built = (λ m. refl, λ y. refl)
 closes_none plan _ built = cc

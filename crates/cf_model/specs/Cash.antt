@@ -15,7 +15,7 @@ use Rattle.cf_model.specs.Rules.{first_refusal, refuse_if}
 abbrev pub fund_sum : ℕ → List Expenditure → ℕ
 fund_sum fund items = sum_by (λ x. if x.account.fund == fund then x.account.amount else 0) items
 
--- the cash that an act takes of a fund, for the acts that the office knows and for payments
+-- the cash that an act takes of a fund, for the acts that the office knows
 abbrev pub cash_taken : Documents → ℕ → Act → ℕ
 cash_taken s fund (Pay p) = sum_by (λ n. fund_sum fund (spent_by n s.expenditures)) p.vouchers
 cash_taken s fund (Interfund m) = if m.from == fund then m.amount else 0

@@ -59,18 +59,19 @@ spent_on plan a = if is_capital (object_at plan a.object) then Capital else Curr
 abbrev pub spent_item : Plan → ℕ → AccountItem → SpentItem
 spent_item plan year a = record { voucher_year = year; fund = a.fund; spent = spent_on plan a; amount = a.amount }
 
+abbrev pub pay_deed : ℕ → Expenditure → Deed
+pay_deed year x = deed.Pay (record { year = year; fund = x.account.fund; amount = x.account.amount })
+
 abbrev pub pay_items : ℕ → List Expenditure → List ℕ → List Deed
 pay_items year expenditures [] = []
-pay_items year expenditures (n ∷ vouchers) =
-    map (λ x. deed.Pay (record { year = year; fund = x.account.fund; amount = x.account.amount })) (spent_by n expenditures)
-    ++ pay_items year expenditures vouchers
+pay_items year expenditures (n ∷ vouchers) = map (pay_deed year) (spent_by n expenditures) ++ pay_items year expenditures vouchers
 
 abbrev pub fund_deed : FundMoveKind → FundsAmount → Deed
 fund_deed move.Transfer a = deed.Transfer a
 fund_deed move.Loan a = deed.Loan a
 fund_deed move.Repay a = deed.Repay a
 
--- what an act does to accounts, over the documents before it, for the acts that the office knows and for payments
+-- what an act does to accounts, over the documents before it, for the acts that the office knows
 abbrev pub deeds_of : Plan → Documents → Day → Act → List Deed
 deeds_of plan s on (Voucher v) = map (λ i. deed.Voucher (spent_item plan (document_year plan on (Voucher v)) i.account)) v.items
 deeds_of plan s on (VoidVoucher n) = map (λ x. deed.VoidVoucher (spent_item plan x.year x.account)) (spent_by n s.expenditures)

@@ -2,7 +2,7 @@
 use Rattle.std.specs.Prelude.{◌≡◌, ℕ, ◌+◌, ◌-◌, Bool, true, false, not, if◌then◌else◌, List, [], ◌∷◌, ◌++◌, length, Option, Some, None, is_some, option_map, slice_get}
 use Rattle.std.specs.List.{list_all}
 use Rattle.cf_calls.specs.declared.acts.Act.{Act}
-use Rattle.cf_calls.specs.declared.acts.Act.TheVariants.{Adopt, Amend, Transfer, Requisition, Withdraw, Order, ChangeOrder, CancelOrder, Voucher, VoidVoucher, Receive, Interfund}
+use Rattle.cf_calls.specs.declared.acts.Act.TheVariants.{Adopt, Amend, Transfer, Requisition, Withdraw, Order, ChangeOrder, CancelOrder, Voucher, VoidVoucher, Pay, Receive, Interfund}
 use Rattle.cf_calls.specs.declared.acts.FundMoveKind.{FundMoveKind}
 use Rattle.cf_calls.specs.declared.acts.FundMoveKind.TheVariants as move
 use Rattle.cf_calls.specs.declared.call.Call.{Call}
@@ -47,7 +47,7 @@ abbrev pub is_transfer : FundMoveKind → Bool
 is_transfer move.Transfer = true
 is_transfer _ = false
 
--- the council's calls, requisitions, orders, vouchers but for items on capital objects, receipts and transfers between funds
+-- the council's calls, requisitions, orders, vouchers but for items on capital objects, payments, receipts and transfers between funds
 abbrev pub is_built : Plan → Act → Bool
 is_built plan (Adopt a) = true
 is_built plan (Amend a) = true
@@ -59,6 +59,7 @@ is_built plan (ChangeOrder c) = true
 is_built plan (CancelOrder n) = true
 is_built plan (Voucher v) = list_all (is_current plan) v.items
 is_built plan (VoidVoucher n) = true
+is_built plan (Pay p) = true
 is_built plan (Receive r) = true
 is_built plan (Interfund m) = is_transfer m.what
 is_built plan _ = false

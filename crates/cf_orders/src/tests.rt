@@ -7,7 +7,7 @@ ghost use Rattle.cf_orders.specs.Register.{IsPlain};
 
 use crate::Orders;
 use cf_base::Day;
-use cf_calls::acts::{Invoice, Purchase, Request};
+use cf_calls::acts::{Invoice, Payment, Purchase, Request};
 use cf_calls::items::{AccountItem, Charge, Liquidation, VoucherItem};
 use cf_calls::{Act, List, number};
 use cf_chart::Chart;
@@ -49,6 +49,7 @@ enum Deed {
     /// The object, the amount, and how much of item 1 of order 1 is liquidated.
     Voucher(u16, u16, How),
     Void(u32),
+    Pay(u32),
 }
 
 #[derive(Clone, Copy)]
@@ -128,6 +129,14 @@ fn voucher(alloc: Global, object: u16, amount: u64, how: Liquidation) -> Result<
     }))
 }
 
+fn payment(alloc: Global, voucher: u32) -> Result<Act, AllocError>
+    ensures { IfOk result IsPlain }
+{
+    let mut vouchers = List::new(alloc);
+    vouchers.push(voucher)?;
+    Ok(Act::Pay(Payment { vouchers }))
+}
+
 fn taken_up(number: u32) -> Option<u32> {
     if number == 0 { None } else { Some(number) }
 }
@@ -144,6 +153,7 @@ fn act_of(alloc: Global, deed: Deed) -> Result<Act, AllocError>
             voucher(alloc, object, cents(amount), liquidation(how))
         }
         Deed::Void(number) => Ok(Act::VoidVoucher(number)),
+        Deed::Pay(number) => payment(alloc, number),
     }
 }
 
@@ -243,6 +253,24 @@ const REFUSED: [Row; 11] = [
     (3, Some(Deed::Cancel(1)), 0, 0, 2027),
 ];
 
+// An open voucher is paid once, by another desk than the one that entered it, and no void one is.
+const PAID: [Row; 8] = [
+    (3, Some(Deed::Order(0, 5000)), 0, 5000, 2026),
+    (
+        4,
+        Some(Deed::Voucher(510, 2000, How::Lesser)),
+        0,
+        3000,
+        2026,
+    ),
+    (4, Some(Deed::Pay(1)), 14, 3000, 2026),
+    (5, Some(Deed::Pay(1)), 0, 3000, 2026),
+    (5, Some(Deed::Pay(1)), 13, 3000, 2026),
+    (4, Some(Deed::Voucher(510, 1000, How::Final)), 0, 0, 2026),
+    (4, Some(Deed::Void(2)), 0, 3000, 2026),
+    (5, Some(Deed::Pay(2)), 13, 3000, 2026),
+];
+
 /// Does what a row says, and gives the number of the rule that it breaks, or 0.
 fn take(
     alloc: Global,
@@ -282,5 +310,6 @@ fn rows_are_as_by_hand(rt: HostRuntime) -> Result<(), Fail> {
     see_rows(&rt, alloc, &chart, &KEPT_FINISHED)?;
     see_rows(&rt, alloc, &chart, &REOPENED)?;
     see_rows(&rt, alloc, &chart, &LAPSED)?;
-    see_rows(&rt, alloc, &chart, &REFUSED)
+    see_rows(&rt, alloc, &chart, &REFUSED)?;
+    see_rows(&rt, alloc, &chart, &PAID)
 }
