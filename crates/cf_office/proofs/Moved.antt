@@ -7,7 +7,7 @@ use Rattle.std.proofs.lemmas.Option.{slice_get_within}
 use Rattle.std.proofs.lemmas.List.Sums.{sum_by-cons}
 use Rattle.cf_base.specs.declared.calendar.Day.{Day}
 use Rattle.cf_calls.specs.declared.acts.Act.{Act}
-use Rattle.cf_calls.specs.declared.acts.Act.TheVariants.{Adopt, Amend, Transfer, Requisition, Withdraw, Order, ChangeOrder, CancelOrder, Voucher, VoidVoucher, Receive, Interfund}
+use Rattle.cf_calls.specs.declared.acts.Act.TheVariants.{Adopt, Amend, Transfer, Requisition, Withdraw, Order, ChangeOrder, CancelOrder, Voucher, VoidVoucher, Receive, Interfund, Pay}
 use Rattle.cf_calls.specs.declared.acts.Adoption.{Adoption}
 use Rattle.cf_calls.specs.declared.acts.Amendment.{Amendment}
 use Rattle.cf_calls.specs.declared.acts.LineTransfer.{LineTransfer}
@@ -232,4 +232,5 @@ moves_are plan s on (Voucher v) built p q r line year = refl
 moves_are plan s on (VoidVoucher n) built p q r line year = refl
 moves_are plan s on (Receive c) built p q r line year = refl
 moves_are plan s on (Interfund m) built p q r line year = refl
+moves_are plan s on (Pay d) built p q r line year = refl
 moves_are plan s on _ built p q r line year = cc

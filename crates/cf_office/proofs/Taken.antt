@@ -1,7 +1,7 @@
 -- What an accepted entry's documents need, and what they become.
 use Rattle.std.proofs.Common.{◌≡◌, true, List, [], ◌∷◌, ◌++◌, length, None, refl, sym, ◌∙◌, ap, arith}
 use Rattle.cf_calls.specs.declared.acts.Act.{Act}
-use Rattle.cf_calls.specs.declared.acts.Act.TheVariants.{Adopt, Amend, Transfer, Requisition, Withdraw, Order, ChangeOrder, CancelOrder, Voucher, VoidVoucher, Receive, Interfund}
+use Rattle.cf_calls.specs.declared.acts.Act.TheVariants.{Adopt, Amend, Transfer, Requisition, Withdraw, Order, ChangeOrder, CancelOrder, Voucher, VoidVoucher, Receive, Interfund, Pay}
 use Rattle.cf_calls.specs.declared.entry.Drawn.{Drawn}
 use Rattle.cf_calls.specs.declared.entry.Entry.{Entry}
 use Rattle.cf_chart.specs.Plan.{Plan}
@@ -12,25 +12,10 @@ use Rattle.cf_model.specs.Rules.{or_else}
 use Rattle.cf_model.specs.Step.{Adds, IsLegal, is_built, draws}
 use Rattle.cf_model.proofs.Accepted.{accepted, accepted_fits}
 use Rattle.cf_model.proofs.Tidy.{documents_push}
-use Rattle.cf_orders.specs.Register.{Register, HasRoomFor, PaysNoVoid, entry_for}
+use Rattle.cf_orders.specs.Register.{Register, HasRoomFor, entry_for}
 use Rattle.cf_office.specs.Moved.{IsCleared}
 use Rattle.cf_office.specs.RestView.{CanTakeIn}
 use Rattle.cf_office.proofs.Cleared.{cleared}
-
-pub pays_none : (plan : Plan) (xs : List Expenditure) (act : Act) → is_built plan act ≡ true → PaysNoVoid xs act
-pays_none plan xs (Adopt a) built = tt
-pays_none plan xs (Amend a) built = tt
-pays_none plan xs (Transfer t) built = tt
-pays_none plan xs (Requisition r) built = tt
-pays_none plan xs (Withdraw n) built = tt
-pays_none plan xs (Order o) built = tt
-pays_none plan xs (ChangeOrder c) built = tt
-pays_none plan xs (CancelOrder n) built = tt
-pays_none plan xs (Voucher v) built = tt
-pays_none plan xs (VoidVoucher n) built = tt
-pays_none plan xs (Receive r) built = tt
-pays_none plan xs (Interfund m) built = tt
-pays_none plan xs _ built = cc
 
 pub rolls_none : (plan : Plan) (act : Act) → is_built plan act ≡ true → rolled_year plan act ≡ None
 rolls_none plan (Adopt a) built = refl
@@ -45,6 +30,7 @@ rolls_none plan (Voucher v) built = refl
 rolls_none plan (VoidVoucher n) built = refl
 rolls_none plan (Receive r) built = refl
 rolls_none plan (Interfund m) built = refl
+rolls_none plan (Pay d) built = refl
 rolls_none plan _ built = cc
 
 -- the rules on documents allow an accepted entry

@@ -83,7 +83,7 @@ pub fn is_built(chart: &Chart, act: &Act) -> bool
         Act::Requisition(_) | Act::Withdraw(_) => true,
         Act::Order(_) | Act::ChangeOrder(_) | Act::CancelOrder(_) => true,
         Act::Voucher(v) => are_current(chart, v.items.as_slice()),
-        Act::VoidVoucher(_) | Act::Receive(_) => true,
+        Act::VoidVoucher(_) | Act::Pay(_) | Act::Receive(_) => true,
         Act::Interfund(m) => is_transfer(m.what),
         _ => false,
     }
