@@ -103,10 +103,10 @@ fn unspend_at(chart: &Chart, orders: &Orders, voucher: u32, nth: u16) -> Option<
 fn push_if(deeds: &mut Vec<Deed>, deed: Option<Deed>) -> Result<(), AllocError>
     ensures { OnOk result (deeds.new.items ≡ with_next deeds.old.items deed) }
 {
-    match deed {
-        Some(deed) => deeds.push(deed),
-        None => Ok(()),
+    if let Some(deed) = deed {
+        deeds.push(deed)?;
     }
+    Ok(())
 }
 
 /// What the void of a voucher takes back.
