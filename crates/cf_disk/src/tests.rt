@@ -43,6 +43,7 @@ fn a_missing_file_is_made_by_a_write_alone(rt: HostRuntime) {
     for path in ["missing.test", "nowhere/journal.test"] {
         let mut disk = FileDisk::new(&rt, path);
         assert_eq!(rt; disk.len(), Ok(0));
+        assert!(rt; bytes_at(&mut disk, 0, &mut []));
         assert!(rt; disk.sync().is_ok());
         assert!(rt; fs::metadata(&rt, path).is_err());
     }

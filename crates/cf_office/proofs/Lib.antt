@@ -1,14 +1,14 @@
-pub mod Accounts
 pub mod Asks
-pub mod Cash
 pub mod Cleared
-pub mod Deeds
 pub mod Least
 pub mod Makes
 pub mod Moved
+pub mod Next
 pub mod Numbers
 pub mod Options
 pub mod Registers
+pub mod Reserved
+pub mod Short
 pub mod Taken
 pub mod Texts
 pub mod Tied

@@ -3,7 +3,7 @@ use Rattle.std.proofs.lemmas.List.{take_all}
 use Rattle.cf_model.specs.Moves.{spent_by}
 use Rattle.cf_model.specs.Postings.{spent_item}
 use Rattle.cf_post.specs.declared.deed.Deed.TheVariants as deed
-use Rattle.cf_office.proofs.Deeds.{mapped_next}
+use Rattle.cf_office.proofs.Next.{mapped_next}
 use Rattle.cf_office.proofs.deeds.unspend_each.Goals as goal
 
 pub loop-nth-preserved : goal.loop-nth-preserved
