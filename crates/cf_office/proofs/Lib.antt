@@ -5,6 +5,7 @@ pub mod Makes
 pub mod Moved
 pub mod Numbers
 pub mod Options
+pub mod Paying
 pub mod Registers
 pub mod Taken
 pub mod Texts
