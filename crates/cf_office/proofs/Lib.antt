@@ -3,9 +3,9 @@ pub mod Cleared
 pub mod Least
 pub mod Makes
 pub mod Moved
-pub mod Next
 pub mod Numbers
 pub mod Options
+pub mod Paying
 pub mod Registers
 pub mod Reserved
 pub mod Short
