@@ -1,3 +1,4 @@
+pub mod Added
 pub mod Asks
 pub mod Cleared
 pub mod Least
