@@ -14,15 +14,23 @@ use Rattle.cf_ledger.specs.Years.{sum_of, sum_through, StandsFor}
 abbrev pub part : (Post → Bool) → Post → ℤ
 part test p = if test p then p.amount else pos 0
 
-pub sum_push : (test : Post → Bool) (posts : List Post) (p : Post) → sum_where test (posts ++ p ∷ []) ≡ sum_where test posts +ℤ part test p
-sum_push test [] p = swap (part test p)
+-- sums of lists that stand one after another
+pub sum_append : (test : Post → Bool) (xs ys : List Post) → sum_where test (xs ++ ys) ≡ sum_where test xs +ℤ sum_where test ys
+sum_append test [] ys = none_first (sum_where test ys)
   where
-    swap : (a : ℤ) → a +ℤ pos 0 ≡ pos 0 +ℤ a
-    swap a = omega (arith, ints)
-sum_push test (x ∷ posts) p = ap (λ s. part test x +ℤ s) (sum_push test posts p) ∙ regroup (part test x) (sum_where test posts) (part test p)
+    none_first : (a : ℤ) → a ≡ pos 0 +ℤ a
+    none_first a = omega (arith, ints)
+sum_append test (x ∷ xs) ys = ap (λ s. part test x +ℤ s) (sum_append test xs ys) ∙ regroup (part test x) (sum_where test xs) (sum_where test ys)
   where
     regroup : (a b c : ℤ) → a +ℤ (b +ℤ c) ≡ (a +ℤ b) +ℤ c
     regroup a b c = omega (arith, ints)
+
+-- one post more
+pub sum_push : (test : Post → Bool) (posts : List Post) (p : Post) → sum_where test (posts ++ p ∷ []) ≡ sum_where test posts +ℤ part test p
+sum_push test posts p = sum_append test posts (p ∷ []) ∙ ap (λ a. sum_where test posts +ℤ a) (none_more (part test p))
+  where
+    none_more : (a : ℤ) → a +ℤ pos 0 ≡ a
+    none_more a = omega (arith, ints)
 
 split_at : (n m : ℕ) → (n < m) ⊎ (m ≤ n)
 split_at n m = grind arith

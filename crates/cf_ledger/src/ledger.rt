@@ -39,8 +39,8 @@ impl Ledger {
         }
     }
 
-    /// Makes room for posts on a basis, so that adding them takes no memory. No post is added, whatever the answer, and
-    /// what was reserved before stays so.
+    /// Makes room for posts on a basis, so that adding them takes no memory: about 4 KB for each account of a fund that
+    /// is named for the first time. No post is added, whatever the answer, and what was reserved before stays so.
     pub fn reserve(&mut self, basis: Basis, posts: &[Post]) -> Result<(), AllocError>
         ensures reserved { OnOk result (AreReserved self.new basis posts.now) }
         ensures keeps { KeepsReserved self.old self.new }
@@ -52,7 +52,8 @@ impl Ledger {
         }
     }
 
-    /// Adds posts on a basis, after those that were added before. It takes no memory.
+    /// Adds posts on a basis, after those that were added before. Their years are 1971 to 2200, and the sizes of all
+    /// amounts of the basis sum to less than 2^127 cents, so that each sum of them fits. It takes no memory.
     pub fn add(&mut self, basis: Basis, posts: &[Post])
         requires reserved { AreReserved self.old basis posts.now }
         requires years { All IsInYears posts.now }

@@ -5,13 +5,15 @@ use Rattle.std.proofs.lemmas.Int.{ints}
 use Rattle.std.proofs.lemmas.List.Elements.{All-nil, All-append, recursion_from_All}
 use Rattle.cf_base.specs.declared.calendar.Day.{Day}
 use Rattle.cf_calls.specs.declared.acts.Act.{Act}
+use Rattle.cf_calls.specs.declared.entry.Entry.{Entry}
 use Rattle.cf_calls.specs.declared.read.Basis.{Basis}
 use Rattle.cf_calls.specs.declared.read.Basis.TheVariants.{Fund as FundBasis, Gov as GovBasis}
 use Rattle.cf_chart.specs.Plan.{Plan}
 use Rattle.cf_ledger.specs.declared.post.Post.{Post}
 use Rattle.cf_ledger.specs.Posts.{sum_where}
-use Rattle.cf_model.specs.Documents.{Documents}
-use Rattle.cf_model.specs.Postings.{deeds_of, rows_of, posts_by, act_posts}
+use Rattle.cf_ledger.proofs.Sums.{sum_append}
+use Rattle.cf_model.specs.Documents.{Documents, no_documents, documents_step}
+use Rattle.cf_model.specs.Postings.{deeds_of, rows_of, posts_by, act_posts, BalanceAfter, EachBalances}
 use Rattle.cf_post.specs.Balance.{BalancesFunds, BalancesYears, AreOfNoFund}
 use Rattle.cf_post.specs.declared.deed.Deed.{Deed}
 use Rattle.cf_post.specs.Rows.{without_zeros}
@@ -19,15 +21,6 @@ use Rattle.cf_post.proofs.Balances.{fund_balances, gov_balances, gov_of_no_fund}
 
 none_first : (s : ℤ) → pos 0 +ℤ s ≡ s
 none_first s = omega (arith, ints)
-
-sum_append : (test : Post → Bool) (xs ys : List Post) → sum_where test (xs ++ ys) ≡ sum_where test xs +ℤ sum_where test ys
-sum_append test [] ys = sym (none_first (sum_where test ys))
-sum_append test (x ∷ xs) ys =
-    let here : ℤ = if test x then x.amount else pos 0 in
-    ap (λ s. here +ℤ s) (sum_append test xs ys) ∙ regroup here (sum_where test xs) (sum_where test ys)
-  where
-    regroup : (a b c : ℤ) → a +ℤ (b +ℤ c) ≡ (a +ℤ b) +ℤ c
-    regroup a b c = omega (arith, ints)
 
 -- where the posts of each deed sum to zero, those of all do
 deeds_sum : (test : Post → Bool) (basis : Basis) → ((d : Deed) → sum_where test (without_zeros (rows_of basis d)) ≡ pos 0) → (deeds : List Deed) → sum_where test (posts_by basis deeds) ≡ pos 0
@@ -80,3 +73,16 @@ each_entry_balances GovBasis plan s on act = λ year fund.
     by_test : (b : Bool) (s : ℤ) → s ≡ pos 0 → (if b then s else pos 0) ≡ pos 0
     by_test true s e = e
     by_test false s e = refl
+
+-- each entry of a history balances
+balance_after : (plan : Plan) (s : Documents) (later : List Entry) → BalanceAfter plan s later
+balance_after plan s [] = tt
+balance_after plan s (e ∷ later) =
+    (record {
+      funds = entry_balances plan s e.change.on e.change.act;
+      years = gov_entry_balances plan s e.change.on e.change.act;
+      whole = gov_entry_of_no_fund plan s e.change.on e.change.act;
+    }, balance_after plan (documents_step plan s e) later)
+
+pub each_balances : (plan : Plan) (history : List Entry) → EachBalances plan history
+each_balances plan history = balance_after plan no_documents history

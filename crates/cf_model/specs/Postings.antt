@@ -19,6 +19,7 @@ use Rattle.cf_model.specs.Calendar.{year_of_day, document_year}
 use Rattle.cf_model.specs.Documents.{Expenditure, Documents, no_documents, documents_step}
 use Rattle.cf_model.specs.Moves.{spent_by}
 use Rattle.cf_post.specs.Accounts as account
+use Rattle.cf_post.specs.Balance.{BalancesFunds, BalancesYears, AreOfNoFund}
 use Rattle.cf_post.specs.declared.deed.Deed.{Deed}
 use Rattle.cf_post.specs.declared.deed.Deed.TheVariants as deed
 use Rattle.cf_post.specs.declared.deed.FundsAmount.{FundsAmount}
@@ -103,6 +104,21 @@ posts_after basis plan s (e ∷ later) = act_posts basis plan s e.change.on e.ch
 -- all that a history posts on a basis, oldest first
 abbrev pub posts_in : Basis → Plan → List Entry → List Post
 posts_in basis plan history = posts_after basis plan no_documents history
+
+-- each entry balances: on either basis its debits and credits of each fund and year are equal, and its posts of the government as a
+-- whole are of no fund (GASB Statement 34)
+pub record Balances (plan : Plan) (s : Documents) (e : Entry) : Type 0 where
+  pub funds : BalancesFunds (act_posts FundBasis plan s e.change.on e.change.act)
+  pub years : BalancesYears (act_posts GovBasis plan s e.change.on e.change.act)
+  pub whole : AreOfNoFund (act_posts GovBasis plan s e.change.on e.change.act)
+
+abbrev pub BalanceAfter : Plan → Documents → List Entry → Type 0
+BalanceAfter plan s [] = Unit {0}
+BalanceAfter plan s (e ∷ later) = Balances plan s e × BalanceAfter plan (documents_step plan s e) later
+
+-- each entry of a history balances, over the documents before it
+abbrev pub EachBalances : Plan → List Entry → Type 0
+EachBalances plan history = BalanceAfter plan no_documents history
 
 -- the balance of an account of a fund through a fiscal year
 abbrev pub balance_of : Basis → Plan → ℕ → ℕ → ℕ → List Entry → ℤ

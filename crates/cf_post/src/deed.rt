@@ -9,6 +9,7 @@ use crate::rows::{FundYear, at};
 pub enum Spent {
     /// Current spending of a function.
     Current(u16),
+    /// A capital asset.
     Capital,
 }
 
@@ -53,7 +54,7 @@ pub struct FunctionAmount {
     pub amount: u64,
 }
 
-/// A tax bill.
+/// A bill of a tax or a charge.
 #[derive(Clone, Copy, Debug, PartialEq, Eq)]
 pub struct Levy {
     pub levy_year: u16,
@@ -161,30 +162,38 @@ pub struct CityAmount {
 
 /// A row of the posting table. Entries of other kinds have no posts. A voucher, a void and a payment of vouchers have a
 /// deed for each item; the closing of a month has one for each function with depreciation, and one for interest. So each
-/// deed has a few posts, and no list.
+/// deed has at most five posts, and holds no list.
 #[derive(Clone, Copy, Debug, PartialEq, Eq)]
 pub enum Deed {
     /// An item of a voucher is entered.
     Voucher(SpentItem),
     /// An item of a voucher is voided.
     VoidVoucher(SpentItem),
-    /// An item of a voucher is paid.
+    /// An item of a voucher is paid, in the year of the payment.
     Pay(FundAmount),
+    /// A tax or a charge is billed.
     Bill(Levy),
+    /// A bill is collected, whole or in part.
     Collect(Collection),
-    /// Revenue is received in cash.
+    /// Revenue that was not billed is received in cash.
     Receive(SourceAmount),
-    /// A bill is written off.
+    /// A bill is written off, whole or in part.
     WriteOff(SourceAmount),
-    /// A capital asset is donated.
+    /// A capital asset is donated to a function.
     Donate(FunctionAmount),
+    /// A capital asset is sold or scrapped.
     Dispose(Disposal),
     /// A bond is issued.
     Issue(FundAmount),
+    /// A payment of a bond falls due and is paid.
     PayDue(DuePayment),
+    /// Leave is earned by a function.
     EarnLeave(FunctionAmount),
+    /// Leave is used in a function.
     UseLeave(FunctionAmount),
+    /// Leave is paid out in cash.
     MatureLeave(MaturedLeave),
+    /// One fund gives to another.
     Transfer(FundsAmount),
     /// One fund lends to another.
     Loan(FundsAmount),

@@ -7,14 +7,18 @@ ghost use Rattle.cf_post.specs.Table as spec;
 ghost use Rattle.cf_post.specs.Table.{fund_rows, gov_rows, due_rows, between_rows};
 ghost use Rattle.cf_post.specs.declared.deed.Deed.TheVariants.{Collect, Dispose};
 
-use crate::accounts::*;
+use crate::accounts::{
+    ACCRUED, ASSET_SALES, BONDS, CAPITAL_ASSETS, CAPITAL_OUTLAY, CASH, DEBT_DUE, DEPRECIATION,
+    DUE_FROM_FUNDS, DUE_TO_FUNDS, GAIN, INTEREST, LEAVE, PAYABLES, PRINCIPAL, PROCEEDS,
+    RECEIVABLES, TRANSFERS_IN, TRANSFERS_OUT, UNAVAILABLE, current_of, donated_to, revenue_of,
+};
 use crate::deed::{Collection, Deed, Disposal, DuePayment, FundsAmount, Spent};
 use crate::rows::{at, city, credit, debit, double, turned};
 use cf_ledger::Post;
 use std::alloc::{AllocError, Global};
 
-/// The fund posts of a deed, on the modified accrual basis: the row of the posting table, without posts of zero. They
-/// sum to zero in each fund and year.
+/// The fund posts of a deed, on the modified accrual basis (GASB Codification 1600): the row of the posting table, in
+/// cents, without posts of zero. They sum to zero in each fund and year.
 #[tactic(auto, using(crate::proofs::Balances::fund_balances))]
 pub fn fund_posts(alloc: Global, deed: &Deed) -> Result<Vec<Post>, AllocError>
     ensures row { IfOk result (λ v. v.items ≡ without_zeros (fund_rows deed.now)) }
@@ -25,8 +29,8 @@ pub fn fund_posts(alloc: Global, deed: &Deed) -> Result<Vec<Post>, AllocError>
     Ok(posts)
 }
 
-/// The government-wide posts of a deed, on the accrual basis: the row of the posting table, without posts of zero. They
-/// are of fund 0, and sum to zero in each year.
+/// The government-wide posts of a deed, on the accrual basis (GASB Statement 34): the row of the posting table, in
+/// cents, without posts of zero. They are of fund 0, and sum to zero in each year.
 #[tactic(auto, using(crate::proofs::Balances::gov_balances, crate::proofs::Balances::gov_of_no_fund))]
 pub fn gov_posts(alloc: Global, deed: &Deed) -> Result<Vec<Post>, AllocError>
     ensures row { IfOk result (λ v. v.items ≡ without_zeros (gov_rows deed.now)) }
@@ -38,7 +42,8 @@ pub fn gov_posts(alloc: Global, deed: &Deed) -> Result<Vec<Post>, AllocError>
     Ok(posts)
 }
 
-/// Appends the fund posts of a deed.
+/// Adds the fund posts of a deed.
+/// Appends the fund posts of a deed: the row of the posting table, without posts of zero.
 pub fn put_fund(posts: &mut Vec<Post>, deed: Deed) -> Result<(), AllocError>
     ensures { OnOk result (posts.new.items ≡ posts.old.items ++ without_zeros (fund_rows deed)) }
 {
@@ -65,7 +70,8 @@ pub fn put_fund(posts: &mut Vec<Post>, deed: Deed) -> Result<(), AllocError>
     }
 }
 
-/// Appends the government-wide posts of a deed.
+/// Adds the government-wide posts of a deed.
+/// Appends the government-wide posts of a deed: the row of the posting table, without posts of zero.
 pub fn put_gov(posts: &mut Vec<Post>, deed: Deed) -> Result<(), AllocError>
     ensures { OnOk result (posts.new.items ≡ posts.old.items ++ without_zeros (gov_rows deed)) }
 {
@@ -128,6 +134,7 @@ fn expense(spent: Spent) -> u32
     }
 }
 
+/// Cash for a bill, and revenue of the year that it is recognised in.
 fn collect(posts: &mut Vec<Post>, c: Collection) -> Result<(), AllocError>
     ensures { OnOk result (posts.new.items ≡ posts.old.items ++ without_zeros (fund_rows (Collect c))) }
 {
@@ -170,6 +177,7 @@ fn between(
     double(posts, at(t.year, t.to), CASH, credited, t.amount)
 }
 
+/// What a sale brings, less the book value, is a gain or a loss.
 fn dispose(posts: &mut Vec<Post>, d: Disposal) -> Result<(), AllocError>
     ensures { OnOk result (posts.new.items ≡ posts.old.items ++ without_zeros (gov_rows (Dispose d))) }
 {

@@ -12,6 +12,7 @@ use Rattle.cf_model.specs.LineNumbers.{HasRoom}
 use Rattle.cf_model.specs.State.{IsSoundState}
 use Rattle.cf_model.specs.Step.{Adds, IsLegal}
 use Rattle.cf_model.proofs.Accepted.{accepted_fits}
+use Rattle.cf_model.proofs.Balanced.{each_balances}
 use Rattle.cf_model.proofs.Legal.{legal_push}
 use Rattle.cf_model.proofs.Room.{room_always}
 use Rattle.cf_book.specs.Books.{Stands}
@@ -33,7 +34,7 @@ sound_push : (plan : Plan) (h : List Entry) (e : Entry) → IsLegal plan h → A
 sound_push plan h e legal adds =
     let next = legal_push plan h e legal adds in
     let few = accepted_fits plan h e adds in
-    record { legal = next; few = (let l : length (h ++ e ∷ []) ≡ length h + 1 = length-append h (e ∷ []) in omega (arith, few, l)); control = λ n. room_always plan (h ++ e ∷ []) next n }
+    record { legal = next; few = (let l : length (h ++ e ∷ []) ≡ length h + 1 = length-append h (e ∷ []) in omega (arith, few, l)); control = λ n. room_always plan (h ++ e ∷ []) next n; balanced = each_balances plan (h ++ e ∷ []) }
 
 doubt_sound : (plan : Plan) (h : List Entry) (doubt : Option Entry) → IsLegal plan h → IfSome doubt (Adds plan h) → IfSome doubt (λ e. IsSoundState (record { plan = plan; entries = h ++ e ∷ [] }))
 doubt_sound plan h None legal adds = tt
@@ -53,7 +54,7 @@ desk_kept device start last book chart left left' held held' how none outcome st
   outcome = outcome;
   laws = laws_of start last held held' left left' how none outcome;
   faults = st.counted;
-  sound = rw (st.plan, st.entries) (record { legal = legal; few = few; control = control });
+  sound = rw (st.plan, st.entries) (record { legal = legal; few = few; control = control; balanced = each_balances book.office.plan book.office.entries });
   images = λ t image is. rw (st.plan, st.entries) (images_recover device.tells device.is_image device.faults book.office.plan book.office.entries book.journal book.disk chart last legal st t image is);
   doubt_sound = rw (st.plan, st.entries) (doubt_sound book.office.plan book.office.entries last.doubt legal st.adds);
 }
