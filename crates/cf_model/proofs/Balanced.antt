@@ -77,12 +77,14 @@ each_entry_balances GovBasis plan s on act = λ year fund.
 -- each entry of a history balances
 balance_after : (plan : Plan) (s : Documents) (later : List Entry) → BalanceAfter plan s later
 balance_after plan s [] = tt
-balance_after plan s (e ∷ later) =
-    (record {
-      funds = entry_balances plan s e.change.on e.change.act;
-      years = gov_entry_balances plan s e.change.on e.change.act;
-      whole = gov_entry_of_no_fund plan s e.change.on e.change.act;
-    }, balance_after plan (documents_step plan s e) later)
+balance_after plan s (e ∷ later) = (
+  record {
+    funds = entry_balances plan s e.change.on e.change.act;
+    years = gov_entry_balances plan s e.change.on e.change.act;
+    whole = gov_entry_of_no_fund plan s e.change.on e.change.act;
+  },
+  balance_after plan (documents_step plan s e) later,
+)
 
 pub each_balances : (plan : Plan) (history : List Entry) → EachBalances plan history
 each_balances plan history = balance_after plan no_documents history
