@@ -243,6 +243,7 @@ impl Office for PlainOffice {
         )?;
         self.entries.reserve(1)?;
         let made = made_of(entry.drawn, &entry.change.act);
+        // So that the proof knows that no post is of a year before 1971.
         let _first = self.chart.first_year();
         self.accounts.apply();
         take_in(&mut self.orders, &self.chart, &entry);

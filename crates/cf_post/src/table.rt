@@ -42,7 +42,6 @@ pub fn gov_posts(alloc: Global, deed: &Deed) -> Result<Vec<Post>, AllocError>
     Ok(posts)
 }
 
-/// Adds the fund posts of a deed.
 /// Appends the fund posts of a deed: the row of the posting table, without posts of zero.
 pub fn put_fund(posts: &mut Vec<Post>, deed: Deed) -> Result<(), AllocError>
     ensures { OnOk result (posts.new.items ≡ posts.old.items ++ without_zeros (fund_rows deed)) }
@@ -70,7 +69,6 @@ pub fn put_fund(posts: &mut Vec<Post>, deed: Deed) -> Result<(), AllocError>
     }
 }
 
-/// Adds the government-wide posts of a deed.
 /// Appends the government-wide posts of a deed: the row of the posting table, without posts of zero.
 pub fn put_gov(posts: &mut Vec<Post>, deed: Deed) -> Result<(), AllocError>
     ensures { OnOk result (posts.new.items ≡ posts.old.items ++ without_zeros (gov_rows deed)) }
