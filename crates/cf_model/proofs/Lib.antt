@@ -3,6 +3,7 @@ pub mod Asked
 pub mod Balanced
 pub mod Bounds
 pub mod Cases
+pub mod CashKept
 pub mod Changed
 pub mod Encumbered
 pub mod First
