@@ -18,7 +18,7 @@ use Rattle.cf_ledger.specs.declared.post.Post.{Post}
 use Rattle.cf_ledger.specs.Posts.{balance, is_of, sum_where}
 use Rattle.cf_ledger.proofs.Sums.{sum_append}
 use Rattle.cf_model.specs.Calendar.{year_of_day, document_year}
-use Rattle.cf_model.specs.Cash.{fund_sum, cash_taken, cash_short, cash_refusal}
+use Rattle.cf_model.specs.Cash.{fund_sum, cash_taken, cash_short}
 use Rattle.cf_model.specs.Documents.{Expenditure, Documents, documents_of}
 use Rattle.cf_model.specs.Moves.{spent_by}
 use Rattle.cf_model.specs.Postings.{spent_item, pay_deed, pay_items, fund_deed, deeds_of, posts_by, act_posts, posts_in, cash_of}
@@ -26,7 +26,8 @@ use Rattle.cf_model.specs.Rules.{first_refusal}
 use Rattle.cf_model.specs.Step.{Adds, IsLegal}
 use Rattle.cf_model.proofs.Accepted.{accepted}
 use Rattle.cf_model.proofs.First.{or_else_none, refuse_none}
-use Rattle.cf_model.proofs.Legal.{legal_induction}
+use Rattle.cf_model.proofs.Funded.{are_funded, none_taken}
+use Rattle.cf_model.proofs.Legal.{legal_push, legal_induction}
 use Rattle.cf_model.proofs.Posted.{posts_push}
 use Rattle.cf_post.specs.Accounts as account
 use Rattle.cf_post.specs.declared.deed.Deed.{Deed}
@@ -208,23 +209,44 @@ row_none g fund (f ∷ funds) known none =
 enough : (taken : ℕ) (cash : ℤ) → pos 0 ≤ℤ cash → (nat_lt 0 taken && int_lt cash (pos taken)) ≡ false → pos taken ≤ℤ cash
 enough taken cash some kept = grind (arith, ints, common_steps)
 
-abbrev HasCash : Plan → ℕ → List Entry → Type 0
-HasCash plan fund h = pos 0 ≤ℤ cash_of plan fund h
-
--- a change that takes no more than is there leaves what isn't below zero
+-- where no more is taken than is there, what isn't below zero stays so
 cash_left : (cash made : ℤ) (taken : ℕ) → pos taken ≤ℤ cash → (pos 0 -ℤ pos taken) ≤ℤ made → pos 0 ≤ℤ (cash +ℤ made)
 cash_left cash made taken l k = omega (arith, ints, l, k)
 
-cash_step : (plan : Plan) (fund : ℕ) → is_some (fund_at plan fund) ≡ true → (h : List Entry) (e : Entry) → HasCash plan fund h → Adds plan h e → HasCash plan fund (h ++ e ∷ [])
-cash_step plan fund known h e some adds =
+-- an accepted entry takes no more of a fund's cash than is there, by the rule on cash where the chart has the fund, and nothing where it hasn't
+most_taken : (plan : Plan) (h : List Entry) (e : Entry) (fund : ℕ) → IsLegal plan h → Adds plan h e → pos 0 ≤ℤ cash_of plan fund h →
+    pos (cash_taken (documents_of plan h) fund e.change.act) ≤ℤ cash_of plan fund h
+most_taken plan h e fund legal adds some =
     let s = documents_of plan h in
     let act = e.change.act in
-    let none : cash_short fund (cash_of plan fund h) (cash_taken s fund act) ≡ None =
-    row_none (λ id. cash_short id (cash_of plan id h) (cash_taken s id act)) fund plan.funds known (accepted plan h e adds).cash in
-    let most : pos (cash_taken s fund act) ≤ℤ cash_of plan fund h =
-    enough (cash_taken s fund act) (cash_of plan fund h) some (refuse_none _ (refusal.CashShort fund (cash_of plan fund h) (pos (cash_taken s fund act))) none) in
-    rw (cash_push plan h e fund) (cash_left (cash_of plan fund h) (cash_made plan s fund e.change.on act) (cash_taken s fund act) most (cash_falls plan s fund e.change.on act))
+    by_test (is_some (fund_at plan fund)) refl
+    (λ known. enough (cash_taken s fund act) (cash_of plan fund h) some
+    (refuse_none _ (refusal.CashShort fund (cash_of plan fund h) (pos (cash_taken s fund act)))
+    (row_none (λ id. cash_short id (cash_of plan id h) (cash_taken s id act)) fund plan.funds known (accepted plan h e adds).cash)))
+    (λ other. rw (none_taken plan s fund act other (are_funded plan h legal) (accepted plan h e adds).names) some)
+  where
+    by_test : (b : Bool) → is_some (fund_at plan fund) ≡ b
+        → (is_some (fund_at plan fund) ≡ true → pos (cash_taken (documents_of plan h) fund e.change.act) ≤ℤ cash_of plan fund h)
+        → (is_some (fund_at plan fund) ≡ false → pos (cash_taken (documents_of plan h) fund e.change.act) ≤ℤ cash_of plan fund h)
+        → pos (cash_taken (documents_of plan h) fund e.change.act) ≤ℤ cash_of plan fund h
+    by_test true e known other = known e
+    by_test false e known other = other e
 
--- the theorem: no fund of the chart has cash below zero after a legal history
-pub cash_always : (plan : Plan) (history : List Entry) (fund : ℕ) → IsLegal plan history → is_some (fund_at plan fund) ≡ true → pos 0 ≤ℤ cash_of plan fund history
-cash_always plan history fund legal known = legal_induction plan (HasCash plan fund) zero_le (cash_step plan fund known) history legal
+-- a legal history, after which the fund's cash isn't below zero
+record HasCash (plan : Plan) (fund : ℕ) (h : List Entry) : Type 0 where
+  pub legal : IsLegal plan h
+  pub cash : pos 0 ≤ℤ cash_of plan fund h
+
+cash_step : (plan : Plan) (fund : ℕ) (h : List Entry) (e : Entry) → HasCash plan fund h → Adds plan h e → HasCash plan fund (h ++ e ∷ [])
+cash_step plan fund h e has adds =
+    let s = documents_of plan h in
+    let act = e.change.act in
+    record {
+      legal = legal_push plan h e has.legal adds;
+      cash = rw (cash_push plan h e fund)
+          (cash_left (cash_of plan fund h) (cash_made plan s fund e.change.on act) (cash_taken s fund act) (most_taken plan h e fund has.legal adds has.cash) (cash_falls plan s fund e.change.on act));
+    }
+
+-- the theorem: after a legal history no fund's cash is below zero
+pub cash_always : (plan : Plan) (history : List Entry) (fund : ℕ) → IsLegal plan history → pos 0 ≤ℤ cash_of plan fund history
+cash_always plan history fund legal = (legal_induction plan (HasCash plan fund) (record { legal = tt; cash = zero_le }) (cash_step plan fund) history legal).cash

@@ -7,6 +7,7 @@ pub mod CashKept
 pub mod Changed
 pub mod Encumbered
 pub mod First
+pub mod Funded
 pub mod Legal
 pub mod Moved
 pub mod Posted
