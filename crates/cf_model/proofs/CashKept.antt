@@ -1,5 +1,5 @@
 -- No fund's cash is ever below zero: no entry of a legal history takes more cash of a fund than the fund has.
-use Rattle.std.proofs.Common.{◌≡◌, ℕ, ◌+◌, Bool, true, false, if◌then◌else◌, ◌==◌, ◌&&◌, nat_lt, nat_le, List, [], ◌∷◌, ◌++◌, map, Option, Some, None, is_some, find, sum_by, ℤ, pos, ◌+ℤ◌, ◌-ℤ◌, ◌≤ℤ◌, int_lt, refl, sym, ap, ◌∙◌, arith}
+use Rattle.std.proofs.Common.{◌≡◌, ℕ, ◌+◌, Bool, true, false, if◌then◌else◌, ◌==◌, ◌&&◌, nat_lt, nat_le, List, [], ◌∷◌, ◌++◌, map, Option, Some, None, is_some, find, sum_by, take, ℤ, pos, ◌+ℤ◌, ◌-ℤ◌, ◌≤ℤ◌, int_lt, refl, sym, ap, ◌∙◌, arith}
 use Rattle.std.proofs.lemmas.Grind.{common_steps}
 use Rattle.std.proofs.lemmas.Int.{ints}
 use Rattle.std.proofs.lemmas.List.Sums.{sum_by-cons, sum_by-append}
@@ -27,7 +27,7 @@ use Rattle.cf_model.specs.Step.{Adds, IsLegal}
 use Rattle.cf_model.proofs.Accepted.{accepted}
 use Rattle.cf_model.proofs.First.{or_else_none, refuse_none}
 use Rattle.cf_model.proofs.Funded.{are_funded, none_taken}
-use Rattle.cf_model.proofs.Legal.{legal_push, legal_induction}
+use Rattle.cf_model.proofs.Legal.{legal_push, legal_induction, legal_take}
 use Rattle.cf_model.proofs.Posted.{posts_push}
 use Rattle.cf_post.specs.Accounts as account
 use Rattle.cf_post.specs.declared.deed.Deed.{Deed}
@@ -250,3 +250,7 @@ cash_step plan fund h e has adds =
 -- the theorem: after a legal history no fund's cash is below zero
 pub cash_always : (plan : Plan) (history : List Entry) (fund : ℕ) → IsLegal plan history → pos 0 ≤ℤ cash_of plan fund history
 cash_always plan history fund legal = (legal_induction plan (HasCash plan fund) (record { legal = tt; cash = zero_le }) (cash_step plan fund) history legal).cash
+
+-- .. nor at any place of it
+pub cash_at_each : (plan : Plan) (history : List Entry) → IsLegal plan history → (n fund : ℕ) → pos 0 ≤ℤ cash_of plan fund (take n history)
+cash_at_each plan history legal n fund = cash_always plan (take n history) fund (legal_take plan history n legal)
