@@ -1,6 +1,6 @@
 #!/bin/sh
-# Accepted calls a second through a desk on a real disk, beside the rate at which the same disk syncs small appends to a
-# file, in one run. Each accepted call is two writes and two syncs, so a desk that waits for nothing but the disk accepts
+# Accepted calls a second through a desk on a real disk, beside the rate at which the same disk syncs the data of small
+# appends to a file, in one run. Each accepted call is two writes and two syncs, so a desk that waits for nothing but the disk accepts
 # half as many calls as the disk syncs: the last number is calls / (syncs / 2). The file and the journal lie in a folder
 # made in the folder of the argument, or in bench/.
 top=$(cd "$(dirname "$0")/.." && pwd)
@@ -18,7 +18,7 @@ def sync_seconds():
     start = time.time()
     for _ in range(SYNCS):
         os.write(file, b"x" * 60)
-        os.fsync(file)
+        os.fdatasync(file)
     seconds = time.time() - start
     os.close(file)
     return seconds

@@ -1,7 +1,7 @@
 #!/bin/sh
-# What calls cost over a short and a long history, on the built program: microseconds a direct voucher and a look
-# after 1,000 and after 100,000 accepted entries, vouchers a second, and bytes of memory an entry; then microseconds a
-# voucher on an order's item, and its void, after 1,000 and after 100,000 orders. The journal lies in memory (/dev/shm),
+# What calls cost over a short and a long history, on the built program: microseconds a direct voucher, its payment, and
+# looks at a line and at an account after 1,000 and after 100,000 accepted entries, vouchers a second, and bytes of memory an
+# entry; then microseconds a voucher on an order's item, and its void, after 1,000 and after 100,000 orders. The journal lies in memory (/dev/shm),
 # where a sync costs nothing, so this is the work of the program and of the system's calls; bench/durable.sh has the disk's.
 top=$(cd "$(dirname "$0")/.." && pwd)
 "$top/cityfund" > /dev/null 2>&1 # builds it where it is out of date
@@ -14,6 +14,8 @@ import os, subprocess, sys, threading, time
 ADOPT = ('{"call":"adopt","desk":1,"key":"b","on":"2025-07-01","fund":1,"year":2026,'
          '"lines":[{"line":3,"amount":1000000000}],"estimates":[]}\n')
 LOOK = '{"call":"line","line":3,"year":2026}\n'
+ACCOUNT = '{"call":"account","basis":"fund","year":2026,"fund":1,"account":200000}\n'
+RECEIVE = '{"call":"receive","desk":5,"key":"r","on":"2025-07-05","source":1,"amount":1000000000}\n'
 BATCH = 20_000
 
 def vouchers(first, count):
@@ -30,6 +32,9 @@ def item_vouchers(count, orders):
 
 def voids(count):
     return ['{"call":"void_voucher","desk":4,"key":"w%d","on":"2025-07-06","voucher":%d}\n' % (number, number + 1) for number in range(count)]
+
+def payments(count):
+    return ['{"call":"pay","desk":5,"key":"p%d","on":"2025-07-06","vouchers":[%d]}\n' % (number, number + 1) for number in range(count)]
 
 def talk(desk, lines):
     text = "".join(lines).encode()
@@ -59,10 +64,14 @@ for entries in (1_000, 100_000):
     grown = (resident(desk) - before) / entries
     seconds, accepted = talk(desk, vouchers(entries, BATCH))
     look, _ = talk(desk, [LOOK] * BATCH)
+    account, _ = talk(desk, [ACCOUNT] * BATCH)
+    talk(desk, [RECEIVE])
+    paying, paid = talk(desk, payments(BATCH))
     desk.stdin.close()
     status = desk.wait()
     print(f"after {entries:,} entries: a voucher {seconds / BATCH * 1e6:.1f} us ({BATCH / seconds:,.0f} a second, {accepted:,} accepted), "
-          f"a look {look / BATCH * 1e6:.1f} us, {grown:,.0f} bytes an entry, status {status}")
+          f"a payment {paying / BATCH * 1e6:.1f} us ({paid:,} accepted), a look at a line {look / BATCH * 1e6:.1f} us, "
+          f"at an account {account / BATCH * 1e6:.1f} us, {grown:,.0f} bytes an entry, status {status}")
 
 for documents in (1_000, 100_000):
     desk = fresh_desk()

@@ -64,12 +64,28 @@ expect "a desk without lines" 0 "" desk
 cmp -s "$scratch/fund.journal" "$scratch/before"
 verdict "the journal stays" $?
 
+# A second desk, while the first waits for a line.
+rm -f "$scratch/got"
+mkfifo "$scratch/lines"
+(cd "$scratch" && "$top/cityfund" desk < lines > got) &
+exec 3> "$scratch/lines"
+printf '%s\n' '{"call":"line","line":3,"year":2026}' >&3
+until [ -s "$scratch/got" ] || ! kill -0 $! 2> /dev/null; do sleep 0.1; done
+expect "a second desk" 6 "cityfund: disk fault" desk
+exec 3>&-
+wait $!
+verdict "the first desk goes on" $?
+cmp -s "$scratch/fund.journal" "$scratch/before"
+verdict "the journal of two desks stays" $?
+
 # Another version of the journal.
 printf '\002' | dd of="$scratch/fund.journal" bs=1 seek=1 conv=notrunc 2> /dev/null
 expect "another version" 9 "cityfund: damaged at 1" desk
 
 fresh
 expect "a desk without a journal" 7 "cityfund: not founded" desk
+[ ! -e "$scratch/fund.journal" ]
+verdict "no journal is made" $?
 # A property tax window of 61 days breaks the chart's rule of 60 (GASB Codification P70).
 sed 's/^window = 60$/window = 61/' examples/rivertown/chart.toml > "$scratch/chart.toml"
 expect "a window of 61" 3 "cityfund: chart refused" found

@@ -5,41 +5,100 @@ ghost use Rattle.cf_base.specs.Causes.{HasCause};
 
 use crate::disk::Disk;
 use cf_base::Failed;
-use std::fs::{Files, OpenFile, OpenOptions};
-use std::io::{Read, Seek, SeekFrom, Write};
+use std::fs::{File, Files, OpenFile, OpenOptions};
+use std::io::{ErrorKind, Read, Seek, SeekFrom, Write};
+use std::path::Path;
 
-/// A disk over a file, which it opens at its first call, and creates empty where none is there. A failed
-/// opening is a fault of that call. Each sync is one of the system.
+/// A disk over a file. Its first call opens the file and locks it, so that no second program that does the same
+/// writes it; a file that can't be opened, or that another holds, is a fault of that call. A missing file has
+/// no bytes, and is made by the first write or cut. Each sync is one of the system: of the file's data, and,
+/// where this disk made the file, of the folder that it lies in.
 #[derive(Drop)]
 pub struct FileDisk<'a, R: Files> {
     files: &'a R,
     path: &'a str,
     file: Option<R::File>,
+    /// Whether the folder is still to be synced, since the file was made.
+    is_new: bool,
     faults: u64,
 }
 
-impl<'a, R: Files> FileDisk<'a, R> {
+impl<'a, R: Files<File = File>> FileDisk<'a, R> {
     pub fn new(files: &'a R, path: &'a str) -> Self {
         FileDisk {
             files,
             path,
             file: None,
+            is_new: false,
             faults: 0,
         }
     }
 
-    /// Opens the file, if it isn't open.
-    fn open(&mut self)
+    /// Opens and locks the file, if it isn't open. Whether it is open then: a missing one isn't.
+    fn is_open(&mut self) -> Option<bool>
         ensures { self.new.faults ≡ self.old.faults }
     {
         if self.file.is_none() {
-            self.file = OpenOptions::new()
+            match OpenOptions::new()
                 .read(true)
                 .write(true)
-                .create(true)
                 .open(self.files, self.path)
-                .ok();
+            {
+                Ok(file) => self.hold(file)?,
+                Err(error) if error.kind() == ErrorKind::NotFound => return Some(false),
+                Err(_) => return None,
+            }
         }
+        Some(true)
+    }
+
+    /// Opens and locks the file, and makes it where it is missing.
+    fn open_or_make(&mut self) -> Option<()>
+        ensures { self.new.faults ≡ self.old.faults }
+    {
+        if !self.is_open()? {
+            let file = OpenOptions::new()
+                .read(true)
+                .write(true)
+                .create_new(true)
+                .open(self.files, self.path)
+                .ok()?;
+            self.hold(file)?;
+            self.is_new = true;
+        }
+        Some(())
+    }
+
+    /// Keeps the file, if no other program has its lock.
+    fn hold(&mut self, file: File) -> Option<()>
+        ensures { self.new.faults ≡ self.old.faults }
+    {
+        file.try_lock().ok()?;
+        self.file = Some(file);
+        Some(())
+    }
+
+    /// Syncs the folder of a file that was made, so that the file is found again after a power cut.
+    fn sync_folder(&mut self) -> Option<()>
+        ensures { self.new.faults ≡ self.old.faults }
+    {
+        if self.is_new {
+            let folder = OpenOptions::new()
+                .read(true)
+                .open(self.files, folder_of(self.path))
+                .ok()?;
+            folder.sync_all().ok()?;
+            self.is_new = false;
+        }
+        Some(())
+    }
+
+    /// Syncs the file's data, and the folder of a file that was made.
+    fn sync_both(&mut self) -> Option<()>
+        ensures { self.new.faults ≡ self.old.faults }
+    {
+        sync_data(&self.file)?;
+        self.sync_folder()
     }
 
     /// What a call gave, with its failure counted.
@@ -54,6 +113,14 @@ impl<'a, R: Files> FileDisk<'a, R> {
                 Err(Failed)
             }
         }
+    }
+}
+
+/// The folder that a file lies in.
+fn folder_of(path: &str) -> &str {
+    match Path::new(path).parent() {
+        Some(folder) if !folder.as_str().is_empty() => folder.as_str(),
+        _ => ".",
     }
 }
 
@@ -93,14 +160,14 @@ fn cut_to<F: OpenFile>(file: &Option<F>, len: u64) -> Option<()> {
     }
 }
 
-fn sync_all<F: OpenFile>(file: &Option<F>) -> Option<()> {
+fn sync_data<F: OpenFile>(file: &Option<F>) -> Option<()> {
     match file {
-        Some(file) => file.sync_all().ok(),
+        Some(file) => file.sync_data().ok(),
         None => None,
     }
 }
 
-impl<R: Files> Disk for FileDisk<'_, R> {
+impl<R: Files<File = File>> Disk for FileDisk<'_, R> {
     ghost tells = { false };
 
     ghost content = { λ _. [] };
@@ -114,32 +181,45 @@ impl<R: Files> Disk for FileDisk<'_, R> {
     ghost faults = { λ d. d.faults };
 
     fn len(&mut self) -> Result<u64, Failed> {
-        self.open();
-        let outcome = len_of(&self.file);
+        let outcome = match self.is_open() {
+            Some(true) => len_of(&self.file),
+            Some(false) => Some(0),
+            None => None,
+        };
         self.counted(outcome)
     }
 
     fn read(&mut self, at: u64, buf: &mut [u8]) -> Result<(), Failed> {
-        self.open();
-        let outcome = read_from(&mut self.file, at, buf);
+        let outcome = match self.is_open() {
+            Some(true) => read_from(&mut self.file, at, buf),
+            Some(false) if buf.is_empty() => Some(()),
+            _ => None,
+        };
         self.counted(outcome)
     }
 
     fn write_at(&mut self, at: u64, piece: &[u8]) -> Result<(), Failed> {
-        self.open();
-        let outcome = write_to(&mut self.file, at, piece);
+        let outcome = match self.open_or_make() {
+            Some(()) => write_to(&mut self.file, at, piece),
+            None => None,
+        };
         self.counted(outcome)
     }
 
     fn cut(&mut self, len: u64) -> Result<(), Failed> {
-        self.open();
-        let outcome = cut_to(&self.file, len);
+        let outcome = match self.open_or_make() {
+            Some(()) => cut_to(&self.file, len),
+            None => None,
+        };
         self.counted(outcome)
     }
 
     fn sync(&mut self) -> Result<(), Failed> {
-        self.open();
-        let outcome = sync_all(&self.file);
+        let outcome = match self.is_open() {
+            Some(true) => self.sync_both(),
+            Some(false) => Some(()),
+            None => None,
+        };
         self.counted(outcome)
     }
 

@@ -4,6 +4,7 @@ ghost use Rattle.std.specs.Prelude.{◌+◌, ◌≤◌, IsTrue, length};
 
 use crate::{Disk, DiskCall, FileDisk, MemDisk};
 use std::alloc::Global;
+use std::fs;
 use std::test::*;
 
 /// What a disk over a file has from a place on, in so many bytes.
@@ -27,18 +28,28 @@ fn a_file_is_a_disk(rt: HostRuntime) {
     assert!(rt; disk.write_at(6, b"gh").is_ok());
     assert!(rt; disk.sync().is_ok());
     let mut again = FileDisk::new(&rt, "journal.test");
+    assert!(rt; again.len().is_err(), "the first has the lock");
+    drop(disk);
     assert_eq!(rt; again.len(), Ok(8));
     let mut all = [1u8; 8];
     assert!(rt; bytes_at(&mut again, 0, &mut all));
     assert_eq!(rt; all.as_slice(), b"abcd\0\0gh".as_slice());
     assert!(rt; !bytes_at(&mut again, 6, &mut three));
+    assert!(rt; fs::remove_file(&rt, "journal.test").is_ok());
 }
 
 #[test]
-fn a_file_that_cannot_be_opened_is_a_fault(rt: HostRuntime) {
+fn a_missing_file_is_made_by_a_write_alone(rt: HostRuntime) {
+    for path in ["missing.test", "nowhere/journal.test"] {
+        let mut disk = FileDisk::new(&rt, path);
+        assert_eq!(rt; disk.len(), Ok(0));
+        assert!(rt; bytes_at(&mut disk, 0, &mut []));
+        assert!(rt; disk.sync().is_ok());
+        assert!(rt; fs::metadata(&rt, path).is_err());
+    }
     let mut disk = FileDisk::new(&rt, "nowhere/journal.test");
-    assert!(rt; disk.len().is_err());
-    assert!(rt; disk.sync().is_err());
+    assert!(rt; disk.write_at(0, b"a").is_err());
+    assert!(rt; disk.cut(0).is_err());
 }
 
 /// How many of five calls succeed: a write, a sync, a cut, a sync and the length.

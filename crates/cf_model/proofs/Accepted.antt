@@ -9,6 +9,7 @@ use Rattle.cf_calls.specs.declared.reply.Verdict.{Verdict}
 use Rattle.cf_calls.specs.declared.reply.Verdict.TheVariants.{Accept, Repeat, Refuse, Unbuilt}
 use Rattle.cf_chart.specs.Plan.{Plan}
 use Rattle.cf_model.specs.Rules.{first_of, full_refusal, amount_refusal, name_refusal, period_refusal, year_refusal, closed_refusal, adopted_refusal, unadopted_refusal, exceed_refusal, most_entries}
+use Rattle.cf_model.specs.Cash.{cash_refusal}
 use Rattle.cf_model.specs.Documents.{documents_of}
 use Rattle.cf_model.specs.DocumentRules.{state_refusal, hand_refusal, on_order_refusal, open_refusal}
 use Rattle.cf_model.specs.Step.{Adds, verdict_after, verdict_new, verdict_by, is_same, entry_at, known_at, draws, entry_with, is_built, first_rules, later_rules}
@@ -31,6 +32,7 @@ pub record IsUnbroken (plan : Plan) (history : List Entry) (e : Entry) : Type 0 
   pub on_order : on_order_refusal (documents_of plan history) e.change.act ≡ None
   pub opens : open_refusal (documents_of plan history) e.change.act ≡ None
   pub exceeds : exceed_refusal plan history e ≡ None
+  pub cash : cash_refusal plan history e.change.act ≡ None
 
 accepted_if : (b : Bool) (v : Verdict) (drawn : Drawn) → (if b then v else Unbuilt) ≡ Accept drawn → (b ≡ true) × (v ≡ Accept drawn)
 accepted_if true v drawn e = (refl, e)
@@ -80,6 +82,7 @@ accepted plan history e adds =
       on_order = all.1.1.1.1.1.1.1.1.1.1.1.0;
       opens = all.1.1.1.1.1.1.1.1.1.1.1.1.0;
       exceeds = subst P (sym same) all.1.1.1.1.1.1.1.1.1.1.1.1.1.0;
+      cash = all.1.1.1.1.1.1.1.1.1.1.1.1.1.1.0;
     }
 
 -- an accepted entry finds room in the history

@@ -4,7 +4,7 @@ use Rattle.std.proofs.lemmas.Int.{ints}
 use Rattle.std.proofs.lemmas.Grind.{common_steps}
 use Rattle.std.proofs.lemmas.Option.{slice_get_within}
 use Rattle.cf_calls.specs.declared.acts.Act.{Act}
-use Rattle.cf_calls.specs.declared.acts.Act.TheVariants.{Adopt, Amend, Transfer, Requisition, Withdraw, Order, ChangeOrder, CancelOrder, Voucher, VoidVoucher}
+use Rattle.cf_calls.specs.declared.acts.Act.TheVariants.{Adopt, Amend, Transfer, Requisition, Withdraw, Order, ChangeOrder, CancelOrder, Voucher, VoidVoucher, Pay, Receive, Interfund}
 use Rattle.cf_calls.specs.declared.acts.Amendment.{Amendment}
 use Rattle.cf_calls.specs.declared.acts.LineTransfer.{LineTransfer}
 use Rattle.cf_calls.specs.declared.entry.Entry.{Entry}
@@ -175,6 +175,9 @@ exceed_rest plan h e legal built form na nt = exceed_is plan h e legal built for
     by_act (CancelOrder n) built na nt = as_moves (CancelOrder n) (λ l y. refl) (λ l y. refl)
     by_act (Voucher v) built na nt = as_moves (Voucher v) (λ l y. refl) (λ l y. refl)
     by_act (VoidVoucher n) built na nt = as_moves (VoidVoucher n) (λ l y. refl) (λ l y. refl)
+    by_act (Pay p) built na nt = as_moves (Pay p) (λ l y. refl) (λ l y. refl)
+    by_act (Receive r) built na nt = as_moves (Receive r) (λ l y. refl) (λ l y. refl)
+    by_act (Interfund m) built na nt = as_moves (Interfund m) (λ l y. refl) (λ l y. refl)
     by_act _ built na nt = cc
 
 -- ---- the lines that a named act names are there

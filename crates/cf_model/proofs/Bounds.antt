@@ -6,7 +6,7 @@ use Rattle.std.proofs.lemmas.List.Sums.{sum_by-cons}
 use Rattle.cf_base.specs.declared.calendar.Month.{Month}
 use Rattle.cf_base.specs.Calendar.{year_of_month}
 use Rattle.cf_calls.specs.declared.acts.Act.{Act}
-use Rattle.cf_calls.specs.declared.acts.Act.TheVariants.{Adopt, Amend, Transfer, Requisition, Withdraw, Order, ChangeOrder, CancelOrder, Voucher, VoidVoucher}
+use Rattle.cf_calls.specs.declared.acts.Act.TheVariants.{Adopt, Amend, Transfer, Requisition, Withdraw, Order, ChangeOrder, CancelOrder, Voucher, VoidVoucher, Pay, Receive, Interfund}
 use Rattle.cf_calls.specs.declared.entry.Entry.{Entry}
 use Rattle.cf_calls.specs.declared.items.LineAmount.{LineAmount}
 use Rattle.cf_calls.specs.declared.refusal.Refusal.TheVariants as refusal
@@ -23,7 +23,7 @@ use Rattle.cf_model.proofs.Legal.{legal_induction}
 use Rattle.cf_model.proofs.Changed.{original_push, added_push, removed_push, plain_appropriated, nothing_carried}
 use Rattle.cf_model.proofs.Room.{room_now}
 
-small : (a : ℕ) → bad_amount (amount a) ≡ None → a ≤ 10000000000000
+pub small : (a : ℕ) → bad_amount (amount a) ≡ None → a ≤ 10000000000000
 small a e = let b = refuse_none _ (refusal.AmountRange a) e in grind arith
 
 zero_or : (b : Bool) (n m : ℕ) → n ≤ m → (if b then n else 0) ≤ m
@@ -76,6 +76,9 @@ act_small plan line year e (ChangeOrder c) built form none = record { adopted = 
 act_small plan line year e (CancelOrder n) built form none = record { adopted = omega arith; added = omega arith; removed = omega arith }
 act_small plan line year e (Voucher v) built form none = record { adopted = omega arith; added = omega arith; removed = omega arith }
 act_small plan line year e (VoidVoucher n) built form none = record { adopted = omega arith; added = omega arith; removed = omega arith }
+act_small plan line year e (Pay p) built form none = record { adopted = omega arith; added = omega arith; removed = omega arith }
+act_small plan line year e (Receive r) built form none = record { adopted = omega arith; added = omega arith; removed = omega arith }
+act_small plan line year e (Interfund m) built form none = record { adopted = omega arith; added = omega arith; removed = omega arith }
 act_small plan line year e _ built form none = cc
 
 -- the sums of a line and year, by the number of entries
@@ -128,6 +131,9 @@ closes_none plan (ChangeOrder c) built = (λ m. refl, λ y. refl)
 closes_none plan (CancelOrder n) built = (λ m. refl, λ y. refl)
 closes_none plan (Voucher v) built = (λ m. refl, λ y. refl)
 closes_none plan (VoidVoucher n) built = (λ m. refl, λ y. refl)
+closes_none plan (Pay p) built = (λ m. refl, λ y. refl)
+closes_none plan (Receive r) built = (λ m. refl, λ y. refl)
+closes_none plan (Interfund m) built = (λ m. refl, λ y. refl)
 closes_none plan _ built = cc
 
 no_month : (plan : Plan) (h : List Entry) → AllByRecursion (IsSound plan) h → (m : Month) → list_any (λ e. closes_month m e.change.act) h ≡ false

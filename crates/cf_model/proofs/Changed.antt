@@ -3,7 +3,7 @@ use Rattle.std.proofs.Common.{◌≡◌, ℕ, ◌+◌, Bool, true, false, if◌t
 use Rattle.std.proofs.lemmas.Int.{ints}
 use Rattle.std.proofs.lemmas.List.Sums.{sum_by_push}
 use Rattle.cf_calls.specs.declared.acts.Act.{Act}
-use Rattle.cf_calls.specs.declared.acts.Act.TheVariants.{Adopt, Amend, Transfer, Requisition, Withdraw, Order, ChangeOrder, CancelOrder, Voucher, VoidVoucher}
+use Rattle.cf_calls.specs.declared.acts.Act.TheVariants.{Adopt, Amend, Transfer, Requisition, Withdraw, Order, ChangeOrder, CancelOrder, Voucher, VoidVoucher, Pay, Receive, Interfund}
 use Rattle.cf_calls.specs.declared.entry.Entry.{Entry}
 use Rattle.cf_calls.specs.Form.{IsActInForm}
 use Rattle.cf_chart.specs.Plan.{Plan}
@@ -46,6 +46,9 @@ carries_none plan act (i ∷ items) built = by_act act built (carries_none plan 
     by_act (CancelOrder n) built rest = rest
     by_act (Voucher v) built rest = rest
     by_act (VoidVoucher n) built rest = rest
+    by_act (Pay p) built rest = rest
+    by_act (Receive r) built rest = rest
+    by_act (Interfund m) built rest = rest
     by_act _ built rest = cc
 
 carried_push : (plan : Plan) (s : Documents) (h : List Entry) (e : Entry) → carried_after plan s h ≡ [] → is_built plan e.change.act ≡ true → carried_after plan s (h ++ e ∷ []) ≡ []

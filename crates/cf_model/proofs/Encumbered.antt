@@ -6,7 +6,7 @@ use Rattle.std.proofs.lemmas.Int.{ints}
 use Rattle.std.proofs.lemmas.List.Sums.{sum_by-cons}
 use Rattle.cf_base.specs.declared.calendar.Day.{Day}
 use Rattle.cf_calls.specs.declared.acts.Act.{Act}
-use Rattle.cf_calls.specs.declared.acts.Act.TheVariants.{Adopt, Amend, Transfer, Requisition, Withdraw, Order, ChangeOrder, CancelOrder, Voucher, VoidVoucher}
+use Rattle.cf_calls.specs.declared.acts.Act.TheVariants.{Adopt, Amend, Transfer, Requisition, Withdraw, Order, ChangeOrder, CancelOrder, Voucher, VoidVoucher, Pay, Receive, Interfund}
 use Rattle.cf_calls.specs.declared.items.AccountItem.{AccountItem}
 use Rattle.cf_calls.specs.declared.items.Charge.{Charge}
 use Rattle.cf_calls.specs.declared.items.Charge.TheVariants.{Direct, OnOrder}
@@ -352,4 +352,7 @@ encumbered_rises plan s number on (Withdraw n) line year built form tidy =
 encumbered_rises plan s number on (Adopt a) line year built form tidy = all_kept (encumbered_at plan line year) plan line year encumbers s.items [] refl
 encumbered_rises plan s number on (Amend a) line year built form tidy = all_kept (encumbered_at plan line year) plan line year encumbers s.items [] refl
 encumbered_rises plan s number on (Transfer t) line year built form tidy = all_kept (encumbered_at plan line year) plan line year encumbers s.items [] refl
+encumbered_rises plan s number on (Pay p) line year built form tidy = all_kept (encumbered_at plan line year) plan line year encumbers s.items [] refl
+encumbered_rises plan s number on (Receive r) line year built form tidy = all_kept (encumbered_at plan line year) plan line year encumbers s.items [] refl
+encumbered_rises plan s number on (Interfund m) line year built form tidy = all_kept (encumbered_at plan line year) plan line year encumbers s.items [] refl
 encumbered_rises plan s number on _ line year built form tidy = cc

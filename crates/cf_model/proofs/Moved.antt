@@ -1,20 +1,23 @@
 -- The moves of an act add up to what it changes of each line's numbers.
 use Rattle.std.proofs.Common.{◌≡◌, ℕ, ◌+◌, Bool, true, false, ◌==◌, if◌then◌else◌, List, [], ◌∷◌, ◌++◌, map, sum_by, Option, Some, None, ℤ, pos, ◌+ℤ◌, ◌-ℤ◌, refl, sym, arith, ◌∙◌, ap}
-use Rattle.std.specs.List.{filter}
+use Rattle.std.specs.List.{list_any, filter}
 use Rattle.std.proofs.lemmas.Int.{ints}
 use Rattle.std.proofs.lemmas.List.Sums.{sum_by-cons, sum_by-append}
 use Rattle.cf_base.specs.declared.calendar.Day.{Day}
 use Rattle.cf_calls.specs.declared.acts.Act.{Act}
-use Rattle.cf_calls.specs.declared.acts.Act.TheVariants.{Adopt, Amend, Transfer, Requisition, Withdraw, Order, ChangeOrder, CancelOrder, Voucher, VoidVoucher}
+use Rattle.cf_calls.specs.declared.acts.Act.TheVariants.{Adopt, Amend, Transfer, Requisition, Withdraw, Order, ChangeOrder, CancelOrder, Voucher, VoidVoucher, Pay, Receive, Interfund}
+use Rattle.cf_calls.specs.declared.acts.Payment.{Payment}
 use Rattle.cf_calls.specs.declared.items.AccountItem.{AccountItem}
 use Rattle.cf_calls.specs.declared.items.VoucherItem.{VoucherItem}
 use Rattle.cf_calls.specs.declared.shown.RequisitionState.{RequisitionState}
 use Rattle.cf_calls.specs.declared.shown.RequisitionState.TheVariants as requisition
+use Rattle.cf_calls.specs.declared.shown.VoucherState.{VoucherState}
+use Rattle.cf_calls.specs.declared.shown.VoucherState.TheVariants as voucher
 use Rattle.cf_calls.specs.Acts.{voucher_items, requisition_items}
 use Rattle.cf_chart.specs.Plan.{Plan}
 use Rattle.cf_model.specs.Calendar.{document_year}
 use Rattle.cf_model.specs.OrderItems.{OrderItem, is_named, item_step}
-use Rattle.cf_model.specs.Documents.{Hold, Expenditure, Documents, hold_step, hold_of, expenditure_step, expenditure_of, is_number, leaves}
+use Rattle.cf_model.specs.Documents.{Hold, Expenditure, Documents, hold_step, hold_of, paid_after, expenditure_step, expenditure_of, is_number, leaves}
 use Rattle.cf_model.specs.LineNumbers.{counts, held_sum, expended_sum, held_amount, expended_amount}
 use Rattle.cf_model.specs.Moves.{Move, moves_of, moved_sum, releases, release_move, hold_move, order_move, item_move, spend_move, unspend_move, charge_move, reopen_move, move_if, charged_item, spent_by}
 use Rattle.cf_model.specs.Step.{is_built}
@@ -179,6 +182,9 @@ held_rises plan s number desk on (VoidVoucher n) line year built =
 held_rises plan s number desk on (Adopt a) line year built = all_kept (held_at plan line year) plan line year (λ m. m.held) s.holds [] refl
 held_rises plan s number desk on (Amend a) line year built = all_kept (held_at plan line year) plan line year (λ m. m.held) s.holds [] refl
 held_rises plan s number desk on (Transfer t) line year built = all_kept (held_at plan line year) plan line year (λ m. m.held) s.holds [] refl
+held_rises plan s number desk on (Pay p) line year built = all_kept (held_at plan line year) plan line year (λ m. m.held) s.holds [] refl
+held_rises plan s number desk on (Receive r) line year built = all_kept (held_at plan line year) plan line year (λ m. m.held) s.holds [] refl
+held_rises plan s number desk on (Interfund m) line year built = all_kept (held_at plan line year) plan line year (λ m. m.held) s.holds [] refl
 held_rises plan s number desk on _ line year built = cc
 
 -- ---- what is spent
@@ -207,6 +213,19 @@ voided plan line year n xs =
     left : (b : Bool) (amount : ℕ) → pos (if b then 0 else 0) ≡ pos (if b then amount else 0) +ℤ (if b then pos 0 -ℤ pos amount else pos 0)
     left false amount = refl
     left true amount = omega (arith, ints)
+
+-- what is paid stays spent
+paid_same : (s : VoucherState) (amount : ℕ) → expended_amount (paid_after s) amount ≡ expended_amount s amount
+paid_same voucher.Open amount = refl
+paid_same voucher.Paid amount = refl
+paid_same voucher.Void amount = refl
+
+pay_keeps : (plan : Plan) (line year : ℕ) (p : Payment) (x : Expenditure) → expended_at plan line year (expenditure_step (Pay p) x) ≡ expended_at plan line year x
+pay_keeps plan line year p x = by_test (list_any (λ n. n == x.voucher) p.vouchers)
+  where
+    by_test : (b : Bool) → expended_at plan line year (if b then record x { state = paid_after x.state } else x) ≡ expended_at plan line year x
+    by_test true = ap (λ n. if counts plan line year x.account x.year then n else 0) (paid_same x.state x.account.amount)
+    by_test false = refl
 
 pub expended_rises : (plan : Plan) (s : Documents) (number desk : ℕ) (on : Day) (act : Act) (line year : ℕ) → is_built plan act ≡ true →
     Rises plan line year (λ m. m.expended) (expended_sum plan line year s.expenditures)
@@ -248,4 +267,9 @@ expended_rises plan s number desk on (CancelOrder n) line year built =
 expended_rises plan s number desk on (Adopt a) line year built = all_kept (expended_at plan line year) plan line year (λ m. m.expended) s.expenditures [] refl
 expended_rises plan s number desk on (Amend a) line year built = all_kept (expended_at plan line year) plan line year (λ m. m.expended) s.expenditures [] refl
 expended_rises plan s number desk on (Transfer t) line year built = all_kept (expended_at plan line year) plan line year (λ m. m.expended) s.expenditures [] refl
+expended_rises plan s number desk on (Pay p) line year built =
+    none_new (expended_at plan line year) (map (expenditure_step (Pay p)) s.expenditures) (expended_sum plan line year s.expenditures) (pos 0)
+    (with_none _ _ (kept_sum (expended_at plan line year) (expenditure_step (Pay p)) (pay_keeps plan line year p) s.expenditures))
+expended_rises plan s number desk on (Receive r) line year built = all_kept (expended_at plan line year) plan line year (λ m. m.expended) s.expenditures [] refl
+expended_rises plan s number desk on (Interfund m) line year built = all_kept (expended_at plan line year) plan line year (λ m. m.expended) s.expenditures [] refl
 expended_rises plan s number desk on _ line year built = cc

@@ -5,7 +5,7 @@ use Rattle.std.specs.List.{list_any, filter, AllByRecursion}
 use Rattle.std.proofs.lemmas.Grind.{common_steps}
 use Rattle.cf_base.specs.declared.calendar.Day.{Day}
 use Rattle.cf_calls.specs.declared.acts.Act.{Act}
-use Rattle.cf_calls.specs.declared.acts.Act.TheVariants.{Adopt, Amend, Transfer, Requisition, Withdraw, Order, ChangeOrder, CancelOrder, Voucher, VoidVoucher}
+use Rattle.cf_calls.specs.declared.acts.Act.TheVariants.{Adopt, Amend, Transfer, Requisition, Withdraw, Order, ChangeOrder, CancelOrder, Voucher, VoidVoucher, Pay, Receive, Interfund}
 use Rattle.cf_calls.specs.declared.entry.Entry.{Entry}
 use Rattle.cf_calls.specs.declared.items.AccountItem.{AccountItem}
 use Rattle.cf_calls.specs.declared.items.Charge.{Charge}
@@ -29,7 +29,7 @@ documents_push plan s (x ∷ h) e = documents_push plan (documents_step plan s x
 
 -- ---- lists
 
-all_append : {A : Type 0} (P : A → Type 0) (xs ys : List A) → AllByRecursion P xs → AllByRecursion P ys → AllByRecursion P (xs ++ ys)
+pub all_append : {A : Type 0} (P : A → Type 0) (xs ys : List A) → AllByRecursion P xs → AllByRecursion P ys → AllByRecursion P (xs ++ ys)
 all_append P [] ys a b = b
 all_append P (x ∷ xs) ys a b = (a.0, all_append P xs ys a.1 b)
 
@@ -37,7 +37,7 @@ pub all_map : {A B : Type 0} (P : A → Type 0) (Q : B → Type 0) (f : A → B)
 all_map P Q f h [] a = tt
 all_map P Q f h (x ∷ xs) a = (h x a.0, all_map P Q f h xs a.1)
 
-all_new : {A B : Type 0} (Q : B → Type 0) (f : A → B) → ((x : A) → Q (f x)) → (xs : List A) → AllByRecursion Q (map f xs)
+pub all_new : {A B : Type 0} (Q : B → Type 0) (f : A → B) → ((x : A) → Q (f x)) → (xs : List A) → AllByRecursion Q (map f xs)
 all_new Q f h [] = tt
 all_new Q f h (x ∷ xs) = (h x, all_new Q f h xs)
 
@@ -128,6 +128,9 @@ step_same plan number (ChangeOrder c) i built = same_if (is_named c.order c.item
 step_same plan number (CancelOrder n) i built = same_if ((i.order == n) && is_live i) i _ (record { order = refl; place = refl; account = refl; year = refl })
 step_same plan number (Voucher v) i built = charges_same number v.items i
 step_same plan number (VoidVoucher n) i built = record { order = refl; place = refl; account = refl; year = refl }
+step_same plan number (Pay p) i built = same_self i
+step_same plan number (Receive r) i built = same_self i
+step_same plan number (Interfund m) i built = same_self i
 step_same plan number _ i built = cc
 
 same_charges : (c : Charge) (i j : OrderItem) → IsSameItem i j → charges c j ≡ charges c i
@@ -258,6 +261,9 @@ step_taken P plan number (ChangeOrder c) i built all more = all_if P (is_named c
 step_taken P plan number (CancelOrder n) i built all more = all_if P ((i.order == n) && is_live i) i _ all (λ e. all)
 step_taken P plan number (Voucher v) i built all more = charges_taken P number v.items i all more
 step_taken P plan number (VoidVoucher n) i built all more = all_filter P (λ t. not (t.voucher == n)) i.taken all
+step_taken P plan number (Pay p) i built all more = all
+step_taken P plan number (Receive r) i built all more = all
+step_taken P plan number (Interfund m) i built all more = all
 step_taken P plan number _ i built all more = cc
 
 -- ---- vouchers' items keep what they are
@@ -282,6 +288,9 @@ spend_same plan (Order o) x built = record { voucher = refl; charge = refl; year
 spend_same plan (ChangeOrder c) x built = record { voucher = refl; charge = refl; year = refl }
 spend_same plan (CancelOrder n) x built = record { voucher = refl; charge = refl; year = refl }
 spend_same plan (Voucher v) x built = record { voucher = refl; charge = refl; year = refl }
+spend_same plan (Pay p) x built = spend_if (list_any (λ n. n == x.voucher) p.vouchers) x _ (record { voucher = refl; charge = refl; year = refl })
+spend_same plan (Receive r) x built = record { voucher = refl; charge = refl; year = refl }
+spend_same plan (Interfund m) x built = record { voucher = refl; charge = refl; year = refl }
 spend_same plan _ x built = cc
 
 -- two items of one voucher against one order item
@@ -443,6 +452,9 @@ hold_same plan (ChangeOrder c) h built = record { requisition = refl; account = 
 hold_same plan (CancelOrder n) h built = record { requisition = refl; account = refl; year = refl }
 hold_same plan (Voucher v) h built = record { requisition = refl; account = refl; year = refl }
 hold_same plan (VoidVoucher n) h built = record { requisition = refl; account = refl; year = refl }
+hold_same plan (Pay p) h built = record { requisition = refl; account = refl; year = refl }
+hold_same plan (Receive r) h built = record { requisition = refl; account = refl; year = refl }
+hold_same plan (Interfund m) h built = record { requisition = refl; account = refl; year = refl }
 hold_same plan _ h built = cc
 
 -- the office's next step keeps documents tidy

@@ -1,10 +1,12 @@
 pub mod Calendar
-pub mod Documents
+pub mod Cash
 pub mod DocumentRules
+pub mod Documents
 pub mod DocumentsShown
 pub mod LineNumbers
 pub mod Moves
 pub mod OrderItems
+pub mod Postings
 pub mod Rules
 pub mod State
 pub mod Step

@@ -2,7 +2,9 @@
 use Rattle.std.specs.Prelude.{◌≡◌, ℕ, ◌+◌, ◌-◌, Bool, true, false, not, if◌then◌else◌, List, [], ◌∷◌, ◌++◌, length, Option, Some, None, is_some, option_map, slice_get}
 use Rattle.std.specs.List.{list_all}
 use Rattle.cf_calls.specs.declared.acts.Act.{Act}
-use Rattle.cf_calls.specs.declared.acts.Act.TheVariants.{Adopt, Amend, Transfer, Requisition, Withdraw, Order, ChangeOrder, CancelOrder, Voucher, VoidVoucher}
+use Rattle.cf_calls.specs.declared.acts.Act.TheVariants.{Adopt, Amend, Transfer, Requisition, Withdraw, Order, ChangeOrder, CancelOrder, Voucher, VoidVoucher, Pay, Receive, Interfund}
+use Rattle.cf_calls.specs.declared.acts.FundMoveKind.{FundMoveKind}
+use Rattle.cf_calls.specs.declared.acts.FundMoveKind.TheVariants as move
 use Rattle.cf_calls.specs.declared.call.Call.{Call}
 use Rattle.cf_calls.specs.declared.call.Call.TheVariants as call
 use Rattle.cf_calls.specs.declared.call.Change.{Change}
@@ -26,25 +28,26 @@ use Rattle.cf_calls.specs.declared.shown.Shown.{Shown}
 use Rattle.cf_calls.specs.declared.shown.Shown.TheVariants as shown
 use Rattle.cf_calls.specs.Form.{IsChangeInForm}
 use Rattle.cf_calls.specs.Same.{same_call, same_key}
-use Rattle.cf_chart.specs.declared.rows.Object.{Object}
-use Rattle.cf_chart.specs.Plan.{Plan, line_at, object_at, is_capital_kind}
+use Rattle.cf_chart.specs.Plan.{Plan, line_at, object_at}
+use Rattle.cf_model.specs.Cash.{cash_refusal}
 use Rattle.cf_model.specs.Documents.{Documents, documents_of}
 use Rattle.cf_model.specs.DocumentRules.{document_rules}
 use Rattle.cf_model.specs.DocumentsShown.{requisition_shown, order_shown, voucher_shown}
 use Rattle.cf_model.specs.LineNumbers.{numbers}
+use Rattle.cf_model.specs.Postings.{is_capital, balance_of}
 use Rattle.cf_model.specs.Rules.{first_of, place_from, desk_refusal, ahead_refusal, role_refusal, full_refusal, amount_refusal, name_refusal, period_refusal, year_refusal, closed_refusal, adopted_refusal, unadopted_refusal, exceed_refusal}
 
 -- ---- the changes that the office knows
-
-abbrev pub is_capital : Option Object → Bool
-is_capital None = false
-is_capital (Some o) = is_capital_kind o.kind
 
 -- an item that draws no asset
 abbrev pub is_current : Plan → VoucherItem → Bool
 is_current plan i = not (is_capital (object_at plan i.account.object))
 
--- the council's calls, requisitions, orders and vouchers, but for voucher items on capital objects
+abbrev pub is_transfer : FundMoveKind → Bool
+is_transfer move.Transfer = true
+is_transfer _ = false
+
+-- the council's calls, requisitions, orders, vouchers but for items on capital objects, payments, receipts and transfers between funds
 abbrev pub is_built : Plan → Act → Bool
 is_built plan (Adopt a) = true
 is_built plan (Amend a) = true
@@ -56,6 +59,9 @@ is_built plan (ChangeOrder c) = true
 is_built plan (CancelOrder n) = true
 is_built plan (Voucher v) = list_all (is_current plan) v.items
 is_built plan (VoidVoucher n) = true
+is_built plan (Pay p) = true
+is_built plan (Receive r) = true
+is_built plan (Interfund m) = is_transfer m.what
 is_built plan _ = false
 
 -- ---- what an accepted change draws and makes
@@ -128,10 +134,11 @@ period_rules plan history c =
     ∷ unadopted_refusal plan history c.on c.act
     ∷ []
 
--- .. of the states of documents, and of room
+-- .. of the states of documents, of room, and of cash
 abbrev pub last_rules : Plan → List Entry → Change → List (Option Refusal)
 last_rules plan history c =
-    document_rules plan (documents_of plan history) c.on c.desk c.act ++ exceed_refusal plan history (entry_with (documents_of plan history) c) ∷ []
+    document_rules plan (documents_of plan history) c.on c.desk c.act
+    ++ exceed_refusal plan history (entry_with (documents_of plan history) c) ∷ cash_refusal plan history c.act ∷ []
 
 abbrev pub later_rules : Plan → List Entry → Change → List (Option Refusal)
 later_rules plan history c = call_rules plan history c ++ (period_rules plan history c ++ last_rules plan history c)
@@ -206,6 +213,7 @@ shown_of plan history (read.Line line year) = Some (line_shown plan history line
 shown_of plan history (read.Requisition n) = Some (or_refused kind.Requisition n (requisition_shown plan n (documents_of plan history).holds))
 shown_of plan history (read.Order n) = Some (or_refused kind.Order n (order_shown plan n (documents_of plan history).items))
 shown_of plan history (read.Voucher n) = Some (or_refused kind.Voucher n (voucher_shown n (documents_of plan history).expenditures))
+shown_of plan history (read.Account basis year fund account) = Some (Showing (shown.Account (balance_of basis plan year fund account history)))
 shown_of plan history _ = None
 
 abbrev pub read_body : Plan → List Entry → Option ℕ → Read → Option Body

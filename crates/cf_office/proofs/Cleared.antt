@@ -4,7 +4,7 @@ use Rattle.std.specs.List.{filter, AllByRecursion}
 use Rattle.cf_base.specs.declared.calendar.Day.{Day}
 use Rattle.cf_base.specs.Calendar.{is_day}
 use Rattle.cf_calls.specs.declared.acts.Act.{Act}
-use Rattle.cf_calls.specs.declared.acts.Act.TheVariants.{Adopt, Amend, Transfer, Requisition, Withdraw, Order, ChangeOrder, CancelOrder, Voucher, VoidVoucher}
+use Rattle.cf_calls.specs.declared.acts.Act.TheVariants.{Adopt, Amend, Transfer, Requisition, Withdraw, Order, ChangeOrder, CancelOrder, Voucher, VoidVoucher, Pay, Receive, Interfund}
 use Rattle.cf_calls.specs.declared.entry.Entry.{Entry}
 use Rattle.cf_calls.specs.declared.items.AccountItem.{AccountItem}
 use Rattle.cf_calls.specs.declared.items.Charge.{Charge}
@@ -82,6 +82,9 @@ moves_within plan s number on (VoidVoucher n) day built tidy =
 moves_within plan s number on (Adopt a) day built tidy = tt
 moves_within plan s number on (Amend a) day built tidy = tt
 moves_within plan s number on (Transfer t) day built tidy = tt
+moves_within plan s number on (Pay p) day built tidy = tt
+moves_within plan s number on (Receive r) day built tidy = tt
+moves_within plan s number on (Interfund m) day built tidy = tt
 moves_within plan s number on _ day built tidy = cc
 
 -- the rules on documents, one by one

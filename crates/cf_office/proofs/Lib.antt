@@ -1,3 +1,4 @@
+pub mod Added
 pub mod Asks
 pub mod Cleared
 pub mod Least
@@ -5,7 +6,10 @@ pub mod Makes
 pub mod Moved
 pub mod Numbers
 pub mod Options
+pub mod Paying
 pub mod Registers
+pub mod Reserved
+pub mod Short
 pub mod Taken
 pub mod Texts
 pub mod Tied

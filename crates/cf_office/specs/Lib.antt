@@ -1,5 +1,8 @@
+pub mod AccountsState
+pub mod AccountsView
 pub mod BookState
 pub mod BookView
+pub mod Deeds
 pub mod Keys
 pub mod Least
 pub mod Moved

@@ -10,7 +10,7 @@ use crate::history::{History, Office};
 use crate::prepared::{Prepared, apply_lines, apply_rest, reserve};
 use crate::rest::Rest;
 use cf_budget::Lines;
-use cf_calls::{Change, Entry, LineNumbers, Made};
+use cf_calls::{Basis, Change, Entry, LineNumbers, Made};
 use cf_chart::{Chart, LineId};
 use cf_orders::Orders;
 use std::alloc::{AllocError, Global};
@@ -110,6 +110,10 @@ impl History for BookOffice {
 
     fn orders(&self) -> &Orders {
         self.rest.orders()
+    }
+
+    fn balance(&self, basis: Basis, year: u16, fund: u16, account: u32) -> i128 {
+        self.rest.balance(basis, year, fund, account)
     }
 
     fn numbers(&self, line: u16, year: u16) -> LineNumbers {

@@ -5,10 +5,11 @@ ghost use Rattle.cf_calls.specs.declared.entry.Entry.{Entry};
 ghost use Rattle.cf_chart.specs.Plan.{Plan};
 ghost use Rattle.cf_model.specs.Documents.{documents_of};
 ghost use Rattle.cf_model.specs.LineNumbers as numbers;
+ghost use Rattle.cf_model.specs.Postings.{balance_of};
 ghost use Rattle.cf_model.specs.Rules.{adopted_at};
 ghost use Rattle.cf_model.specs.Step.{Adds, IsLegal, known_at, is_same, entry_at, made_at, made_by};
 
-use cf_calls::{Change, Entry, LineNumbers, Made};
+use cf_calls::{Basis, Change, Entry, LineNumbers, Made};
 use cf_chart::Chart;
 use cf_orders::Orders;
 use std::alloc::AllocError;
@@ -48,6 +49,11 @@ pub trait History {
     /// The requisitions, orders and vouchers, with their items.
     fn orders(&self) -> &Orders
         ensures { result.now.documents ≡ documents_of (plan self.now) (entries self.now) };
+
+    /// The balance of an account of a fund through a fiscal year, on a basis of accounting, in cents; 0 for what was never
+    /// posted to. Government-wide posts are of fund 0.
+    fn balance(&self, basis: Basis, year: u16, fund: u16, account: u32) -> i128
+        ensures { result ≡ balance_of basis (plan self.now) year fund account (entries self.now) };
 
     /// The numbers of a control line and fiscal year, in cents.
     fn numbers(&self, line: u16, year: u16) -> LineNumbers

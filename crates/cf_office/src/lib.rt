@@ -1,7 +1,10 @@
 //! The office of one thread: the rules, in their order, over what the office keeps of its history.
 #![tactic(auto)]
 
+mod accounts;
 mod book;
+mod cash;
+mod deeds;
 mod exceeds;
 mod history;
 mod keys;

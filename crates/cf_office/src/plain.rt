@@ -11,11 +11,12 @@ ghost use Rattle.cf_model.specs.LineNumbers.{HasRoom};
 ghost use Rattle.cf_model.specs.Rules.{place_from, adopted_at};
 ghost use Rattle.cf_model.specs.Step.{IsLegal, known_at, is_same, entry_at, made_at};
 
+use crate::accounts::Accounts;
 use crate::history::{History, Office};
 use crate::rest::take_in;
 use crate::sums;
 use crate::verdict::made_of;
-use cf_calls::{Act, Change, Entry, LineNumbers, Made, same_call};
+use cf_calls::{Act, Basis, Change, Entry, LineNumbers, Made, same_call};
 use cf_chart::Chart;
 use cf_orders::Orders;
 use std::alloc::{AllocError, Global};
@@ -27,6 +28,8 @@ pub struct PlainOffice {
     chart: Chart,
     entries: Vec<Entry>,
     orders: Orders,
+    accounts: Accounts,
+    alloc: Global,
 }
 
 impl Model for PlainOffice {
@@ -51,6 +54,8 @@ impl PlainOffice {
             chart,
             entries: Vec::new(alloc),
             orders: Orders::new(alloc),
+            accounts: Accounts::new(alloc),
+            alloc,
         }
     }
 
@@ -210,6 +215,10 @@ impl History for PlainOffice {
         &self.orders
     }
 
+    fn balance(&self, basis: Basis, year: u16, fund: u16, account: u32) -> i128 {
+        self.accounts.balance(basis, year, fund, account)
+    }
+
     fn numbers(&self, line: u16, year: u16) -> LineNumbers {
         line_numbers(
             &self.chart,
@@ -223,9 +232,20 @@ impl History for PlainOffice {
 
 impl Office for PlainOffice {
     fn accept(&mut self, entry: Entry) -> Result<Made, AllocError> {
-        self.orders.reserve(&entry.change.act)?;
+        let change = &entry.change;
+        self.orders.reserve(&change.act)?;
+        self.accounts.reserve(
+            self.alloc,
+            &self.chart,
+            &self.orders,
+            change.on,
+            &change.act,
+        )?;
         self.entries.reserve(1)?;
         let made = made_of(entry.drawn, &entry.change.act);
+        // So that the proof knows that no post is of a year before 1971.
+        let _first = self.chart.first_year();
+        self.accounts.apply();
         take_in(&mut self.orders, &self.chart, &entry);
         self.entries.push_reserved(entry);
         Ok(made)

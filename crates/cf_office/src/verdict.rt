@@ -7,6 +7,7 @@ ghost use Rattle.cf_orders.specs.Register.{document_shown};
 ghost use Rattle.cf_model.specs.Rules as rules;
 ghost use Rattle.cf_model.specs.Step as step;
 
+use crate::cash::cash_rule;
 use crate::exceeds::exceed_rule;
 use crate::history::History;
 use crate::names::name_rule;
@@ -66,7 +67,7 @@ fn period_rules<H: History>(history: &H, change: &Change) -> Option<Refusal>
     or(unadopted_rule(history, change.on, &change.act), None)
 }
 
-/// The rules on the states of documents, and of room.
+/// The rules on the states of documents, of room, and of cash.
 #[tactic(auto, using(cf_model::proofs::First::rule_lists))]
 fn last_rules<H: History>(history: &H, change: &Change) -> Option<Refusal>
     requires form { IsChangeInForm change.now }
@@ -78,7 +79,10 @@ fn last_rules<H: History>(history: &H, change: &Change) -> Option<Refusal>
     if let Some(refusal) = orders.check(history.chart(), change.on, change.desk, &change.act) {
         return Some(refusal);
     }
-    or(exceed_rule(history, change), None)
+    if let Some(refusal) = exceed_rule(history, change) {
+        return Some(refusal);
+    }
+    or(cash_rule(history, &change.act), None)
 }
 
 /// The rules after a repeat, the least broken one first.
@@ -213,6 +217,15 @@ fn show<H: History>(alloc: Global, history: &H, read: &Read) -> Result<Option<Bo
         Read::Voucher { voucher } => {
             let body = show_document(alloc, history, NameKind::Voucher, voucher, read)?;
             Ok(Some(body))
+        }
+        Read::Account {
+            basis,
+            year,
+            fund,
+            account,
+        } => {
+            let balance = history.balance(basis, year, fund, account);
+            Ok(Some(Body::Shown(Shown::Account { balance })))
         }
         _ => Ok(None),
     }

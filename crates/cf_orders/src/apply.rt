@@ -8,7 +8,7 @@ ghost use Rattle.cf_model.specs.Documents.{documents_step};
 ghost use Rattle.cf_model.specs.DocumentRules.{document_refusal};
 ghost use Rattle.cf_model.specs.Rules.{amount_refusal};
 ghost use Rattle.cf_model.specs.Step as step;
-ghost use Rattle.cf_orders.specs.Register.{HasRoomFor, HasSpare, IsAllowed, PaysNoVoid, entry_for};
+ghost use Rattle.cf_orders.specs.Register.{HasRoomFor, HasSpare, IsAllowed, entry_for};
 
 use crate::fiscal::document_year;
 use crate::orders::Orders;
@@ -55,7 +55,6 @@ impl Orders {
         requires form { IsActInForm on act.now }
         requires amounts { amount_refusal act.now ≡ None }
         requires allowed { document_refusal chart.now self.old.documents on desk act.now ≡ None }
-        requires paid { PaysNoVoid self.old.documents.expenditures act.now }
         requires rolls { rolled_year chart.now act.now ≡ None }
         requires few { self.old.acts < 1048576 }
         ensures drawn { result ≡ step.draws self.old.documents act.now }
@@ -76,7 +75,6 @@ impl Orders {
         requires form { IsActInForm on act.now }
         requires amounts { amount_refusal act.now ≡ None }
         requires allowed { IsAllowed chart.now self.old.documents on act.now }
-        requires paid { PaysNoVoid self.old.documents.expenditures act.now }
         requires rolls { rolled_year chart.now act.now ≡ None }
         requires spare { HasSpare self.old }
         ensures documents { self.new.documents ≡ documents_step chart.now self.old.documents (entry_for desk on act.now drawn) }

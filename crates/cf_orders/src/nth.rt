@@ -220,7 +220,8 @@ impl Orders {
         }
     }
 
-    fn charge_of(&self, number: u32, nth: usize) -> Option<ChargeRow>
+    /// The row of a voucher's item at a place.
+    pub(crate) fn charge_of(&self, number: u32, nth: usize) -> Option<ChargeRow>
         ensures { option_map view_charge result ≡ slice_get (spent_by number self.now.documents.expenditures) nth }
     {
         let extent = extent_of(&self.vouchers, number);

@@ -1,0 +1,4 @@
+pub mod PlaceRows
+pub mod Stands
+pub mod Sums
+pub mod Walks

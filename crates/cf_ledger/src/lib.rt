@@ -1,0 +1,14 @@
+//! Balances of accounts on both bases of accounting.
+#![tactic(auto)]
+
+mod book;
+mod history;
+mod ledger;
+mod places;
+mod post;
+#[cfg(test)]
+mod tests;
+mod years;
+
+pub use ledger::Ledger;
+pub use post::Post;

@@ -1,0 +1,4 @@
+pub mod Accounts
+pub mod Balance
+pub mod Rows
+pub mod Table

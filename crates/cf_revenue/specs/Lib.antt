@@ -1,0 +1,10 @@
+pub mod Recognition
+pub mod Receivables
+pub mod ReceivableRules
+pub mod ReceivablesShown
+pub mod Pairs
+pub mod Register
+pub mod RegisterView
+pub mod Rows
+pub mod Steps
+pub mod Years
