@@ -9,7 +9,7 @@ use jiff::civil::Date;
 use jiff_core::civil::Date as CivilDate;
 
 /// A civil date from 1970-01-01 to 2199-12-31.
-#[derive(Clone, Copy, Debug, PartialEq, Eq)]
+#[derive(Clone, Copy, PartialEq, Eq)]
 pub struct Day {
     pub year: u16,
     /// From 1 for January.
@@ -19,7 +19,7 @@ pub struct Day {
 }
 
 /// A month of a calendar year.
-#[derive(Clone, Copy, Debug, PartialEq, Eq)]
+#[derive(Clone, Copy, PartialEq, Eq)]
 pub struct Month {
     pub year: u16,
     /// From 1 for January.

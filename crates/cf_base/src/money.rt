@@ -7,7 +7,7 @@ ghost use Rattle.cf_base.specs.Money.{is_amount};
 pub const MOST_CENTS: u64 = 10_000_000_000_000;
 
 /// An amount of one call: from 1 to 10,000,000,000,000 cents (own rule).
-#[derive(Clone, Copy, Debug, PartialEq, Eq)]
+#[derive(Clone, Copy)]
 pub struct Cents {
     pub cents: u64,
 }

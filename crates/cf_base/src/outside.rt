@@ -7,7 +7,7 @@ ghost use Rattle.cf_base.specs.Causes.{HasCause};
 ghost use Rattle.cf_base.specs.Sinks.{WritesSome};
 
 /// A call of the outside failed. It comes only where the object's count of faults rose in the call.
-#[derive(Clone, Copy, Debug, PartialEq, Eq)]
+#[derive(Clone, Copy)]
 pub struct Failed;
 
 /// Where bytes come from.

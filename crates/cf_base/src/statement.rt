@@ -2,7 +2,7 @@
 
 /// Which statement a report is: the fund statements, the government-wide ones, and what joins the two
 /// (GASB Statement 34).
-#[derive(Clone, Copy, Debug, PartialEq, Eq)]
+#[derive(Clone, Copy)]
 pub enum Kind {
     Balance,
     Operating,

@@ -14,7 +14,7 @@ use cf_chart::LineId;
 use std::alloc::AllocError;
 
 /// A change of the numbers of a line and fiscal year.
-#[derive(Clone, Copy, Debug, PartialEq, Eq)]
+#[derive(Clone, Copy)]
 pub struct LineChange {
     pub line: LineId,
     pub year: u16,

@@ -11,7 +11,7 @@ use crate::items::{
 use cf_base::Month;
 
 /// The budget of a fund and fiscal year (GASB Codification 1700: the annual budget is adopted).
-#[derive(Debug, Drop)]
+#[derive(Drop)]
 pub struct Adoption {
     pub fund: u16,
     pub year: u16,
@@ -21,7 +21,7 @@ pub struct Adoption {
 }
 
 /// A change of an appropriation.
-#[derive(Clone, Copy, Debug, PartialEq, Eq)]
+#[derive(Clone, Copy, PartialEq, Eq)]
 pub struct Amendment {
     pub fund: u16,
     pub year: u16,
@@ -31,7 +31,7 @@ pub struct Amendment {
 }
 
 /// A transfer of an appropriation between two lines of a fund.
-#[derive(Clone, Copy, Debug, PartialEq, Eq)]
+#[derive(Clone, Copy, PartialEq, Eq)]
 pub struct LineTransfer {
     pub fund: u16,
     pub year: u16,
@@ -41,13 +41,13 @@ pub struct LineTransfer {
 }
 
 /// A purchase requisition, which holds its amounts.
-#[derive(Debug, Drop)]
+#[derive(Drop)]
 pub struct Request {
     pub items: AccountItems,
 }
 
 /// A purchase order, which encumbers its amounts (GFOA Blue Book).
-#[derive(Debug, Drop)]
+#[derive(Drop)]
 pub struct Purchase {
     pub vendor: u32,
     /// The requisition that the order takes up.
@@ -56,7 +56,7 @@ pub struct Purchase {
 }
 
 /// A change of an order item's open amount.
-#[derive(Clone, Copy, Debug, PartialEq, Eq)]
+#[derive(Clone, Copy, PartialEq, Eq)]
 pub struct OrderChange {
     pub order: u32,
     /// Counted from 1.
@@ -69,7 +69,7 @@ pub struct OrderChange {
 }
 
 /// A vendor's claim, which is an expenditure.
-#[derive(Debug, Drop)]
+#[derive(Drop)]
 pub struct Invoice {
     pub vendor: u32,
     /// Whether it is an expenditure of the fiscal year before that of its day.
@@ -78,13 +78,13 @@ pub struct Invoice {
 }
 
 /// The payment of vouchers.
-#[derive(Debug, Drop)]
+#[derive(Drop)]
 pub struct Payment {
     pub vouchers: Numbers,
 }
 
 /// A bill of a levy or a charge, which is a receivable.
-#[derive(Clone, Copy, Debug, PartialEq, Eq)]
+#[derive(Clone, Copy, PartialEq, Eq)]
 pub struct Levy {
     pub source: u16,
     pub levy_year: u16,
@@ -93,14 +93,14 @@ pub struct Levy {
 }
 
 /// An amount of a bill, collected or written off.
-#[derive(Clone, Copy, Debug, PartialEq, Eq)]
+#[derive(Clone, Copy, PartialEq, Eq)]
 pub struct BillAmount {
     pub bill: u32,
     pub amount: u64,
 }
 
 /// A donated capital asset.
-#[derive(Clone, Copy, Debug, PartialEq, Eq)]
+#[derive(Clone, Copy, PartialEq, Eq)]
 pub struct Donation {
     pub dept: u16,
     pub object: u16,
@@ -108,7 +108,7 @@ pub struct Donation {
 }
 
 /// The disposal of a capital asset. The proceeds, which may be 0, go to a fund's cash.
-#[derive(Clone, Copy, Debug, PartialEq, Eq)]
+#[derive(Clone, Copy, PartialEq, Eq)]
 pub struct Disposal {
     pub asset: u32,
     pub fund: u16,
@@ -116,14 +116,14 @@ pub struct Disposal {
 }
 
 /// What is done with a capital asset.
-#[derive(Clone, Copy, Debug, PartialEq, Eq)]
+#[derive(Clone, Copy, PartialEq, Eq)]
 pub enum AssetAct {
     Donate(Donation),
     Dispose(Disposal),
 }
 
 /// The issue of a bond.
-#[derive(Debug, Drop)]
+#[derive(Drop)]
 pub struct BondIssue {
     pub fund: u16,
     pub amount: u64,
@@ -136,7 +136,7 @@ pub struct BondIssue {
 }
 
 /// The payment of a bond's next due payment. The last two are objects of expenditure.
-#[derive(Clone, Copy, Debug, PartialEq, Eq)]
+#[derive(Clone, Copy, PartialEq, Eq)]
 pub struct DebtPayment {
     pub bond: u32,
     pub fund: u16,
@@ -146,7 +146,7 @@ pub struct DebtPayment {
 }
 
 /// An amount of leave of a fund's department.
-#[derive(Clone, Copy, Debug, PartialEq, Eq)]
+#[derive(Clone, Copy, PartialEq, Eq)]
 pub struct LeaveAmount {
     pub fund: u16,
     pub dept: u16,
@@ -154,7 +154,7 @@ pub struct LeaveAmount {
 }
 
 /// Leave that is paid out, as an expenditure on an object.
-#[derive(Clone, Copy, Debug, PartialEq, Eq)]
+#[derive(Clone, Copy, PartialEq, Eq)]
 pub struct LeaveMaturity {
     pub fund: u16,
     pub dept: u16,
@@ -163,7 +163,7 @@ pub struct LeaveMaturity {
 }
 
 /// What is done with compensated absences.
-#[derive(Clone, Copy, Debug, PartialEq, Eq)]
+#[derive(Clone, Copy, PartialEq, Eq)]
 pub enum LeaveAct {
     Earn(LeaveAmount),
     Use(LeaveAmount),
@@ -171,7 +171,7 @@ pub enum LeaveAct {
 }
 
 /// How cash moves between two funds.
-#[derive(Clone, Copy, Debug, PartialEq, Eq)]
+#[derive(Clone, Copy, PartialEq, Eq)]
 pub enum FundMoveKind {
     Transfer,
     Loan,
@@ -179,7 +179,7 @@ pub enum FundMoveKind {
 }
 
 /// A movement of cash between two funds.
-#[derive(Clone, Copy, Debug, PartialEq, Eq)]
+#[derive(Clone, Copy, PartialEq, Eq)]
 pub struct FundMove {
     pub what: FundMoveKind,
     pub from: u16,
@@ -188,14 +188,14 @@ pub struct FundMove {
 }
 
 /// What is closed.
-#[derive(Clone, Copy, Debug, PartialEq, Eq)]
+#[derive(Clone, Copy, PartialEq, Eq)]
 pub enum Period {
     Month(Month),
     Year(u16),
 }
 
 /// What a changing call does. Amounts are in cents.
-#[derive(Debug, Drop)]
+#[derive(Drop)]
 pub enum Act {
     Adopt(Adoption),
     Amend(Amendment),

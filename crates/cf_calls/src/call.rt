@@ -6,7 +6,7 @@ use crate::text::Key;
 use cf_base::Day;
 
 /// A call that would change the history.
-#[derive(Debug, Drop)]
+#[derive(Drop)]
 pub struct Change {
     pub desk: u16,
     pub key: Key,
@@ -18,7 +18,7 @@ pub struct Change {
 }
 
 /// A call that only looks.
-#[derive(Clone, Copy, Debug, PartialEq, Eq)]
+#[derive(Clone, Copy)]
 pub struct Look {
     /// The least length of the history that the caller has seen.
     pub after: Option<u64>,
@@ -26,7 +26,7 @@ pub struct Look {
 }
 
 /// A call of a desk.
-#[derive(Debug, Drop)]
+#[derive(Drop)]
 pub enum Call {
     Change(Change),
     Look(Look),

@@ -7,7 +7,7 @@ use crate::call::Change;
 use std::alloc::{AllocError, Global};
 
 /// The numbers that a change draws. A change that draws nothing has 0 in both.
-#[derive(Clone, Copy, Debug, PartialEq, Eq)]
+#[derive(Clone, Copy)]
 pub struct Drawn {
     /// The number of its own kind, from 1; for a debt payment that of the payment.
     pub number: u32,
@@ -16,7 +16,7 @@ pub struct Drawn {
 }
 
 /// An accepted change with its drawn numbers. The change has no `after`.
-#[derive(Debug, Drop)]
+#[derive(Drop)]
 pub struct Entry {
     pub change: Change,
     pub drawn: Drawn,

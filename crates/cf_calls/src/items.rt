@@ -3,7 +3,7 @@
 use crate::list::List;
 
 /// An amount for a control line.
-#[derive(Clone, Copy, Debug, PartialEq, Eq)]
+#[derive(Clone, Copy, PartialEq, Eq)]
 pub struct LineAmount {
     /// The number of the line: its place in the chart's list, from 0.
     pub line: u16,
@@ -12,7 +12,7 @@ pub struct LineAmount {
 }
 
 /// An amount for a revenue source.
-#[derive(Clone, Copy, Debug, PartialEq, Eq)]
+#[derive(Clone, Copy, PartialEq, Eq)]
 pub struct SourceAmount {
     pub source: u16,
     /// In cents.
@@ -20,7 +20,7 @@ pub struct SourceAmount {
 }
 
 /// An amount on an account: a fund, a department and an object of expenditure.
-#[derive(Clone, Copy, Debug, PartialEq, Eq)]
+#[derive(Clone, Copy, PartialEq, Eq)]
 pub struct AccountItem {
     pub fund: u16,
     pub dept: u16,
@@ -30,7 +30,7 @@ pub struct AccountItem {
 }
 
 /// How much of an order item's open amount a voucher item liquidates.
-#[derive(Clone, Copy, Debug, PartialEq, Eq)]
+#[derive(Clone, Copy, PartialEq, Eq)]
 pub enum Liquidation {
     /// The lesser of the open amount and the voucher item's own amount.
     Lesser,
@@ -41,7 +41,7 @@ pub enum Liquidation {
 }
 
 /// What a voucher item is charged against.
-#[derive(Clone, Copy, Debug, PartialEq, Eq)]
+#[derive(Clone, Copy, PartialEq, Eq)]
 pub enum Charge {
     /// The appropriation itself.
     Direct,
@@ -54,7 +54,7 @@ pub enum Charge {
 }
 
 /// An item of a voucher.
-#[derive(Clone, Copy, Debug, PartialEq, Eq)]
+#[derive(Clone, Copy, PartialEq, Eq)]
 pub struct VoucherItem {
     pub account: AccountItem,
     pub charge: Charge,

@@ -1,7 +1,7 @@
 //! The kinds of thing that a refusal names.
 
 /// What a call names.
-#[derive(Clone, Copy, Debug, PartialEq, Eq)]
+#[derive(Clone, Copy)]
 pub enum NameKind {
     Fund,
     Dept,
@@ -17,7 +17,7 @@ pub enum NameKind {
 }
 
 /// A document, or a part of one, that has a state.
-#[derive(Clone, Copy, Debug, PartialEq, Eq)]
+#[derive(Clone, Copy)]
 pub enum DocumentKind {
     Requisition,
     Order,

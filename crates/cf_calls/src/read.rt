@@ -3,7 +3,7 @@
 use cf_base::Kind;
 
 /// A basis of accounting (GASB Statement 34).
-#[derive(Clone, Copy, Debug, PartialEq, Eq)]
+#[derive(Clone, Copy)]
 pub enum Basis {
     /// Fund statements: current financial resources, modified accrual.
     Fund,
@@ -12,7 +12,7 @@ pub enum Basis {
 }
 
 /// What a look reads: one variant for each of the 11 looks.
-#[derive(Clone, Copy, Debug, PartialEq, Eq)]
+#[derive(Clone, Copy)]
 pub enum Read {
     Line {
         line: u16,

@@ -8,7 +8,7 @@ use crate::role::Role;
 use cf_base::{Day, Month};
 
 /// The state that a document is in, where another is needed.
-#[derive(Clone, Copy, Debug, PartialEq, Eq)]
+#[derive(Clone, Copy)]
 pub enum DocumentState {
     Withdrawn,
     Ordered,
@@ -23,7 +23,7 @@ pub enum DocumentState {
 }
 
 /// Why an asset isn't in the state that is needed.
-#[derive(Clone, Copy, Debug, PartialEq, Eq)]
+#[derive(Clone, Copy)]
 pub enum AssetFault {
     Void,
     Disposed,
@@ -32,7 +32,7 @@ pub enum AssetFault {
 }
 
 /// A refusal: which rule is broken, with the values that it states. Amounts are in cents.
-#[derive(Clone, Copy, Debug, PartialEq, Eq)]
+#[derive(Clone, Copy)]
 pub enum Refusal {
     /// The chart has no such desk.
     DeskUnknown {

@@ -8,7 +8,7 @@ use crate::text::Label;
 use cf_base::{Day, Month};
 
 /// What an accepted change made.
-#[derive(Clone, Copy, Debug, PartialEq, Eq)]
+#[derive(Clone, Copy)]
 pub enum Made {
     Nothing,
     Requisition {
@@ -46,7 +46,7 @@ pub enum Made {
 pub type Amounts = List<i128>;
 
 /// A row of a statement.
-#[derive(Debug, Drop)]
+#[derive(Drop)]
 pub struct Row {
     pub label: Label,
     /// In cents.
@@ -54,7 +54,7 @@ pub struct Row {
 }
 
 /// What a reply says.
-#[derive(Debug, Drop)]
+#[derive(Drop)]
 pub enum Body {
     /// The change was accepted now, or before as the entry at `was`.
     Done { made: Made, was: Option<u64> },
@@ -63,14 +63,14 @@ pub enum Body {
 }
 
 /// A reply: what it says, and the length of the history after the call.
-#[derive(Debug, Drop)]
+#[derive(Drop)]
 pub struct Reply {
     pub at: u64,
     pub body: Body,
 }
 
 /// What is given for a call: a reply, or why there is none.
-#[derive(Debug, Drop)]
+#[derive(Drop)]
 pub enum Posted {
     Reply(Reply),
     /// The disk failed while the call was handled.
@@ -80,7 +80,7 @@ pub enum Posted {
 }
 
 /// What the rules say of a change.
-#[derive(Clone, Copy, Debug, PartialEq, Eq)]
+#[derive(Clone, Copy)]
 pub enum Verdict {
     /// The change is accepted, and draws these numbers.
     Accept(Drawn),
@@ -92,7 +92,7 @@ pub enum Verdict {
 }
 
 /// What the rules of the registers need of a call's moment.
-#[derive(Clone, Copy, Debug, PartialEq, Eq)]
+#[derive(Clone, Copy)]
 pub struct Now {
     pub on: Day,
     pub desk: u16,

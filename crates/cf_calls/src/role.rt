@@ -8,7 +8,7 @@ ghost use Rattle.cf_calls.specs.Roles.{is_role};
 use crate::acts::Act;
 
 /// What a desk may do.
-#[derive(Clone, Copy, Debug, PartialEq, Eq)]
+#[derive(Clone, Copy)]
 pub enum Role {
     Council,
     Dept,

@@ -7,7 +7,7 @@ use crate::text::Label;
 use cf_base::Day;
 
 /// The numbers of a control line and fiscal year, in cents (GASB Codification 1700: budgetary comparison).
-#[derive(Clone, Copy, Debug, PartialEq, Eq)]
+#[derive(Clone, Copy)]
 pub struct LineNumbers {
     /// The adopted amount.
     pub original: i128,
@@ -24,7 +24,7 @@ pub struct LineNumbers {
 }
 
 /// The state of a requisition.
-#[derive(Clone, Copy, Debug, PartialEq, Eq)]
+#[derive(Clone, Copy)]
 pub enum RequisitionState {
     Open,
     Withdrawn,
@@ -33,7 +33,7 @@ pub enum RequisitionState {
 }
 
 /// The state of an order item.
-#[derive(Clone, Copy, Debug, PartialEq, Eq)]
+#[derive(Clone, Copy)]
 pub enum ItemState {
     Live,
     Finished,
@@ -42,7 +42,7 @@ pub enum ItemState {
 }
 
 /// The state of a voucher.
-#[derive(Clone, Copy, Debug, PartialEq, Eq)]
+#[derive(Clone, Copy)]
 pub enum VoucherState {
     Open,
     Paid,
@@ -50,7 +50,7 @@ pub enum VoucherState {
 }
 
 /// The state of a capital asset.
-#[derive(Clone, Copy, Debug, PartialEq, Eq)]
+#[derive(Clone, Copy)]
 pub enum AssetState {
     Held,
     Disposed,
@@ -58,7 +58,7 @@ pub enum AssetState {
 }
 
 /// An order item as a look shows it.
-#[derive(Clone, Copy, Debug, PartialEq, Eq)]
+#[derive(Clone, Copy)]
 pub struct OrderItemShown {
     pub line: u16,
     pub open_cents: u64,
@@ -68,7 +68,7 @@ pub struct OrderItemShown {
 
 /// The items that join fund balances and net position (GASB Statement 34: the summary reconciliation),
 /// in cents, each signed as it is added.
-#[derive(Clone, Copy, Debug, PartialEq, Eq)]
+#[derive(Clone, Copy)]
 pub struct ReconShown {
     pub fund_balances: i128,
     pub capital_assets: i128,
@@ -80,7 +80,7 @@ pub struct ReconShown {
 }
 
 /// The answer of a look: one variant for each look. Amounts are in cents.
-#[derive(Debug, Drop)]
+#[derive(Drop)]
 pub enum Shown {
     Line(LineNumbers),
     Requisition {

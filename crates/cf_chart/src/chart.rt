@@ -14,7 +14,7 @@ use std::collections::BTreeMap;
 use std::marker::Model;
 
 /// A chart. Each table is by rising id, and the control lines by number.
-#[derive(Debug, Drop)]
+#[derive(Drop)]
 pub struct Chart {
     pub(crate) city: Label,
     pub(crate) first_year: u16,

@@ -6,7 +6,7 @@ ghost use Rattle.cf_codec.specs.declared.fault.Refused.TheVariants.{NoMemory};
 use std::alloc::{AllocError, AllocFailed};
 
 /// What is wrong with the bytes.
-#[derive(Clone, Copy, Debug, PartialEq, Eq)]
+#[derive(Clone, Copy)]
 pub struct CodecFault {
     /// The place of the first byte of the first field that is cut short, out of its range, or against a
     /// rule with the fields before it. A rule on a whole list is broken at the list's count.
@@ -14,7 +14,7 @@ pub struct CodecFault {
 }
 
 /// Why no entry was read.
-#[derive(Clone, Copy, Debug, PartialEq, Eq)]
+#[derive(Clone, Copy)]
 pub enum CodecRefused {
     /// The bytes begin with no payload.
     Fault(CodecFault),
@@ -23,11 +23,11 @@ pub enum CodecRefused {
 }
 
 /// There was no memory for the payload.
-#[derive(Clone, Copy, Debug, PartialEq, Eq)]
+#[derive(Clone, Copy)]
 pub struct NoMemory;
 
 /// Why a part of an entry was not read.
-#[derive(Clone, Copy, Debug, PartialEq, Eq)]
+#[derive(Clone, Copy)]
 pub enum Refused {
     /// How many bytes are left from the first faulty field on.
     Faulty(usize),

@@ -7,7 +7,7 @@ use cf_calls::Act;
 use cf_calls::acts::FundMoveKind;
 
 /// Which call an entry is of.
-#[derive(Clone, Copy, Debug, PartialEq, Eq)]
+#[derive(Clone, Copy)]
 pub enum ActKind {
     Adopt,
     Amend,

@@ -11,7 +11,7 @@ use cf_base::Failed;
 use std::alloc::{AllocError, Global};
 
 /// A call that a disk in memory was given.
-#[derive(Debug, Drop)]
+#[derive(Drop)]
 pub enum DiskCall {
     Len,
     Read { at: u64, len: u64 },

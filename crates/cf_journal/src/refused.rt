@@ -8,11 +8,11 @@ use cf_base::Failed;
 use std::alloc::{AllocError, AllocFailed};
 
 /// A call of the disk failed. It comes only where the disk's count of faults rose in the call.
-#[derive(Clone, Copy, Debug, PartialEq, Eq)]
+#[derive(Clone, Copy)]
 pub struct Disk_;
 
 /// Why no journal was founded.
-#[derive(Clone, Copy, Debug, PartialEq, Eq)]
+#[derive(Clone, Copy)]
 pub enum FoundRefused {
     /// A call of the disk failed.
     Disk,
@@ -23,7 +23,7 @@ pub enum FoundRefused {
 }
 
 /// Why no journal was opened.
-#[derive(Clone, Copy, Debug, PartialEq, Eq)]
+#[derive(Clone, Copy)]
 pub enum OpenRefused {
     /// A call of the disk failed.
     Disk,

@@ -24,7 +24,7 @@ use cf_chart::Chart;
 use cf_orders::{LineMove, Orders};
 
 /// A line and fiscal year of which too much is asked, with its refusal.
-#[derive(Clone, Copy, Debug, PartialEq, Eq)]
+#[derive(Clone, Copy)]
 pub struct Excess {
     pub line: u16,
     pub year: u16,

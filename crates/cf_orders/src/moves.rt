@@ -23,7 +23,7 @@ use cf_calls::items::{AccountItem, VoucherItem};
 use cf_calls::shown::RequisitionState;
 
 /// What an item of a document moves of its account's line in a fiscal year, in cents.
-#[derive(Clone, Copy, Debug, PartialEq, Eq)]
+#[derive(Clone, Copy)]
 pub struct LineMove {
     pub account: AccountItem,
     pub year: u16,

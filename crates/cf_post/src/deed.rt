@@ -5,7 +5,7 @@ ghost use Rattle.std.specs.Prelude.{◌≡◌};
 use crate::rows::{FundYear, at};
 
 /// What an item of a voucher is spent on.
-#[derive(Clone, Copy, Debug, PartialEq, Eq)]
+#[derive(Clone, Copy)]
 pub enum Spent {
     /// Current spending of a function.
     Current(u16),
@@ -14,7 +14,7 @@ pub enum Spent {
 }
 
 /// An item of a voucher, with the voucher's year.
-#[derive(Clone, Copy, Debug, PartialEq, Eq)]
+#[derive(Clone, Copy)]
 pub struct SpentItem {
     pub voucher_year: u16,
     pub fund: u16,
@@ -31,7 +31,7 @@ impl SpentItem {
 }
 
 /// An amount of a fund.
-#[derive(Clone, Copy, Debug, PartialEq, Eq)]
+#[derive(Clone, Copy)]
 pub struct FundAmount {
     pub year: u16,
     pub fund: u16,
@@ -47,7 +47,7 @@ impl FundAmount {
 }
 
 /// An amount of a function.
-#[derive(Clone, Copy, Debug, PartialEq, Eq)]
+#[derive(Clone, Copy)]
 pub struct FunctionAmount {
     pub year: u16,
     pub function: u16,
@@ -55,7 +55,7 @@ pub struct FunctionAmount {
 }
 
 /// A bill of a tax or a charge.
-#[derive(Clone, Copy, Debug, PartialEq, Eq)]
+#[derive(Clone, Copy)]
 pub struct Levy {
     pub levy_year: u16,
     pub fund: u16,
@@ -72,7 +72,7 @@ impl Levy {
 }
 
 /// An amount of a source of revenue.
-#[derive(Clone, Copy, Debug, PartialEq, Eq)]
+#[derive(Clone, Copy)]
 pub struct SourceAmount {
     pub year: u16,
     pub fund: u16,
@@ -89,7 +89,7 @@ impl SourceAmount {
 }
 
 /// Cash for a bill, with the year that its revenue is recognised in.
-#[derive(Clone, Copy, Debug, PartialEq, Eq)]
+#[derive(Clone, Copy)]
 pub struct Collection {
     pub year: u16,
     pub recognised_year: u16,
@@ -99,7 +99,7 @@ pub struct Collection {
 }
 
 /// A capital asset that is disposed of, with the function that acquired it. The proceeds are the fund's.
-#[derive(Clone, Copy, Debug, PartialEq, Eq)]
+#[derive(Clone, Copy)]
 pub struct Disposal {
     pub year: u16,
     pub fund: u16,
@@ -118,7 +118,7 @@ impl Disposal {
 }
 
 /// A payment of a bond, with the year that it is due in.
-#[derive(Clone, Copy, Debug, PartialEq, Eq)]
+#[derive(Clone, Copy)]
 pub struct DuePayment {
     pub due_year: u16,
     pub year: u16,
@@ -128,7 +128,7 @@ pub struct DuePayment {
 }
 
 /// Leave that is paid out.
-#[derive(Clone, Copy, Debug, PartialEq, Eq)]
+#[derive(Clone, Copy)]
 pub struct MaturedLeave {
     pub year: u16,
     pub fund: u16,
@@ -145,7 +145,7 @@ impl MaturedLeave {
 }
 
 /// An amount that goes from one fund to another.
-#[derive(Clone, Copy, Debug, PartialEq, Eq)]
+#[derive(Clone, Copy)]
 pub struct FundsAmount {
     pub year: u16,
     pub from: u16,
@@ -154,7 +154,7 @@ pub struct FundsAmount {
 }
 
 /// An amount of the city as a whole.
-#[derive(Clone, Copy, Debug, PartialEq, Eq)]
+#[derive(Clone, Copy)]
 pub struct CityAmount {
     pub year: u16,
     pub amount: u64,
@@ -163,7 +163,7 @@ pub struct CityAmount {
 /// A row of the posting table. Entries of other kinds have no posts. A voucher, a void and a payment of vouchers have a
 /// deed for each item; the closing of a month has one for each function with depreciation, and one for interest. So each
 /// deed has at most five posts, and holds no list.
-#[derive(Clone, Copy, Debug, PartialEq, Eq)]
+#[derive(Clone, Copy)]
 pub enum Deed {
     /// An item of a voucher is entered.
     Voucher(SpentItem),

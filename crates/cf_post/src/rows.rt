@@ -8,7 +8,7 @@ use cf_ledger::Post;
 use std::alloc::AllocError;
 
 /// Where posts go.
-#[derive(Clone, Copy, Debug, PartialEq, Eq)]
+#[derive(Clone, Copy)]
 pub struct FundYear {
     pub year: u16,
     pub fund: u16,

@@ -48,7 +48,7 @@ impl Model for Revenue {
 }
 
 /// A bill as it stands.
-#[derive(Clone, Copy, Debug, PartialEq, Eq)]
+#[derive(Clone, Copy)]
 pub struct BillNow {
     pub source: u16,
     pub levy_year: u16,
