@@ -103,9 +103,9 @@ ff@ 00000007
 
 # requisition: a drawn number is any number
 04@ 0001 0001 0002 0003 0000000000000005 00000007
-  1 k 2025-07-01 Requisition(Request { items: List { items: [AccountItem { fund: 1, dept: 2, object: 3, amount: 5 }] } }) 7 0 of 29
+  1 k 2025-07-01 Requisition(NewRequisition { items: List { items: [AccountItem { fund: 1, dept: 2, object: 3, amount: 5 }] } }) 7 0 of 29
 04@ 0001 0001 0002 0003 0000000000000005 00000000
-  1 k 2025-07-01 Requisition(Request { items: List { items: [AccountItem { fund: 1, dept: 2, object: 3, amount: 5 }] } }) 0 0 of 29
+  1 k 2025-07-01 Requisition(NewRequisition { items: List { items: [AccountItem { fund: 1, dept: 2, object: 3, amount: 5 }] } }) 0 0 of 29
 04@ 0000 00000007
   fault 9
 04@ 0021
@@ -117,9 +117,9 @@ ff@ 00000007
 
 # order
 06@ 00000009 00 0001 0001 0002 0003 0000000000000005 00000001
-  1 k 2025-07-01 Order(Purchase { vendor: 9, requisition: None, items: List { items: [AccountItem { fund: 1, dept: 2, object: 3, amount: 5 }] } }) 1 0 of 34
+  1 k 2025-07-01 Order(NewOrder { vendor: 9, requisition: None, items: List { items: [AccountItem { fund: 1, dept: 2, object: 3, amount: 5 }] } }) 1 0 of 34
 06@ 00000009 01 00000007 0001 0001 0002 0003 0000000000000005 00000001
-  1 k 2025-07-01 Order(Purchase { vendor: 9, requisition: Some(7), items: List { items: [AccountItem { fund: 1, dept: 2, object: 3, amount: 5 }] } }) 1 0 of 38
+  1 k 2025-07-01 Order(NewOrder { vendor: 9, requisition: Some(7), items: List { items: [AccountItem { fund: 1, dept: 2, object: 3, amount: 5 }] } }) 1 0 of 38
 06@ 00000009 02 00000007
   fault 13
 06@ 00000009 01 000000
@@ -139,9 +139,9 @@ ff@ 00000007
 
 # voucher
 09@ 00000009 00 0001 0001 0002 0003 0000000000000005 00 00000001 00000001
-  1 k 2025-07-01 Voucher(Invoice { vendor: 9, back: false, items: List { items: [VoucherItem { account: AccountItem { fund: 1, dept: 2, object: 3, amount: 5 }, charge: Direct }] } }) 1 1 of 39
+  1 k 2025-07-01 Voucher(NewVoucher { vendor: 9, back: false, items: List { items: [VoucherItem { account: AccountItem { fund: 1, dept: 2, object: 3, amount: 5 }, charge: Direct }] } }) 1 1 of 39
 09@ 00000009 01 0003 0001 0002 0003 0000000000000005 01 00000001 0001 00 0001 0002 0003 0000000000000005 01 00000001 0002 01 0000000000000004 0001 0002 0003 0000000000000005 01 00000002 0001 02 00000002 00000007
-  1 k 2025-07-01 Voucher(Invoice { vendor: 9, back: true, items: List { items: [VoucherItem { account: AccountItem { fund: 1, dept: 2, object: 3, amount: 5 }, charge: OnOrder { order: 1, item: 1, how: Lesser } }, VoucherItem { account: AccountItem { fund: 1, dept: 2, object: 3, amount: 5 }, charge: OnOrder { order: 1, item: 2, how: Recorded(4) } }, VoucherItem { account: AccountItem { fund: 1, dept: 2, object: 3, amount: 5 }, charge: OnOrder { order: 2, item: 1, how: Final } }] } }) 2 7 of 98
+  1 k 2025-07-01 Voucher(NewVoucher { vendor: 9, back: true, items: List { items: [VoucherItem { account: AccountItem { fund: 1, dept: 2, object: 3, amount: 5 }, charge: OnOrder { order: 1, item: 1, how: Lesser } }, VoucherItem { account: AccountItem { fund: 1, dept: 2, object: 3, amount: 5 }, charge: OnOrder { order: 1, item: 2, how: Recorded(4) } }, VoucherItem { account: AccountItem { fund: 1, dept: 2, object: 3, amount: 5 }, charge: OnOrder { order: 2, item: 1, how: Final } }] } }) 2 7 of 98
 09@ 00000009 02
   fault 13
 09@ 00000009 00 0001 0001 0002 0003 0000000000000005 02
@@ -155,7 +155,7 @@ ff@ 00000007
 09@ 00000009 00 0002 0001 0002 0003 0000000000000005 01 00000001 0001 00 0001 0002 0003 0000000000000005 01 00000001 0001 02 00000001 00000001
   fault 14
 09@ 00000009 00 0002 0001 0002 0003 0000000000000005 00 0001 0002 0003 0000000000000005 00 00000001 00000001
-  1 k 2025-07-01 Voucher(Invoice { vendor: 9, back: false, items: List { items: [VoucherItem { account: AccountItem { fund: 1, dept: 2, object: 3, amount: 5 }, charge: Direct }, VoucherItem { account: AccountItem { fund: 1, dept: 2, object: 3, amount: 5 }, charge: Direct }] } }) 1 1 of 54
+  1 k 2025-07-01 Voucher(NewVoucher { vendor: 9, back: false, items: List { items: [VoucherItem { account: AccountItem { fund: 1, dept: 2, object: 3, amount: 5 }, charge: Direct }, VoucherItem { account: AccountItem { fund: 1, dept: 2, object: 3, amount: 5 }, charge: Direct }] } }) 1 1 of 54
 09@ 00000009 00 0001 0001 0002 0003 0000000000000005 00 00000001
   fault 35
 
@@ -177,7 +177,7 @@ ff@ 00000007
 
 # bill
 0c@ 0005 07ea 00000063 0000000000000005 00000001
-  1 k 2025-07-01 Bill(Levy { source: 5, levy_year: 2026, payer: 99, amount: 5 }) 1 0 of 29
+  1 k 2025-07-01 Bill(NewBill { source: 5, levy_year: 2026, payer: 99, amount: 5 }) 1 0 of 29
 0c@ 0005 07b2 00000063 0000000000000005 00000001
   fault 11
 

@@ -246,9 +246,9 @@ null
 
 # requisition, order and their withdrawal
 {"call":"requisition",@,"items":[{"fund":1,"dept":10,"object":510,"amount":100000}]}
-  1 k 2026-07-01 None Requisition(Request { items: List { items: [AccountItem { fund: 1, dept: 10, object: 510, amount: 100000 }] } })
+  1 k 2026-07-01 None Requisition(NewRequisition { items: List { items: [AccountItem { fund: 1, dept: 10, object: 510, amount: 100000 }] } })
 {"call":"requisition",@,"items":[{"fund":1,"dept":10,"object":510,"amount":1},{"fund":1,"dept":10,"object":510,"amount":1}]}
-  1 k 2026-07-01 None Requisition(Request { items: List { items: [AccountItem { fund: 1, dept: 10, object: 510, amount: 1 }, AccountItem { fund: 1, dept: 10, object: 510, amount: 1 }] } })
+  1 k 2026-07-01 None Requisition(NewRequisition { items: List { items: [AccountItem { fund: 1, dept: 10, object: 510, amount: 1 }, AccountItem { fund: 1, dept: 10, object: 510, amount: 1 }] } })
 {"call":"requisition",@,"items":[]}
   {"form":"fields","name":"items"}
 {"call":"requisition",@,"items":[{"fund":65536,"dept":10,"object":510,"amount":1}]}
@@ -262,9 +262,9 @@ null
 {"call":"withdraw",@,"requisition":4294967296}
   {"form":"fields","name":"requisition"}
 {"call":"order",@,"vendor":7,"items":[{"fund":1,"dept":10,"object":510,"amount":1}]}
-  1 k 2026-07-01 None Order(Purchase { vendor: 7, requisition: None, items: List { items: [AccountItem { fund: 1, dept: 10, object: 510, amount: 1 }] } })
+  1 k 2026-07-01 None Order(NewOrder { vendor: 7, requisition: None, items: List { items: [AccountItem { fund: 1, dept: 10, object: 510, amount: 1 }] } })
 {"call":"order",@,"vendor":7,"requisition":3,"items":[{"fund":1,"dept":10,"object":510,"amount":1}]}
-  1 k 2026-07-01 None Order(Purchase { vendor: 7, requisition: Some(3), items: List { items: [AccountItem { fund: 1, dept: 10, object: 510, amount: 1 }] } })
+  1 k 2026-07-01 None Order(NewOrder { vendor: 7, requisition: Some(3), items: List { items: [AccountItem { fund: 1, dept: 10, object: 510, amount: 1 }] } })
 {"call":"order",@,"vendor":7,"requisition":null,"items":[{"fund":1,"dept":10,"object":510,"amount":1}]}
   {"form":"fields","name":"requisition"}
 {"call":"order",@,"vendor":4294967296,"requisition":null,"items":[]}
@@ -284,17 +284,17 @@ null
 
 # voucher
 {"call":"voucher",@,"vendor":7,"items":[{"fund":1,"dept":10,"object":510,"amount":5}]}
-  1 k 2026-07-01 None Voucher(Invoice { vendor: 7, back: false, items: List { items: [VoucherItem { account: AccountItem { fund: 1, dept: 10, object: 510, amount: 5 }, charge: Direct }] } })
+  1 k 2026-07-01 None Voucher(NewVoucher { vendor: 7, back: false, items: List { items: [VoucherItem { account: AccountItem { fund: 1, dept: 10, object: 510, amount: 5 }, charge: Direct }] } })
 {"call":"voucher",@,"vendor":7,"back":true,"items":[{"fund":1,"dept":10,"object":510,"amount":5,"order":3,"item":0}]}
-  1 k 2026-07-01 None Voucher(Invoice { vendor: 7, back: true, items: List { items: [VoucherItem { account: AccountItem { fund: 1, dept: 10, object: 510, amount: 5 }, charge: OnOrder { order: 3, item: 0, how: Lesser } }] } })
+  1 k 2026-07-01 None Voucher(NewVoucher { vendor: 7, back: true, items: List { items: [VoucherItem { account: AccountItem { fund: 1, dept: 10, object: 510, amount: 5 }, charge: OnOrder { order: 3, item: 0, how: Lesser } }] } })
 {"call":"voucher",@,"vendor":7,"back":false,"items":[{"fund":1,"dept":10,"object":510,"amount":5,"order":3,"item":1,"final":true}]}
-  1 k 2026-07-01 None Voucher(Invoice { vendor: 7, back: false, items: List { items: [VoucherItem { account: AccountItem { fund: 1, dept: 10, object: 510, amount: 5 }, charge: OnOrder { order: 3, item: 1, how: Final } }] } })
+  1 k 2026-07-01 None Voucher(NewVoucher { vendor: 7, back: false, items: List { items: [VoucherItem { account: AccountItem { fund: 1, dept: 10, object: 510, amount: 5 }, charge: OnOrder { order: 3, item: 1, how: Final } }] } })
 {"call":"voucher",@,"vendor":7,"items":[{"fund":1,"dept":10,"object":510,"amount":5,"order":3,"item":1,"recorded":10000000000000,"final":false}]}
-  1 k 2026-07-01 None Voucher(Invoice { vendor: 7, back: false, items: List { items: [VoucherItem { account: AccountItem { fund: 1, dept: 10, object: 510, amount: 5 }, charge: OnOrder { order: 3, item: 1, how: Recorded(10000000000000) } }] } })
+  1 k 2026-07-01 None Voucher(NewVoucher { vendor: 7, back: false, items: List { items: [VoucherItem { account: AccountItem { fund: 1, dept: 10, object: 510, amount: 5 }, charge: OnOrder { order: 3, item: 1, how: Recorded(10000000000000) } }] } })
 {"call":"voucher",@,"vendor":7,"items":[{"fund":1,"dept":10,"object":510,"amount":5,"final":false},{"fund":1,"dept":10,"object":510,"amount":5}]}
-  1 k 2026-07-01 None Voucher(Invoice { vendor: 7, back: false, items: List { items: [VoucherItem { account: AccountItem { fund: 1, dept: 10, object: 510, amount: 5 }, charge: Direct }, VoucherItem { account: AccountItem { fund: 1, dept: 10, object: 510, amount: 5 }, charge: Direct }] } })
+  1 k 2026-07-01 None Voucher(NewVoucher { vendor: 7, back: false, items: List { items: [VoucherItem { account: AccountItem { fund: 1, dept: 10, object: 510, amount: 5 }, charge: Direct }, VoucherItem { account: AccountItem { fund: 1, dept: 10, object: 510, amount: 5 }, charge: Direct }] } })
 {"call":"voucher",@,"vendor":7,"items":[{"fund":1,"dept":10,"object":510,"amount":5,"order":3,"item":1},{"fund":1,"dept":10,"object":510,"amount":5,"order":3,"item":2}]}
-  1 k 2026-07-01 None Voucher(Invoice { vendor: 7, back: false, items: List { items: [VoucherItem { account: AccountItem { fund: 1, dept: 10, object: 510, amount: 5 }, charge: OnOrder { order: 3, item: 1, how: Lesser } }, VoucherItem { account: AccountItem { fund: 1, dept: 10, object: 510, amount: 5 }, charge: OnOrder { order: 3, item: 2, how: Lesser } }] } })
+  1 k 2026-07-01 None Voucher(NewVoucher { vendor: 7, back: false, items: List { items: [VoucherItem { account: AccountItem { fund: 1, dept: 10, object: 510, amount: 5 }, charge: OnOrder { order: 3, item: 1, how: Lesser } }, VoucherItem { account: AccountItem { fund: 1, dept: 10, object: 510, amount: 5 }, charge: OnOrder { order: 3, item: 2, how: Lesser } }] } })
 {"call":"voucher",@,"vendor":7,"back":null,"items":[{"fund":1,"dept":10,"object":510,"amount":5}]}
   {"form":"fields","name":"back"}
 {"call":"voucher",@,"vendor":7,"back":0,"items":[]}
@@ -342,7 +342,7 @@ null
 
 # bills and receipts
 {"call":"bill",@,"source":1,"levy_year":2027,"payer":4294967295,"amount":500}
-  1 k 2026-07-01 None Bill(Levy { source: 1, levy_year: 2027, payer: 4294967295, amount: 500 })
+  1 k 2026-07-01 None Bill(NewBill { source: 1, levy_year: 2027, payer: 4294967295, amount: 500 })
 {"call":"bill",@,"source":1,"levy_year":2200,"payer":-1,"amount":500}
   {"form":"fields","name":"levy_year"}
 {"call":"bill",@,"source":1,"levy_year":2027,"payer":-1,"amount":500}

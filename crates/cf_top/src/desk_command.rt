@@ -57,11 +57,7 @@ fn keep_desk<I: Source, O: Sink, D: Disk + Drop>(
     ensures read { result.0 ≡ ended.ReadFault → Rose (I.faults input.old) (I.faults input.new) }
     ensures write { result.0 ≡ ended.WriteFault → Rose (O.faults out.old) (O.faults out.new) }
 {
-    let mut clerk = Clerk {
-        alloc,
-        book,
-        accepted: false,
-    };
+    let mut clerk = Clerk { alloc, book };
     let how = run_lines(alloc, &mut clerk, input, out);
     // The office says of its entries what the run hands on.
     let _sound = clerk.book.office.entries();
