@@ -3,3 +3,4 @@ pub mod Causes
 pub mod Memory
 pub mod Money
 pub mod Sinks
+pub mod Windows

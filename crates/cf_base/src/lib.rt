@@ -7,6 +7,7 @@ mod money;
 mod outside;
 mod standard;
 mod statement;
+mod window;
 
 pub use calendar::{Day, Month, day_text, fiscal_year, month_of, month_text, read_day, read_month};
 pub use memory::{MemSink, MemSource};
@@ -14,3 +15,4 @@ pub use money::{Cents, MOST_CENTS};
 pub use outside::{Failed, Sink, Source};
 pub use standard::{FileSource, StdSink, StdSource};
 pub use statement::Kind;
+pub use window::{is_in_window, window_end, year_end};

@@ -11,10 +11,10 @@ use Rattle.cf_calls.specs.declared.acts.Act.TheVariants.{Adopt, Amend, Transfer,
 use Rattle.cf_calls.specs.declared.acts.Adoption.{Adoption}
 use Rattle.cf_calls.specs.declared.acts.Amendment.{Amendment}
 use Rattle.cf_calls.specs.declared.acts.LineTransfer.{LineTransfer}
-use Rattle.cf_calls.specs.declared.acts.Purchase.{Purchase}
+use Rattle.cf_calls.specs.declared.acts.NewOrder.{NewOrder}
 use Rattle.cf_calls.specs.declared.acts.OrderChange.{OrderChange}
-use Rattle.cf_calls.specs.declared.acts.Invoice.{Invoice}
-use Rattle.cf_calls.specs.declared.acts.Levy.{Levy}
+use Rattle.cf_calls.specs.declared.acts.NewVoucher.{NewVoucher}
+use Rattle.cf_calls.specs.declared.acts.NewBill.{NewBill}
 use Rattle.cf_calls.specs.declared.acts.BillAmount.{BillAmount}
 use Rattle.cf_calls.specs.declared.acts.AssetAct.{AssetAct}
 use Rattle.cf_calls.specs.declared.acts.AssetAct.TheVariants.{Donate, Dispose}
@@ -198,12 +198,12 @@ transfer_is a b e =
 transfer-same : (a : LineTransfer) → same_transfer a a ≡ true
 transfer-same a = and_from _ _ (and_from _ _ (and_from _ _ (and_from _ _ (number-same a.fund) (number-same a.year)) (number-same a.from)) (number-same a.to)) (number-same a.amount)
 
-purchase_is : (a b : Purchase) → same_purchase a b ≡ true → a ≡ b
+purchase_is : (a b : NewOrder) → same_purchase a b ≡ true → a ≡ b
 purchase_is a b e =
     let p = all3 (a.vendor == b.vendor) (same_option a.requisition b.requisition) (pointwise is_account_item a.items b.items) e in
     λ i. record { vendor = number a.vendor b.vendor p.0 i; requisition = option_is a.requisition b.requisition p.1 i; items = each is_account_item account_item_is a.items b.items p.2 i }
 
-purchase-same : (a : Purchase) → same_purchase a a ≡ true
+purchase-same : (a : NewOrder) → same_purchase a a ≡ true
 purchase-same a = and_from _ _ (and_from _ _ (number-same a.vendor) (option-same a.requisition)) (each-same is_account_item account_item-same a.items)
 
 order_change_is : (a b : OrderChange) → same_order_change a b ≡ true → a ≡ b
@@ -214,20 +214,20 @@ order_change_is a b e =
 order_change-same : (a : OrderChange) → same_order_change a a ≡ true
 order_change-same a = and_from _ _ (and_from _ _ (and_from _ _ (and_from _ _ (and_from _ _ (number-same a.order) (number-same a.item)) (number-same a.fund)) (number-same a.dept)) (number-same a.object)) (integer-same a.by)
 
-invoice_is : (a b : Invoice) → same_invoice a b ≡ true → a ≡ b
+invoice_is : (a b : NewVoucher) → same_invoice a b ≡ true → a ≡ b
 invoice_is a b e =
     let p = all3 (a.vendor == b.vendor) (same_flag a.back b.back) (pointwise is_voucher_item a.items b.items) e in
     λ i. record { vendor = number a.vendor b.vendor p.0 i; back = flag_is a.back b.back p.1 i; items = each is_voucher_item voucher_item_is a.items b.items p.2 i }
 
-invoice-same : (a : Invoice) → same_invoice a a ≡ true
+invoice-same : (a : NewVoucher) → same_invoice a a ≡ true
 invoice-same a = and_from _ _ (and_from _ _ (number-same a.vendor) (flag-same a.back)) (each-same is_voucher_item voucher_item-same a.items)
 
-levy_is : (a b : Levy) → same_levy a b ≡ true → a ≡ b
+levy_is : (a b : NewBill) → same_levy a b ≡ true → a ≡ b
 levy_is a b e =
     let p = all4 (a.source == b.source) (a.levy_year == b.levy_year) (a.payer == b.payer) (a.amount == b.amount) e in
     λ i. record { source = number a.source b.source p.0 i; levy_year = number a.levy_year b.levy_year p.1 i; payer = number a.payer b.payer p.2 i; amount = number a.amount b.amount p.3 i }
 
-levy-same : (a : Levy) → same_levy a a ≡ true
+levy-same : (a : NewBill) → same_levy a a ≡ true
 levy-same a = and_from _ _ (and_from _ _ (and_from _ _ (number-same a.source) (number-same a.levy_year)) (number-same a.payer)) (number-same a.amount)
 
 bill_amount_is : (a b : BillAmount) → same_bill_amount a b ≡ true → a ≡ b

@@ -9,10 +9,10 @@ use Rattle.cf_calls.specs.declared.acts.Act.TheVariants.{Adopt, Amend, Transfer,
 use Rattle.cf_calls.specs.declared.acts.Adoption.{Adoption}
 use Rattle.cf_calls.specs.declared.acts.Amendment.{Amendment}
 use Rattle.cf_calls.specs.declared.acts.LineTransfer.{LineTransfer}
-use Rattle.cf_calls.specs.declared.acts.Purchase.{Purchase}
+use Rattle.cf_calls.specs.declared.acts.NewOrder.{NewOrder}
 use Rattle.cf_calls.specs.declared.acts.OrderChange.{OrderChange}
-use Rattle.cf_calls.specs.declared.acts.Invoice.{Invoice}
-use Rattle.cf_calls.specs.declared.acts.Levy.{Levy}
+use Rattle.cf_calls.specs.declared.acts.NewVoucher.{NewVoucher}
+use Rattle.cf_calls.specs.declared.acts.NewBill.{NewBill}
 use Rattle.cf_calls.specs.declared.acts.BillAmount.{BillAmount}
 use Rattle.cf_calls.specs.declared.acts.AssetAct.{AssetAct}
 use Rattle.cf_calls.specs.declared.acts.AssetAct.TheVariants.{Donate, Dispose}
@@ -82,16 +82,16 @@ same_amendment a b = (a.fund == b.fund) && (a.year == b.year) && (a.line == b.li
 abbrev pub same_transfer : LineTransfer → LineTransfer → Bool
 same_transfer a b = (a.fund == b.fund) && (a.year == b.year) && (a.from == b.from) && (a.to == b.to) && (a.amount == b.amount)
 
-abbrev pub same_purchase : Purchase → Purchase → Bool
+abbrev pub same_purchase : NewOrder → NewOrder → Bool
 same_purchase a b = (a.vendor == b.vendor) && same_option a.requisition b.requisition && pointwise is_account_item a.items b.items
 
 abbrev pub same_order_change : OrderChange → OrderChange → Bool
 same_order_change a b = (a.order == b.order) && (a.item == b.item) && (a.fund == b.fund) && (a.dept == b.dept) && (a.object == b.object) && int_eq a.by b.by
 
-abbrev pub same_invoice : Invoice → Invoice → Bool
+abbrev pub same_invoice : NewVoucher → NewVoucher → Bool
 same_invoice a b = (a.vendor == b.vendor) && same_flag a.back b.back && pointwise is_voucher_item a.items b.items
 
-abbrev pub same_levy : Levy → Levy → Bool
+abbrev pub same_levy : NewBill → NewBill → Bool
 same_levy a b = (a.source == b.source) && (a.levy_year == b.levy_year) && (a.payer == b.payer) && (a.amount == b.amount)
 
 abbrev pub same_bill_amount : BillAmount → BillAmount → Bool

@@ -42,13 +42,13 @@ pub struct LineTransfer {
 
 /// A purchase requisition, which holds its amounts.
 #[derive(Drop)]
-pub struct Request {
+pub struct NewRequisition {
     pub items: AccountItems,
 }
 
 /// A purchase order, which encumbers its amounts (GFOA Blue Book).
 #[derive(Drop)]
-pub struct Purchase {
+pub struct NewOrder {
     pub vendor: u32,
     /// The requisition that the order takes up.
     pub requisition: Option<u32>,
@@ -70,7 +70,7 @@ pub struct OrderChange {
 
 /// A vendor's claim, which is an expenditure.
 #[derive(Drop)]
-pub struct Invoice {
+pub struct NewVoucher {
     pub vendor: u32,
     /// Whether it is an expenditure of the fiscal year before that of its day.
     pub back: bool,
@@ -85,7 +85,7 @@ pub struct Payment {
 
 /// A bill of a levy or a charge, which is a receivable.
 #[derive(Clone, Copy, PartialEq, Eq)]
-pub struct Levy {
+pub struct NewBill {
     pub source: u16,
     pub levy_year: u16,
     pub payer: u32,
@@ -200,18 +200,18 @@ pub enum Act {
     Adopt(Adoption),
     Amend(Amendment),
     Transfer(LineTransfer),
-    Requisition(Request),
+    Requisition(NewRequisition),
     /// The number of a requisition.
     Withdraw(u32),
-    Order(Purchase),
+    Order(NewOrder),
     ChangeOrder(OrderChange),
     /// The number of an order.
     CancelOrder(u32),
-    Voucher(Invoice),
+    Voucher(NewVoucher),
     /// The number of a voucher.
     VoidVoucher(u32),
     Pay(Payment),
-    Bill(Levy),
+    Bill(NewBill),
     Collect(BillAmount),
     Receive(SourceAmount),
     WriteOff(BillAmount),

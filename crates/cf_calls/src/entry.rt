@@ -2,7 +2,7 @@
 
 ghost use Rattle.std.specs.Prelude.{◌≡◌, None, IfOk};
 
-use crate::acts::{Act, Adoption, BondIssue, Invoice, Payment, Purchase, Request};
+use crate::acts::{Act, Adoption, BondIssue, NewOrder, NewRequisition, NewVoucher, Payment};
 use crate::call::Change;
 use std::alloc::{AllocError, Global};
 
@@ -66,29 +66,29 @@ fn copy_adoption(alloc: Global, a: &Adoption) -> Result<Adoption, AllocError>
     })
 }
 
-fn copy_request(alloc: Global, r: &Request) -> Result<Request, AllocError>
+fn copy_request(alloc: Global, r: &NewRequisition) -> Result<NewRequisition, AllocError>
     ensures { IfOk result (λ c. c ≡ r.now) }
 {
     let items = r.items.copy(alloc)?;
-    Ok(Request { items })
+    Ok(NewRequisition { items })
 }
 
-fn copy_purchase(alloc: Global, p: &Purchase) -> Result<Purchase, AllocError>
+fn copy_purchase(alloc: Global, p: &NewOrder) -> Result<NewOrder, AllocError>
     ensures { IfOk result (λ c. c ≡ p.now) }
 {
     let items = p.items.copy(alloc)?;
-    Ok(Purchase {
+    Ok(NewOrder {
         vendor: p.vendor,
         requisition: p.requisition,
         items,
     })
 }
 
-fn copy_invoice(alloc: Global, i: &Invoice) -> Result<Invoice, AllocError>
+fn copy_invoice(alloc: Global, i: &NewVoucher) -> Result<NewVoucher, AllocError>
     ensures { IfOk result (λ c. c ≡ i.now) }
 {
     let items = i.items.copy(alloc)?;
-    Ok(Invoice {
+    Ok(NewVoucher {
         vendor: i.vendor,
         back: i.back,
         items,

@@ -3,7 +3,7 @@
 ghost use Rattle.std.specs.Prelude.{◌≡◌, ◌↔◌, IsTrue, None};
 ghost use Rattle.cf_calls.specs.Same as spec;
 
-use crate::acts::{Act, Adoption, BondIssue, Invoice, Purchase};
+use crate::acts::{Act, Adoption, BondIssue, NewOrder, NewVoucher};
 use crate::call::Change;
 
 /// Whether two changes are equal but for `after`. Such a change is a repeat of the other.
@@ -61,7 +61,7 @@ fn same_adoption(a: &Adoption, b: &Adoption) -> bool
         && a.estimates.as_slice() == b.estimates.as_slice()
 }
 
-fn same_purchase(a: &Purchase, b: &Purchase) -> bool
+fn same_purchase(a: &NewOrder, b: &NewOrder) -> bool
     ensures { result ≡ spec.same_purchase a.now b.now }
 {
     a.vendor == b.vendor
@@ -69,7 +69,7 @@ fn same_purchase(a: &Purchase, b: &Purchase) -> bool
         && a.items.as_slice() == b.items.as_slice()
 }
 
-fn same_invoice(a: &Invoice, b: &Invoice) -> bool
+fn same_invoice(a: &NewVoucher, b: &NewVoucher) -> bool
     ensures { result ≡ spec.same_invoice a.now b.now }
 {
     a.vendor == b.vendor && a.back == b.back && a.items.as_slice() == b.items.as_slice()

@@ -3,7 +3,10 @@
 ghost use Rattle.std.specs.Prelude.{◌≡◌, ◌<◌, ◌≤◌, ℕ, true, length, IfSome, option_map, position};
 ghost use Rattle.std.specs.Option.{option_copied};
 ghost use Rattle.cf_chart.specs.Index.{has_key, key_at};
+ghost use Rattle.std.specs.List.{list_all};
+ghost use Rattle.cf_chart.specs.Levels.{has_function};
 ghost use Rattle.cf_chart.specs.Plan as spec;
+ghost use Rattle.cf_chart.specs.Rising.{is_rising};
 
 use crate::index::{LineKey, number_at};
 use crate::lines::LineId;
@@ -68,7 +71,9 @@ impl Chart {
     }
 
     pub fn functions(&self) -> &[Function]
-        ensures { result.now ≡ self.now.functions }
+        ensures value { result.now ≡ self.now.functions }
+        ensures rising { is_rising (λ f. f.id) result.now ≡ true }
+        ensures few { length result.now ≤ 64 }
     {
         self.functions.as_slice()
     }
@@ -80,7 +85,8 @@ impl Chart {
     }
 
     pub fn depts(&self) -> &[Department]
-        ensures { result.now ≡ self.now.departments }
+        ensures value { result.now ≡ self.now.departments }
+        ensures known { list_all (has_function self.now.functions) result.now ≡ true }
     {
         self.departments.as_slice()
     }

@@ -17,12 +17,12 @@ use Rattle.cf_calls.specs.declared.acts.LeaveAct.TheVariants.{Earn, Use, Mature}
 use Rattle.cf_calls.specs.declared.acts.Period.{Period}
 use Rattle.cf_calls.specs.declared.acts.Period.TheVariants as period
 use Rattle.cf_calls.specs.Form.{IsYear, IsCount, IsAdoptionForm, IsIssueForm, IsVoucherForm, IsPeriodForm, IsActInForm, IsWithinLimits, is_by, is_distinct, is_most, is_period, same_line, same_source, same_number}
-use Rattle.cf_codec.specs.declared.kind.ActKind.{ActKind}
-use Rattle.cf_codec.specs.declared.kind.ActKind.TheVariants as kind
+use Rattle.cf_calls.specs.declared.kind.ActKind.{ActKind}
+use Rattle.cf_calls.specs.declared.kind.ActKind.TheVariants as kind
 use Rattle.cf_codec.specs.Formats.{Format, and_then, kept}
 use Rattle.cf_codec.specs.Fields.{byte, half, word, one_of, flag, year, amount, most_amount, signed, month}
 use Rattle.cf_codec.specs.Kinds.{kind_of, value_in, kinds, kind_value, kind_code, kind, moves, move_value, move_code, move_kind}
-use Rattle.cf_codec.specs.Acts.{source_amount, line_amounts, source_amounts, account_items, voucher_items, voucher_numbers, principals, adoption, amendment, other_than, transfer, request, optional_by, optional, purchase, order_change, invoice, payment, levy, bill_amount, donation, disposal, issue, debt_payment, leave_amount, maturity, fund_move, made, asset_act_bytes, asset_act_fits, asset_act_by, asset_act, leave_act_bytes, leave_act_fits, leave_act_by, leave_act, period_bytes, period_fits, period_by, closed_period, act_bytes, act_fits, act_at, act_for}
+use Rattle.cf_codec.specs.Acts.{source_amount, line_amounts, source_amounts, account_items, voucher_items, voucher_numbers, principals, adoption, amendment, other_than, transfer, new_requisition, optional_by, optional, new_order, order_change, new_voucher, payment, new_bill, bill_amount, donation, disposal, issue, debt_payment, leave_amount, maturity, fund_move, made, asset_act_bytes, asset_act_fits, asset_act_by, asset_act, leave_act_bytes, leave_act_fits, leave_act_by, leave_act, period_bytes, period_fits, period_by, closed_period, act_bytes, act_fits, act_at, act_for}
 use Rattle.cf_codec.proofs.Exact.{IsBytes, Takes, IsExact, IsWhole, Any, step, last, same, ok_is, then_ok, then_err, kept-exact, converted-exact}
 use Rattle.cf_codec.proofs.FieldsExact.{byte-exact, half-exact, word-exact, one_of-exact, flag-exact, year-exact, amount-exact, most_amount-exact, signed-exact, month-exact}
 use Rattle.cf_codec.proofs.ItemsExact.{source_amount-exact, IsDistinctList, line_amounts-exact, source_amounts-exact, account_items-exact, voucher_items-exact, voucher_numbers-exact, IsRepaymentList, principals-exact}
@@ -136,17 +136,17 @@ transfer-exact =
     (λ r known fits form. (tt, (form.0.0, (tt, (form.0.1, (form.1, tt))))))
     (λ r known fits form. ((form.1.0, form.1.1.1.0), form.1.1.1.1.0))
 
-pub request-exact : IsWhole request (λ r. IsCount 1 32 (length r.items) × (list_all (λ x. is_amount x.amount) r.items ≡ true))
-request-exact =
-    same request Any _ _
+pub new_requisition-exact : IsWhole new_requisition (λ r. IsCount 1 32 (length r.items) × (list_all (λ x. is_amount x.amount) r.items ≡ true))
+new_requisition-exact =
+    same new_requisition Any _ _
     (step (λ r. r.items) account_items _ (λ xs. IsCount 1 32 (length xs) × (list_all (λ x. is_amount x.amount) xs ≡ true)) Any _ account_items-exact (λ items fits form.
     last (record { items = items }) _ (tt, refl) (λ r known. λ i. record { items = known.1 i })))
     (λ r known fits form. (form, tt))
     (λ r known fits form. form.0)
 
-pub purchase-exact : IsWhole purchase (λ p. IsCount 1 32 (length p.items) × (list_all (λ x. is_amount x.amount) p.items ≡ true))
-purchase-exact =
-    same purchase Any _ _
+pub new_order-exact : IsWhole new_order (λ p. IsCount 1 32 (length p.items) × (list_all (λ x. is_amount x.amount) p.items ≡ true))
+new_order-exact =
+    same new_order Any _ _
     (step (λ r. r.vendor) word _ Any Any _ word-exact (λ vendor fits form.
     step (λ r. r.requisition) optional _ Any _ _ optional-exact (λ requisition fits form.
     step (λ r. r.items) account_items _ (λ xs. IsCount 1 32 (length xs) × (list_all (λ x. is_amount x.amount) xs ≡ true)) _ _ account_items-exact (λ items fits form.
@@ -167,9 +167,9 @@ order_change-exact =
     (λ r known fits form. (tt, ((tt, le-leb 1 r.item form.0.0), (tt, (tt, (tt, (form.1, tt)))))))
     (λ r known fits form. ((leb-true 1 r.item form.1.0.1, by_is r.by form.1.1.1.1.1.0), form.1.1.1.1.1.0))
 
-pub invoice-exact : IsWhole invoice (λ i. IsVoucherForm i.items × (list_all (λ x. is_amount x.account.amount) i.items ≡ true))
-invoice-exact =
-    same invoice Any _ _
+pub new_voucher-exact : IsWhole new_voucher (λ i. IsVoucherForm i.items × (list_all (λ x. is_amount x.account.amount) i.items ≡ true))
+new_voucher-exact =
+    same new_voucher Any _ _
     (step (λ r. r.vendor) word _ Any Any _ word-exact (λ vendor fits form.
     step (λ r. r.back) flag _ Any _ _ flag-exact (λ back fits form.
     step (λ r. r.items) voucher_items _ (λ xs. IsVoucherForm xs × (list_all (λ x. is_amount x.account.amount) xs ≡ true)) _ _ voucher_items-exact (λ items fits form.
@@ -185,9 +185,9 @@ payment-exact =
     (λ r known fits form. (form, tt))
     (λ r known fits form. form.0)
 
-pub levy-exact : IsWhole levy (λ l. IsYear l.levy_year × (is_amount l.amount ≡ true))
-levy-exact =
-    same levy Any _ _
+pub new_bill-exact : IsWhole new_bill (λ l. IsYear l.levy_year × (is_amount l.amount ≡ true))
+new_bill-exact =
+    same new_bill Any _ _
     (step (λ r. r.source) half _ Any Any _ half-exact (λ source fits form.
     step (λ r. r.levy_year) year _ IsYear _ _ year-exact (λ levy_year fits form.
     step (λ r. r.payer) word _ Any _ _ word-exact (λ payer fits form.
@@ -427,15 +427,15 @@ unfolding act_at act_bytes act_fits
 act_back on (Adopt a) rest day fits form = variant_back Adopt adoption _ adoption-exact a rest fits form
 act_back on (Amend a) rest day fits form = variant_back Amend amendment _ amendment-exact a rest fits form
 act_back on (Transfer a) rest day fits form = variant_back Transfer transfer _ transfer-exact a rest fits form
-act_back on (Requisition a) rest day fits form = variant_back Requisition request _ request-exact a rest fits form
+act_back on (Requisition a) rest day fits form = variant_back Requisition new_requisition _ new_requisition-exact a rest fits form
 act_back on (Withdraw a) rest day fits form = variant_back Withdraw word _ word-exact a rest fits tt
-act_back on (Order a) rest day fits form = variant_back Order purchase _ purchase-exact a rest fits form
+act_back on (Order a) rest day fits form = variant_back Order new_order _ new_order-exact a rest fits form
 act_back on (ChangeOrder a) rest day fits form = variant_back ChangeOrder order_change _ order_change-exact a rest fits form
 act_back on (CancelOrder a) rest day fits form = variant_back CancelOrder word _ word-exact a rest fits tt
-act_back on (Voucher a) rest day fits form = variant_back Voucher invoice _ invoice-exact a rest fits form
+act_back on (Voucher a) rest day fits form = variant_back Voucher new_voucher _ new_voucher-exact a rest fits form
 act_back on (VoidVoucher a) rest day fits form = variant_back VoidVoucher word _ word-exact a rest fits tt
 act_back on (Pay a) rest day fits form = variant_back Pay payment _ payment-exact a rest fits form.0
-act_back on (Bill a) rest day fits form = variant_back Bill levy _ levy-exact a rest fits form
+act_back on (Bill a) rest day fits form = variant_back Bill new_bill _ new_bill-exact a rest fits form
 act_back on (Collect a) rest day fits form = variant_back Collect bill_amount _ bill_amount-exact a rest fits form.1
 act_back on (Receive a) rest day fits form = variant_back Receive source_amount _ source_amount-exact a rest fits form.1
 act_back on (WriteOff a) rest day fits form = variant_back WriteOff bill_amount _ bill_amount-exact a rest fits form.1
@@ -454,15 +454,15 @@ unfolding act_at act_bytes act_fits
 act_only kind.Adopt on bytes a rest day are e = variant_only Adopt adoption _ adoption-exact bytes a rest are e (ActRead kind.Adopt on bytes rest) (λ x takes fits form. (takes, refl, fits, (form.0, form.1)))
 act_only kind.Amend on bytes a rest day are e = variant_only Amend amendment _ amendment-exact bytes a rest are e (ActRead kind.Amend on bytes rest) (λ x takes fits form. (takes, refl, fits, form))
 act_only kind.Transfer on bytes a rest day are e = variant_only Transfer transfer _ transfer-exact bytes a rest are e (ActRead kind.Transfer on bytes rest) (λ x takes fits form. (takes, refl, fits, form))
-act_only kind.Requisition on bytes a rest day are e = variant_only Requisition request _ request-exact bytes a rest are e (ActRead kind.Requisition on bytes rest) (λ x takes fits form. (takes, refl, fits, form))
+act_only kind.Requisition on bytes a rest day are e = variant_only Requisition new_requisition _ new_requisition-exact bytes a rest are e (ActRead kind.Requisition on bytes rest) (λ x takes fits form. (takes, refl, fits, form))
 act_only kind.Withdraw on bytes a rest day are e = variant_only Withdraw word _ word-exact bytes a rest are e (ActRead kind.Withdraw on bytes rest) (λ x takes fits form. (takes, refl, fits, (tt, tt)))
-act_only kind.Order on bytes a rest day are e = variant_only Order purchase _ purchase-exact bytes a rest are e (ActRead kind.Order on bytes rest) (λ x takes fits form. (takes, refl, fits, form))
+act_only kind.Order on bytes a rest day are e = variant_only Order new_order _ new_order-exact bytes a rest are e (ActRead kind.Order on bytes rest) (λ x takes fits form. (takes, refl, fits, form))
 act_only kind.ChangeOrder on bytes a rest day are e = variant_only ChangeOrder order_change _ order_change-exact bytes a rest are e (ActRead kind.ChangeOrder on bytes rest) (λ x takes fits form. (takes, refl, fits, form))
 act_only kind.CancelOrder on bytes a rest day are e = variant_only CancelOrder word _ word-exact bytes a rest are e (ActRead kind.CancelOrder on bytes rest) (λ x takes fits form. (takes, refl, fits, (tt, tt)))
-act_only kind.Voucher on bytes a rest day are e = variant_only Voucher invoice _ invoice-exact bytes a rest are e (ActRead kind.Voucher on bytes rest) (λ x takes fits form. (takes, refl, fits, form))
+act_only kind.Voucher on bytes a rest day are e = variant_only Voucher new_voucher _ new_voucher-exact bytes a rest are e (ActRead kind.Voucher on bytes rest) (λ x takes fits form. (takes, refl, fits, form))
 act_only kind.VoidVoucher on bytes a rest day are e = variant_only VoidVoucher word _ word-exact bytes a rest are e (ActRead kind.VoidVoucher on bytes rest) (λ x takes fits form. (takes, refl, fits, (tt, tt)))
 act_only kind.Pay on bytes a rest day are e = variant_only Pay payment _ payment-exact bytes a rest are e (ActRead kind.Pay on bytes rest) (λ x takes fits form. (takes, refl, fits, (form, tt)))
-act_only kind.Bill on bytes a rest day are e = variant_only Bill levy _ levy-exact bytes a rest are e (ActRead kind.Bill on bytes rest) (λ x takes fits form. (takes, refl, fits, form))
+act_only kind.Bill on bytes a rest day are e = variant_only Bill new_bill _ new_bill-exact bytes a rest are e (ActRead kind.Bill on bytes rest) (λ x takes fits form. (takes, refl, fits, form))
 act_only kind.Collect on bytes a rest day are e = variant_only Collect bill_amount _ bill_amount-exact bytes a rest are e (ActRead kind.Collect on bytes rest) (λ x takes fits form. (takes, refl, fits, (tt, form)))
 act_only kind.Receive on bytes a rest day are e = variant_only Receive source_amount _ source_amount-exact bytes a rest are e (ActRead kind.Receive on bytes rest) (λ x takes fits form. (takes, refl, fits, (tt, form)))
 act_only kind.WriteOff on bytes a rest day are e = variant_only WriteOff bill_amount _ bill_amount-exact bytes a rest are e (ActRead kind.WriteOff on bytes rest) (λ x takes fits form. (takes, refl, fits, (tt, form)))
@@ -478,15 +478,15 @@ unfolding act_at
 act_left kind.Adopt on bytes n day are e = variant_left Adopt adoption _ adoption-exact bytes n are e
 act_left kind.Amend on bytes n day are e = variant_left Amend amendment _ amendment-exact bytes n are e
 act_left kind.Transfer on bytes n day are e = variant_left Transfer transfer _ transfer-exact bytes n are e
-act_left kind.Requisition on bytes n day are e = variant_left Requisition request _ request-exact bytes n are e
+act_left kind.Requisition on bytes n day are e = variant_left Requisition new_requisition _ new_requisition-exact bytes n are e
 act_left kind.Withdraw on bytes n day are e = variant_left Withdraw word _ word-exact bytes n are e
-act_left kind.Order on bytes n day are e = variant_left Order purchase _ purchase-exact bytes n are e
+act_left kind.Order on bytes n day are e = variant_left Order new_order _ new_order-exact bytes n are e
 act_left kind.ChangeOrder on bytes n day are e = variant_left ChangeOrder order_change _ order_change-exact bytes n are e
 act_left kind.CancelOrder on bytes n day are e = variant_left CancelOrder word _ word-exact bytes n are e
-act_left kind.Voucher on bytes n day are e = variant_left Voucher invoice _ invoice-exact bytes n are e
+act_left kind.Voucher on bytes n day are e = variant_left Voucher new_voucher _ new_voucher-exact bytes n are e
 act_left kind.VoidVoucher on bytes n day are e = variant_left VoidVoucher word _ word-exact bytes n are e
 act_left kind.Pay on bytes n day are e = variant_left Pay payment _ payment-exact bytes n are e
-act_left kind.Bill on bytes n day are e = variant_left Bill levy _ levy-exact bytes n are e
+act_left kind.Bill on bytes n day are e = variant_left Bill new_bill _ new_bill-exact bytes n are e
 act_left kind.Collect on bytes n day are e = variant_left Collect bill_amount _ bill_amount-exact bytes n are e
 act_left kind.Receive on bytes n day are e = variant_left Receive source_amount _ source_amount-exact bytes n are e
 act_left kind.WriteOff on bytes n day are e = variant_left WriteOff bill_amount _ bill_amount-exact bytes n are e

@@ -13,12 +13,12 @@ use Rattle.cf_calls.specs.declared.items.Charge.TheVariants.{Direct, OnOrder}
 use Rattle.cf_calls.specs.declared.items.Liquidation.TheVariants.{Lesser, Recorded, Final}
 use Rattle.cf_calls.specs.declared.entry.Drawn.{Drawn}
 use Rattle.cf_calls.specs.declared.entry.Entry.{Entry}
-use Rattle.cf_codec.specs.declared.kind.ActKind.{ActKind}
+use Rattle.cf_calls.specs.declared.kind.ActKind.{ActKind}
 use Rattle.cf_codec.specs.Formats.{Format, number_bytes, kept, each_bytes, each_size, list, field, ◌>>=◌, done}
 use Rattle.cf_codec.specs.Fields.{byte, half, word, flag, year, amount, most_amount}
 use Rattle.cf_codec.specs.Kinds.{kind_of, kind}
 use Rattle.cf_codec.specs.Fields.{key}
-use Rattle.cf_codec.specs.Acts.{line_amount, source_amount, account_item, charge, voucher_item, line_amounts, source_amounts, account_items, voucher_items, voucher_numbers, principals, adoption, request, optional, purchase, invoice, payment, issue, act_bytes, act_size, act_for}
+use Rattle.cf_codec.specs.Acts.{line_amount, source_amount, account_item, charge, voucher_item, line_amounts, source_amounts, account_items, voucher_items, voucher_numbers, principals, adoption, new_requisition, optional, new_order, new_voucher, payment, issue, act_bytes, act_size, act_for}
 use Rattle.cf_codec.specs.Entries.{drawn_for, on_for, entry, payload}
 
 record IsSized {A : Type 0} (f : Format A) : Type 0 where
@@ -103,16 +103,16 @@ adoption_sized =
     step_sized (λ a. a.lines) line_amounts _ (kept_sized _ _ (list_sized 0 4096 line_amount line_amount_sized)) (λ lines.
     step_sized (λ a. a.estimates) source_amounts _ (kept_sized _ _ (list_sized 0 256 source_amount source_amount_sized)) (λ estimates. done_sized _))))
 
-request_sized : IsSized request
-request_sized = step_sized (λ r. r.items) account_items _ (list_sized 1 32 account_item account_item_sized) (λ items. done_sized _)
+new_requisition_sized : IsSized new_requisition
+new_requisition_sized = step_sized (λ r. r.items) account_items _ (list_sized 1 32 account_item account_item_sized) (λ items. done_sized _)
 
-purchase_sized : IsSized purchase
-purchase_sized =
+new_order_sized : IsSized new_order
+new_order_sized =
     step_sized (λ p. p.vendor) word _ word_sized (λ vendor. step_sized (λ p. p.requisition) optional _ optional_sized (λ requisition.
     step_sized (λ p. p.items) account_items _ (list_sized 1 32 account_item account_item_sized) (λ items. done_sized _)))
 
-invoice_sized : IsSized invoice
-invoice_sized =
+new_voucher_sized : IsSized new_voucher
+new_voucher_sized =
     step_sized (λ i. i.vendor) word _ word_sized (λ vendor. step_sized (λ i. i.back) flag _ flag_sized (λ back.
     step_sized (λ i. i.items) voucher_items _ (kept_sized _ _ (list_sized 1 32 voucher_item voucher_item_sized)) (λ items. done_sized _)))
 
@@ -132,9 +132,9 @@ issue_sized on =
 act_sized : (on : Day) (a : Act) → length (act_bytes on a) ≡ act_size on a
 unfolding number_bytes act_bytes act_size
 act_sized on (Adopt a) = adoption_sized.len a
-act_sized on (Requisition r) = request_sized.len r
-act_sized on (Order p) = purchase_sized.len p
-act_sized on (Voucher i) = invoice_sized.len i
+act_sized on (Requisition r) = new_requisition_sized.len r
+act_sized on (Order p) = new_order_sized.len p
+act_sized on (Voucher i) = new_voucher_sized.len i
 act_sized on (Pay p) = payment_sized.len p
 act_sized on (Issue i) = (issue_sized on).len i
 act_sized on (Asset (Donate d)) = refl

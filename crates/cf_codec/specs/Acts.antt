@@ -6,12 +6,12 @@ use Rattle.cf_calls.specs.declared.acts.Act.TheVariants.{Adopt, Amend, Transfer,
 use Rattle.cf_calls.specs.declared.acts.Adoption.{Adoption}
 use Rattle.cf_calls.specs.declared.acts.Amendment.{Amendment}
 use Rattle.cf_calls.specs.declared.acts.LineTransfer.{LineTransfer}
-use Rattle.cf_calls.specs.declared.acts.Request.{Request}
-use Rattle.cf_calls.specs.declared.acts.Purchase.{Purchase}
+use Rattle.cf_calls.specs.declared.acts.NewRequisition.{NewRequisition}
+use Rattle.cf_calls.specs.declared.acts.NewOrder.{NewOrder}
 use Rattle.cf_calls.specs.declared.acts.OrderChange.{OrderChange}
-use Rattle.cf_calls.specs.declared.acts.Invoice.{Invoice}
+use Rattle.cf_calls.specs.declared.acts.NewVoucher.{NewVoucher}
 use Rattle.cf_calls.specs.declared.acts.Payment.{Payment}
-use Rattle.cf_calls.specs.declared.acts.Levy.{Levy}
+use Rattle.cf_calls.specs.declared.acts.NewBill.{NewBill}
 use Rattle.cf_calls.specs.declared.acts.BillAmount.{BillAmount}
 use Rattle.cf_calls.specs.declared.acts.AssetAct.{AssetAct}
 use Rattle.cf_calls.specs.declared.acts.AssetAct.TheVariants.{Donate, Dispose}
@@ -35,8 +35,8 @@ use Rattle.cf_calls.specs.declared.items.Charge.TheVariants.{Direct, OnOrder}
 use Rattle.cf_calls.specs.declared.items.Liquidation.{Liquidation}
 use Rattle.cf_calls.specs.declared.items.Liquidation.TheVariants.{Lesser, Recorded, Final}
 use Rattle.cf_calls.specs.Form.{is_distinct, is_period, month_number, same_line, same_source, same_number, same_order_item}
-use Rattle.cf_codec.specs.declared.kind.ActKind.{ActKind}
-use Rattle.cf_codec.specs.declared.kind.ActKind.TheVariants as kind
+use Rattle.cf_calls.specs.declared.kind.ActKind.{ActKind}
+use Rattle.cf_calls.specs.declared.kind.ActKind.TheVariants as kind
 use Rattle.cf_codec.specs.Formats.{Format, and_then, kept, list, field, ◌>>=◌, done}
 use Rattle.cf_codec.specs.Fields.{byte, half, word, one_of, flag, year, amount, most_amount, signed, month}
 use Rattle.cf_codec.specs.Kinds.{move_kind}
@@ -177,8 +177,8 @@ transfer = do
   amount ← field (λ t. t.amount) amount
   done (record { fund = fund; year = year; from = from; to = to; amount = amount })
 
-abbrev pub request : Format Request
-request = do
+abbrev pub new_requisition : Format NewRequisition
+new_requisition = do
   items ← field (λ r. r.items) account_items
   done (record { items = items })
 
@@ -194,8 +194,8 @@ optional = do
   is_there ← field is_some flag
   optional_by is_there
 
-abbrev pub purchase : Format Purchase
-purchase = do
+abbrev pub new_order : Format NewOrder
+new_order = do
   vendor ← field (λ p. p.vendor) word
   requisition ← field (λ p. p.requisition) optional
   items ← field (λ p. p.items) account_items
@@ -212,8 +212,8 @@ order_change = do
   by ← field (λ c. c.by) signed
   done (record { order = order; item = place; fund = fund; dept = dept; object = object; by = by })
 
-abbrev pub invoice : Format Invoice
-invoice = do
+abbrev pub new_voucher : Format NewVoucher
+new_voucher = do
   vendor ← field (λ i. i.vendor) word
   back ← field (λ i. i.back) flag
   items ← field (λ i. i.items) voucher_items
@@ -224,8 +224,8 @@ payment = do
   vouchers ← field (λ p. p.vouchers) voucher_numbers
   done (record { vouchers = vouchers })
 
-abbrev pub levy : Format Levy
-levy = do
+abbrev pub new_bill : Format NewBill
+new_bill = do
   source ← field (λ l. l.source) half
   levy_year ← field (λ l. l.levy_year) year
   payer ← field (λ l. l.payer) word
@@ -370,15 +370,15 @@ unfoldable pub act_bytes : Day → Act → List ℕ
 act_bytes on (Adopt a) = adoption.bytes a
 act_bytes on (Amend a) = amendment.bytes a
 act_bytes on (Transfer t) = transfer.bytes t
-act_bytes on (Requisition r) = request.bytes r
+act_bytes on (Requisition r) = new_requisition.bytes r
 act_bytes on (Withdraw n) = word.bytes n
-act_bytes on (Order p) = purchase.bytes p
+act_bytes on (Order p) = new_order.bytes p
 act_bytes on (ChangeOrder c) = order_change.bytes c
 act_bytes on (CancelOrder n) = word.bytes n
-act_bytes on (Voucher i) = invoice.bytes i
+act_bytes on (Voucher i) = new_voucher.bytes i
 act_bytes on (VoidVoucher n) = word.bytes n
 act_bytes on (Pay p) = payment.bytes p
-act_bytes on (Bill l) = levy.bytes l
+act_bytes on (Bill l) = new_bill.bytes l
 act_bytes on (Collect a) = bill_amount.bytes a
 act_bytes on (Receive a) = source_amount.bytes a
 act_bytes on (WriteOff a) = bill_amount.bytes a
@@ -393,15 +393,15 @@ unfoldable pub act_size : Day → Act → ℕ
 act_size on (Adopt a) = adoption.size a
 act_size on (Amend a) = amendment.size a
 act_size on (Transfer t) = transfer.size t
-act_size on (Requisition r) = request.size r
+act_size on (Requisition r) = new_requisition.size r
 act_size on (Withdraw n) = word.size n
-act_size on (Order p) = purchase.size p
+act_size on (Order p) = new_order.size p
 act_size on (ChangeOrder c) = order_change.size c
 act_size on (CancelOrder n) = word.size n
-act_size on (Voucher i) = invoice.size i
+act_size on (Voucher i) = new_voucher.size i
 act_size on (VoidVoucher n) = word.size n
 act_size on (Pay p) = payment.size p
-act_size on (Bill l) = levy.size l
+act_size on (Bill l) = new_bill.size l
 act_size on (Collect a) = bill_amount.size a
 act_size on (Receive a) = source_amount.size a
 act_size on (WriteOff a) = bill_amount.size a
@@ -416,15 +416,15 @@ unfoldable pub act_fits : Day → Act → Type 0
 act_fits on (Adopt a) = adoption.fits a
 act_fits on (Amend a) = amendment.fits a
 act_fits on (Transfer t) = transfer.fits t
-act_fits on (Requisition r) = request.fits r
+act_fits on (Requisition r) = new_requisition.fits r
 act_fits on (Withdraw n) = word.fits n
-act_fits on (Order p) = purchase.fits p
+act_fits on (Order p) = new_order.fits p
 act_fits on (ChangeOrder c) = order_change.fits c
 act_fits on (CancelOrder n) = word.fits n
-act_fits on (Voucher i) = invoice.fits i
+act_fits on (Voucher i) = new_voucher.fits i
 act_fits on (VoidVoucher n) = word.fits n
 act_fits on (Pay p) = payment.fits p
-act_fits on (Bill l) = levy.fits l
+act_fits on (Bill l) = new_bill.fits l
 act_fits on (Collect a) = bill_amount.fits a
 act_fits on (Receive a) = source_amount.fits a
 act_fits on (WriteOff a) = bill_amount.fits a
@@ -439,15 +439,15 @@ unfoldable pub act_at : ActKind → Day → List ℕ → Result (Act × List ℕ
 act_at kind.Adopt on bytes = made Adopt (adoption.read bytes)
 act_at kind.Amend on bytes = made Amend (amendment.read bytes)
 act_at kind.Transfer on bytes = made Transfer (transfer.read bytes)
-act_at kind.Requisition on bytes = made Requisition (request.read bytes)
+act_at kind.Requisition on bytes = made Requisition (new_requisition.read bytes)
 act_at kind.Withdraw on bytes = made Withdraw (word.read bytes)
-act_at kind.Order on bytes = made Order (purchase.read bytes)
+act_at kind.Order on bytes = made Order (new_order.read bytes)
 act_at kind.ChangeOrder on bytes = made ChangeOrder (order_change.read bytes)
 act_at kind.CancelOrder on bytes = made CancelOrder (word.read bytes)
-act_at kind.Voucher on bytes = made Voucher (invoice.read bytes)
+act_at kind.Voucher on bytes = made Voucher (new_voucher.read bytes)
 act_at kind.VoidVoucher on bytes = made VoidVoucher (word.read bytes)
 act_at kind.Pay on bytes = made Pay (payment.read bytes)
-act_at kind.Bill on bytes = made Bill (levy.read bytes)
+act_at kind.Bill on bytes = made Bill (new_bill.read bytes)
 act_at kind.Collect on bytes = made Collect (bill_amount.read bytes)
 act_at kind.Receive on bytes = made Receive (source_amount.read bytes)
 act_at kind.WriteOff on bytes = made WriteOff (bill_amount.read bytes)

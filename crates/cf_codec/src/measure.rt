@@ -33,15 +33,21 @@ fn act_len(on: Day, act: &Act) -> u64
         Act::Adopt(adoption) => adoption_len(adoption),
         Act::Amend(_) => 15,
         Act::Transfer(_) => 16,
-        Act::Requisition(request) => list_len::<AccountElement>(request.items.as_slice()),
+        Act::Requisition(new_requisition) => list_len::<AccountElement>(
+            new_requisition.items.as_slice(),
+        ),
         Act::Withdraw(_) => 4,
-        Act::Order(purchase) => {
-            let requisition = if purchase.requisition.is_some() { 5 } else { 1 };
-            4 + requisition + list_len::<AccountElement>(purchase.items.as_slice())
+        Act::Order(new_order) => {
+            let requisition = if new_order.requisition.is_some() {
+                5
+            } else {
+                1
+            };
+            4 + requisition + list_len::<AccountElement>(new_order.items.as_slice())
         }
         Act::ChangeOrder(_) => 21,
         Act::CancelOrder(_) => 4,
-        Act::Voucher(invoice) => 5 + list_len::<VoucherElement>(invoice.items.as_slice()),
+        Act::Voucher(new_voucher) => 5 + list_len::<VoucherElement>(new_voucher.items.as_slice()),
         Act::VoidVoucher(_) => 4,
         Act::Pay(payment) => list_len::<VoucherNumber>(payment.vouchers.as_slice()),
         Act::Bill(_) => 16,

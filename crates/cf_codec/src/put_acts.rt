@@ -16,8 +16,8 @@ use crate::put::{
 use cf_base::Day;
 use cf_calls::Act;
 use cf_calls::acts::{
-    Adoption, Amendment, AssetAct, BillAmount, BondIssue, DebtPayment, FundMove, Invoice, LeaveAct,
-    LeaveAmount, LeaveMaturity, Levy, LineTransfer, OrderChange, Period, Purchase,
+    Adoption, Amendment, AssetAct, BillAmount, BondIssue, DebtPayment, FundMove, LeaveAct,
+    LeaveAmount, LeaveMaturity, LineTransfer, NewBill, NewOrder, NewVoucher, OrderChange, Period,
 };
 
 fn put_adoption(out: &mut Vec<u8>, adoption: &Adoption)
@@ -65,14 +65,14 @@ fn put_optional(out: &mut Vec<u8>, number: Option<u32>)
     }
 }
 
-fn put_purchase(out: &mut Vec<u8>, purchase: &Purchase)
-    requires few { length purchase.now.items < 65536 }
-    requires room { HasRoom spec.purchase purchase.now out.old }
-    ensures { Puts spec.purchase purchase.now out.old out.new }
+fn put_new_order(out: &mut Vec<u8>, new_order: &NewOrder)
+    requires few { length new_order.now.items < 65536 }
+    requires room { HasRoom spec.new_order new_order.now out.old }
+    ensures { Puts spec.new_order new_order.now out.old out.new }
 {
-    put_word(out, purchase.vendor);
-    put_optional(out, purchase.requisition);
-    put_list::<AccountElement>(out, purchase.items.as_slice());
+    put_word(out, new_order.vendor);
+    put_optional(out, new_order.requisition);
+    put_list::<AccountElement>(out, new_order.items.as_slice());
 }
 
 fn put_order_change(out: &mut Vec<u8>, change: &OrderChange)
@@ -87,24 +87,24 @@ fn put_order_change(out: &mut Vec<u8>, change: &OrderChange)
     put_signed(out, change.by);
 }
 
-fn put_invoice(out: &mut Vec<u8>, invoice: &Invoice)
-    requires few { length invoice.now.items < 65536 }
-    requires room { HasRoom spec.invoice invoice.now out.old }
-    ensures { Puts spec.invoice invoice.now out.old out.new }
+fn put_new_voucher(out: &mut Vec<u8>, new_voucher: &NewVoucher)
+    requires few { length new_voucher.now.items < 65536 }
+    requires room { HasRoom spec.new_voucher new_voucher.now out.old }
+    ensures { Puts spec.new_voucher new_voucher.now out.old out.new }
 {
-    put_word(out, invoice.vendor);
-    put_flag(out, invoice.back);
-    put_list::<VoucherElement>(out, invoice.items.as_slice());
+    put_word(out, new_voucher.vendor);
+    put_flag(out, new_voucher.back);
+    put_list::<VoucherElement>(out, new_voucher.items.as_slice());
 }
 
-fn put_levy(out: &mut Vec<u8>, levy: &Levy)
-    requires { HasRoom spec.levy levy.now out.old }
-    ensures { Puts spec.levy levy.now out.old out.new }
+fn put_new_bill(out: &mut Vec<u8>, new_bill: &NewBill)
+    requires { HasRoom spec.new_bill new_bill.now out.old }
+    ensures { Puts spec.new_bill new_bill.now out.old out.new }
 {
-    put_half(out, levy.source);
-    put_half(out, levy.levy_year);
-    put_word(out, levy.payer);
-    put_long(out, levy.amount);
+    put_half(out, new_bill.source);
+    put_half(out, new_bill.levy_year);
+    put_word(out, new_bill.payer);
+    put_long(out, new_bill.amount);
 }
 
 fn put_bill_amount(out: &mut Vec<u8>, part: &BillAmount)
@@ -235,15 +235,18 @@ pub fn put_act(out: &mut Vec<u8>, on: Day, act: &Act)
         Act::Adopt(adoption) => put_adoption(out, adoption),
         Act::Amend(amendment) => put_amendment(out, amendment),
         Act::Transfer(transfer) => put_transfer(out, transfer),
-        Act::Requisition(request) => put_list::<AccountElement>(out, request.items.as_slice()),
+        Act::Requisition(new_requisition) => put_list::<AccountElement>(
+            out,
+            new_requisition.items.as_slice(),
+        ),
         Act::Withdraw(requisition) => put_word(out, *requisition),
-        Act::Order(purchase) => put_purchase(out, purchase),
+        Act::Order(new_order) => put_new_order(out, new_order),
         Act::ChangeOrder(change) => put_order_change(out, change),
         Act::CancelOrder(order) => put_word(out, *order),
-        Act::Voucher(invoice) => put_invoice(out, invoice),
+        Act::Voucher(new_voucher) => put_new_voucher(out, new_voucher),
         Act::VoidVoucher(voucher) => put_word(out, *voucher),
         Act::Pay(payment) => put_list::<VoucherNumber>(out, payment.vouchers.as_slice()),
-        Act::Bill(levy) => put_levy(out, levy),
+        Act::Bill(new_bill) => put_new_bill(out, new_bill),
         Act::Collect(part) => put_bill_amount(out, part),
         Act::Receive(receipt) => SourceElement::put(out, *receipt),
         Act::WriteOff(part) => put_bill_amount(out, part),

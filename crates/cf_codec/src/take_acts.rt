@@ -12,20 +12,19 @@ use crate::fault::Refused;
 use crate::items::{
     AccountElement, LineElement, Principal, SourceElement, VoucherElement, VoucherNumber,
 };
-use crate::kind::ActKind;
 use crate::lists::{Element, take_distinct, take_list};
 use crate::take::{
     faulty, or_faulty, take_amount, take_between, take_byte, take_flag, take_half, take_month,
     take_most_amount, take_move_kind, take_one_of, take_signed, take_word, take_year,
 };
 use cf_base::Day;
-use cf_calls::Act;
 use cf_calls::acts::{
     Adoption, Amendment, AssetAct, BillAmount, BondIssue, DebtPayment, Disposal, Donation,
-    FundMove, Invoice, LeaveAct, LeaveAmount, LeaveMaturity, Levy, LineTransfer, OrderChange,
-    Payment, Period, Purchase, Request,
+    FundMove, LeaveAct, LeaveAmount, LeaveMaturity, LineTransfer, NewBill, NewOrder,
+    NewRequisition, NewVoucher, OrderChange, Payment, Period,
 };
 use cf_calls::items::Principals;
+use cf_calls::{Act, ActKind};
 use std::alloc::Global;
 
 fn take_adoption(alloc: Global, bytes: &[u8]) -> Result<(Adoption, &[u8]), Refused>
@@ -86,11 +85,11 @@ fn take_transfer(bytes: &[u8]) -> Result<(LineTransfer, &[u8]), Refused>
     Ok((transfer, rest))
 }
 
-fn take_request(alloc: Global, bytes: &[u8]) -> Result<(Request, &[u8]), Refused>
-    ensures { Gives (λ x. (x.0, x.1.now)) result (spec.request.read bytes.now) }
+fn take_new_requisition(alloc: Global, bytes: &[u8]) -> Result<(NewRequisition, &[u8]), Refused>
+    ensures { Gives (λ x. (x.0, x.1.now)) result (spec.new_requisition.read bytes.now) }
 {
     let (items, rest) = take_list::<AccountElement>(alloc, 1, 32, bytes)?;
-    Ok((Request { items }, rest))
+    Ok((NewRequisition { items }, rest))
 }
 
 fn take_optional(bytes: &[u8]) -> Result<(Option<u32>, &[u8]), Refused>
@@ -104,18 +103,18 @@ fn take_optional(bytes: &[u8]) -> Result<(Option<u32>, &[u8]), Refused>
     Ok((Some(number), rest))
 }
 
-fn take_purchase(alloc: Global, bytes: &[u8]) -> Result<(Purchase, &[u8]), Refused>
-    ensures { Gives (λ x. (x.0, x.1.now)) result (spec.purchase.read bytes.now) }
+fn take_new_order(alloc: Global, bytes: &[u8]) -> Result<(NewOrder, &[u8]), Refused>
+    ensures { Gives (λ x. (x.0, x.1.now)) result (spec.new_order.read bytes.now) }
 {
     let (vendor, rest) = take_word(bytes)?;
     let (requisition, rest) = take_optional(rest)?;
     let (items, rest) = take_list::<AccountElement>(alloc, 1, 32, rest)?;
-    let purchase = Purchase {
+    let new_order = NewOrder {
         vendor,
         requisition,
         items,
     };
-    Ok((purchase, rest))
+    Ok((new_order, rest))
 }
 
 fn take_order_change(bytes: &[u8]) -> Result<(OrderChange, &[u8]), Refused>
@@ -140,18 +139,18 @@ fn take_order_change(bytes: &[u8]) -> Result<(OrderChange, &[u8]), Refused>
     Ok((change, rest))
 }
 
-fn take_invoice(alloc: Global, bytes: &[u8]) -> Result<(Invoice, &[u8]), Refused>
-    ensures { Gives (λ x. (x.0, x.1.now)) result (spec.invoice.read bytes.now) }
+fn take_new_voucher(alloc: Global, bytes: &[u8]) -> Result<(NewVoucher, &[u8]), Refused>
+    ensures { Gives (λ x. (x.0, x.1.now)) result (spec.new_voucher.read bytes.now) }
 {
     let (vendor, rest) = take_word(bytes)?;
     let (back, rest) = take_flag(rest)?;
     let (items, rest) = take_distinct::<VoucherElement>(alloc, 1, 32, rest)?;
-    let invoice = Invoice {
+    let new_voucher = NewVoucher {
         vendor,
         back,
         items,
     };
-    Ok((invoice, rest))
+    Ok((new_voucher, rest))
 }
 
 fn take_payment(alloc: Global, bytes: &[u8]) -> Result<(Payment, &[u8]), Refused>
@@ -161,20 +160,20 @@ fn take_payment(alloc: Global, bytes: &[u8]) -> Result<(Payment, &[u8]), Refused
     Ok((Payment { vouchers }, rest))
 }
 
-fn take_levy(bytes: &[u8]) -> Result<(Levy, &[u8]), Refused>
-    ensures { Gives (λ x. (x.0, x.1.now)) result (spec.levy.read bytes.now) }
+fn take_new_bill(bytes: &[u8]) -> Result<(NewBill, &[u8]), Refused>
+    ensures { Gives (λ x. (x.0, x.1.now)) result (spec.new_bill.read bytes.now) }
 {
     let (source, rest) = take_half(bytes)?;
     let (levy_year, rest) = take_year(rest)?;
     let (payer, rest) = take_word(rest)?;
     let (amount, rest) = take_amount(rest)?;
-    let levy = Levy {
+    let new_bill = NewBill {
         source,
         levy_year,
         payer,
         amount,
     };
-    Ok((levy, rest))
+    Ok((new_bill, rest))
 }
 
 fn take_bill_amount(bytes: &[u8]) -> Result<(BillAmount, &[u8]), Refused>
@@ -411,21 +410,21 @@ pub fn take_act(
         ActKind::Adopt => take_adoption(alloc, bytes).map(|(a, rest)| (Act::Adopt(a), rest)),
         ActKind::Amend => take_amendment(bytes).map(|(a, rest)| (Act::Amend(a), rest)),
         ActKind::Transfer => take_transfer(bytes).map(|(t, rest)| (Act::Transfer(t), rest)),
-        ActKind::Requisition => take_request(alloc, bytes).map(|(r, rest)| (
+        ActKind::Requisition => take_new_requisition(alloc, bytes).map(|(r, rest)| (
             Act::Requisition(r),
             rest,
         )),
         ActKind::Withdraw => take_word(bytes).map(|(n, rest)| (Act::Withdraw(n), rest)),
-        ActKind::Order => take_purchase(alloc, bytes).map(|(p, rest)| (Act::Order(p), rest)),
+        ActKind::Order => take_new_order(alloc, bytes).map(|(p, rest)| (Act::Order(p), rest)),
         ActKind::ChangeOrder => take_order_change(bytes).map(|(c, rest)| (
             Act::ChangeOrder(c),
             rest,
         )),
         ActKind::CancelOrder => take_word(bytes).map(|(n, rest)| (Act::CancelOrder(n), rest)),
-        ActKind::Voucher => take_invoice(alloc, bytes).map(|(i, rest)| (Act::Voucher(i), rest)),
+        ActKind::Voucher => take_new_voucher(alloc, bytes).map(|(i, rest)| (Act::Voucher(i), rest)),
         ActKind::VoidVoucher => take_word(bytes).map(|(n, rest)| (Act::VoidVoucher(n), rest)),
         ActKind::Pay => take_payment(alloc, bytes).map(|(p, rest)| (Act::Pay(p), rest)),
-        ActKind::Bill => take_levy(bytes).map(|(l, rest)| (Act::Bill(l), rest)),
+        ActKind::Bill => take_new_bill(bytes).map(|(l, rest)| (Act::Bill(l), rest)),
         ActKind::Collect => take_bill_amount(bytes).map(|(a, rest)| (Act::Collect(a), rest)),
         ActKind::Receive => SourceElement::take(bytes).map(|(r, rest)| (Act::Receive(r), rest)),
         ActKind::WriteOff => take_bill_amount(bytes).map(|(a, rest)| (Act::WriteOff(a), rest)),

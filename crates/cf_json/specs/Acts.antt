@@ -8,12 +8,12 @@ use Rattle.cf_calls.specs.declared.acts.Act.TheVariants.{Adopt, Amend, Transfer,
 use Rattle.cf_calls.specs.declared.acts.Adoption.{Adoption}
 use Rattle.cf_calls.specs.declared.acts.Amendment.{Amendment}
 use Rattle.cf_calls.specs.declared.acts.LineTransfer.{LineTransfer}
-use Rattle.cf_calls.specs.declared.acts.Request.{Request}
-use Rattle.cf_calls.specs.declared.acts.Purchase.{Purchase}
+use Rattle.cf_calls.specs.declared.acts.NewRequisition.{NewRequisition}
+use Rattle.cf_calls.specs.declared.acts.NewOrder.{NewOrder}
 use Rattle.cf_calls.specs.declared.acts.OrderChange.{OrderChange}
-use Rattle.cf_calls.specs.declared.acts.Invoice.{Invoice}
+use Rattle.cf_calls.specs.declared.acts.NewVoucher.{NewVoucher}
 use Rattle.cf_calls.specs.declared.acts.Payment.{Payment}
-use Rattle.cf_calls.specs.declared.acts.Levy.{Levy}
+use Rattle.cf_calls.specs.declared.acts.NewBill.{NewBill}
 use Rattle.cf_calls.specs.declared.acts.BillAmount.{BillAmount}
 use Rattle.cf_calls.specs.declared.acts.AssetAct.{AssetAct}
 use Rattle.cf_calls.specs.declared.acts.AssetAct.TheVariants.{Donate, Dispose}
@@ -29,8 +29,8 @@ use Rattle.cf_calls.specs.declared.acts.Period.TheVariants as period
 use Rattle.cf_calls.specs.declared.items.SourceAmount.{SourceAmount}
 use Rattle.cf_calls.specs.Form.{is_period, month_number}
 use Rattle.cf_json.specs.declared.fault.FormFault.{FormFault}
-use Rattle.cf_json.specs.declared.words.ChangeWord.{ChangeWord}
-use Rattle.cf_json.specs.declared.words.ChangeWord.TheVariants as word
+use Rattle.cf_calls.specs.declared.kind.ActKind.{ActKind}
+use Rattle.cf_calls.specs.declared.kind.ActKind.TheVariants as word
 use Rattle.cf_json.specs.declared.words.AssetWord.{AssetWord}
 use Rattle.cf_json.specs.declared.words.AssetWord.TheVariants as asset
 use Rattle.cf_json.specs.declared.words.LeaveWord.{LeaveWord}
@@ -69,13 +69,13 @@ transfer_of d = do
   amount ← field as_count (codes "amount") d
   Ok (record { fund = fund; year = year; from = from; to = to; amount = amount })
 
-abbrev pub request_of : Data → Result Request FormFault
-request_of d = do
+abbrev pub new_requisition_of : Data → Result NewRequisition FormFault
+new_requisition_of d = do
   items ← field as_account_items (codes "items") d
   Ok (record { items = items })
 
-abbrev pub purchase_of : Data → Result Purchase FormFault
-purchase_of d = do
+abbrev pub new_order_of : Data → Result NewOrder FormFault
+new_order_of d = do
   vendor ← field as_n32 (codes "vendor") d
   requisition ← optional as_n32 (codes "requisition") d
   items ← field as_account_items (codes "items") d
@@ -94,8 +94,8 @@ order_change_of d = do
   Ok (record { order = order; item = item; fund = fund; dept = dept; object = object; by = by })
 
 -- an absent `back` is false
-abbrev pub invoice_of : Data → Result Invoice FormFault
-invoice_of d = do
+abbrev pub new_voucher_of : Data → Result NewVoucher FormFault
+new_voucher_of d = do
   vendor ← field as_n32 (codes "vendor") d
   back ← optional as_bool (codes "back") d
   items ← field as_voucher_items (codes "items") d
@@ -106,8 +106,8 @@ payment_of d = do
   vouchers ← field as_vouchers (codes "vouchers") d
   Ok (record { vouchers = vouchers })
 
-abbrev pub levy_of : Data → Result Levy FormFault
-levy_of d = do
+abbrev pub new_bill_of : Data → Result NewBill FormFault
+new_bill_of d = do
   source ← field as_n16 (codes "source") d
   levy_year ← field as_year (codes "levy_year") d
   payer ← field as_n32 (codes "payer") d
@@ -211,19 +211,19 @@ abbrev pub period_of : Data → Result Period FormFault
 period_of d = field (as_word period_words) (codes "what") d >>= (λ what. period_by what d)
 
 -- the act of a changing call on a day
-abbrev pub act_of : ChangeWord → Day → Data → Result Act FormFault
+abbrev pub act_of : ActKind → Day → Data → Result Act FormFault
 act_of word.Adopt on d = adoption_of d >>= (λ a. Ok (Adopt a))
 act_of word.Amend on d = amendment_of d >>= (λ a. Ok (Amend a))
 act_of word.Transfer on d = transfer_of d >>= (λ t. Ok (Transfer t))
-act_of word.Requisition on d = request_of d >>= (λ r. Ok (Requisition r))
+act_of word.Requisition on d = new_requisition_of d >>= (λ r. Ok (Requisition r))
 act_of word.Withdraw on d = field as_n32 (codes "requisition") d >>= (λ n. Ok (Withdraw n))
-act_of word.Order on d = purchase_of d >>= (λ p. Ok (Order p))
+act_of word.Order on d = new_order_of d >>= (λ p. Ok (Order p))
 act_of word.ChangeOrder on d = order_change_of d >>= (λ c. Ok (ChangeOrder c))
 act_of word.CancelOrder on d = field as_n32 (codes "order") d >>= (λ n. Ok (CancelOrder n))
-act_of word.Voucher on d = invoice_of d >>= (λ i. Ok (Voucher i))
+act_of word.Voucher on d = new_voucher_of d >>= (λ i. Ok (Voucher i))
 act_of word.VoidVoucher on d = field as_n32 (codes "voucher") d >>= (λ n. Ok (VoidVoucher n))
 act_of word.Pay on d = payment_of d >>= (λ p. Ok (Pay p))
-act_of word.Bill on d = levy_of d >>= (λ l. Ok (Bill l))
+act_of word.Bill on d = new_bill_of d >>= (λ l. Ok (Bill l))
 act_of word.Collect on d = bill_amount_of d >>= (λ b. Ok (Collect b))
 act_of word.Receive on d = receipt_of d >>= (λ r. Ok (Receive r))
 act_of word.WriteOff on d = bill_amount_of d >>= (λ b. Ok (WriteOff b))

@@ -9,7 +9,7 @@ use Rattle.cf_calls.specs.declared.shown.LineNumbers.{LineNumbers}
 use Rattle.cf_calls.specs.declared.shown.OrderItemShown.{OrderItemShown}
 use Rattle.cf_calls.specs.declared.shown.ReconShown.{ReconShown}
 use Rattle.cf_calls.specs.declared.shown.RequisitionState.{RequisitionState}
-use Rattle.cf_calls.specs.declared.shown.RequisitionState.TheVariants as request
+use Rattle.cf_calls.specs.declared.shown.RequisitionState.TheVariants as requisition
 use Rattle.cf_calls.specs.declared.shown.ItemState.{ItemState}
 use Rattle.cf_calls.specs.declared.shown.ItemState.TheVariants as state
 use Rattle.cf_calls.specs.declared.shown.VoucherState.{VoucherState}
@@ -20,11 +20,11 @@ use Rattle.cf_calls.specs.declared.shown.Shown.{Shown}
 use Rattle.cf_calls.specs.declared.shown.Shown.TheVariants.{Line, Requisition, Order, Voucher, Bill, Asset, Bond, Leave, Account, Reconcile, Report}
 use Rattle.cf_json.specs.Objects.{fields, count, cents, signed_cents, day}
 
-abbrev pub request_word : RequisitionState → List ℕ
-request_word request.Open = codes "open"
-request_word request.Withdrawn = codes "withdrawn"
-request_word request.Ordered = codes "ordered"
-request_word request.Lapsed = codes "lapsed"
+abbrev pub requisition_word : RequisitionState → List ℕ
+requisition_word requisition.Open = codes "open"
+requisition_word requisition.Withdrawn = codes "withdrawn"
+requisition_word requisition.Ordered = codes "ordered"
+requisition_word requisition.Lapsed = codes "lapsed"
 
 abbrev pub item_word : ItemState → List ℕ
 item_word state.Live = codes "live"
@@ -69,7 +69,7 @@ row_data r = array (item (string r.label) (items_of (map signed_cents r.amounts)
 
 abbrev pub shown_data : Shown → Data
 shown_data (Line numbers) = line_data numbers
-shown_data (Requisition items state year) = fields ((codes "items", list_of line_amount_data items) ∷ (codes "state", string (request_word state)) ∷ (codes "year", count year) ∷ [])
+shown_data (Requisition items state year) = fields ((codes "items", list_of line_amount_data items) ∷ (codes "state", string (requisition_word state)) ∷ (codes "year", count year) ∷ [])
 shown_data (Order items vendor) = fields ((codes "items", list_of order_item_data items) ∷ (codes "vendor", count vendor) ∷ [])
 shown_data (Voucher amount state year) = fields ((codes "amount", cents amount) ∷ (codes "state", string (voucher_word state)) ∷ (codes "year", count year) ∷ [])
 shown_data (Bill left levy_year source) = fields ((codes "left", cents left) ∷ (codes "levy_year", count levy_year) ∷ (codes "source", count source) ∷ [])

@@ -11,15 +11,15 @@ use crate::fields::{may, must, need};
 use crate::items::{ChargedItem, LineItem, PlainItem, Principal, SourceItem, VoucherNumber};
 use crate::kinds::{By, Count, Flag, MonthText, N16, N32, Year};
 use crate::lists::list;
-use crate::words::{AssetWord, ChangeWord, LeaveWord, MoveWord, PeriodWord};
+use crate::words::{AssetWord, LeaveWord, MoveWord, PeriodWord};
 use cf_base::Day;
-use cf_calls::Act;
 use cf_calls::acts::{
     Adoption, Amendment, AssetAct, BillAmount, BondIssue, DebtPayment, Disposal, Donation,
-    FundMove, Invoice, LeaveAct, LeaveAmount, LeaveMaturity, Levy, LineTransfer, OrderChange,
-    Payment, Period, Purchase, Request,
+    FundMove, LeaveAct, LeaveAmount, LeaveMaturity, LineTransfer, NewBill, NewOrder,
+    NewRequisition, NewVoucher, OrderChange, Payment, Period,
 };
 use cf_calls::items::SourceAmount;
+use cf_calls::{Act, ActKind};
 use serde_json::Value;
 use std::alloc::Global;
 
@@ -74,22 +74,22 @@ fn transfer(alloc: Global, value: &Value) -> Result<LineTransfer, CallRefused>
     })
 }
 
-fn request(alloc: Global, value: &Value) -> Result<Request, CallRefused>
-    ensures answer { Gives result (spec.request_of (view value.now)) }
+fn new_requisition(alloc: Global, value: &Value) -> Result<NewRequisition, CallRefused>
+    ensures answer { Gives result (spec.new_requisition_of (view value.now)) }
     ensures form { IfOk result (λ r. IsCount 1 32 (length r.items)) }
 {
     let items = list::<PlainItem>(alloc, value, "items", 1, 32)?;
-    Ok(Request { items })
+    Ok(NewRequisition { items })
 }
 
-fn purchase(alloc: Global, value: &Value) -> Result<Purchase, CallRefused>
-    ensures answer { Gives result (spec.purchase_of (view value.now)) }
+fn new_order(alloc: Global, value: &Value) -> Result<NewOrder, CallRefused>
+    ensures answer { Gives result (spec.new_order_of (view value.now)) }
     ensures form { IfOk result (λ p. IsCount 1 32 (length p.items)) }
 {
     let vendor = need::<N32>(alloc, value, "vendor")?;
     let requisition = may::<N32>(alloc, value, "requisition")?;
     let items = list::<PlainItem>(alloc, value, "items", 1, 32)?;
-    Ok(Purchase {
+    Ok(NewOrder {
         vendor,
         requisition,
         items,
@@ -117,14 +117,14 @@ fn order_change(alloc: Global, value: &Value) -> Result<OrderChange, CallRefused
     })
 }
 
-fn invoice(alloc: Global, value: &Value) -> Result<Invoice, CallRefused>
-    ensures answer { Gives result (spec.invoice_of (view value.now)) }
+fn new_voucher(alloc: Global, value: &Value) -> Result<NewVoucher, CallRefused>
+    ensures answer { Gives result (spec.new_voucher_of (view value.now)) }
     ensures form { IfOk result (λ i. IsVoucherForm i.items) }
 {
     let vendor = need::<N32>(alloc, value, "vendor")?;
     let back = may::<Flag>(alloc, value, "back")?.unwrap_or(false);
     let items = list::<ChargedItem>(alloc, value, "items", 1, 32)?;
-    Ok(Invoice {
+    Ok(NewVoucher {
         vendor,
         back,
         items,
@@ -139,15 +139,15 @@ fn payment(alloc: Global, value: &Value) -> Result<Payment, CallRefused>
     Ok(Payment { vouchers })
 }
 
-fn levy(alloc: Global, value: &Value) -> Result<Levy, CallRefused>
-    ensures answer { Gives result (spec.levy_of (view value.now)) }
+fn new_bill(alloc: Global, value: &Value) -> Result<NewBill, CallRefused>
+    ensures answer { Gives result (spec.new_bill_of (view value.now)) }
     ensures form { IfOk result (λ l. IsYear l.levy_year) }
 {
     let source = need::<N16>(alloc, value, "source")?;
     let levy_year = need::<Year>(alloc, value, "levy_year")?;
     let payer = need::<N32>(alloc, value, "payer")?;
     let amount = need::<Count>(alloc, value, "amount")?;
-    Ok(Levy {
+    Ok(NewBill {
         source,
         levy_year,
         payer,
@@ -334,32 +334,32 @@ fn period(alloc: Global, value: &Value) -> Result<Period, CallRefused>
 }
 
 /// The act of a changing call on a day.
-pub fn act_of(alloc: Global, word: ChangeWord, on: Day, value: &Value) -> Result<Act, CallRefused>
+pub fn act_of(alloc: Global, word: ActKind, on: Day, value: &Value) -> Result<Act, CallRefused>
     ensures answer { Gives result (spec.act_of word on (view value.now)) }
     ensures form { IfOk result (IsActInForm on) }
 {
     match word {
-        ChangeWord::Adopt => Ok(Act::Adopt(adoption(alloc, value)?)),
-        ChangeWord::Amend => Ok(Act::Amend(amendment(alloc, value)?)),
-        ChangeWord::Transfer => Ok(Act::Transfer(transfer(alloc, value)?)),
-        ChangeWord::Requisition => Ok(Act::Requisition(request(alloc, value)?)),
-        ChangeWord::Withdraw => Ok(Act::Withdraw(need::<N32>(alloc, value, "requisition")?)),
-        ChangeWord::Order => Ok(Act::Order(purchase(alloc, value)?)),
-        ChangeWord::ChangeOrder => Ok(Act::ChangeOrder(order_change(alloc, value)?)),
-        ChangeWord::CancelOrder => Ok(Act::CancelOrder(need::<N32>(alloc, value, "order")?)),
-        ChangeWord::Voucher => Ok(Act::Voucher(invoice(alloc, value)?)),
-        ChangeWord::VoidVoucher => Ok(Act::VoidVoucher(need::<N32>(alloc, value, "voucher")?)),
-        ChangeWord::Pay => Ok(Act::Pay(payment(alloc, value)?)),
-        ChangeWord::Bill => Ok(Act::Bill(levy(alloc, value)?)),
-        ChangeWord::Collect => Ok(Act::Collect(bill_amount(alloc, value)?)),
-        ChangeWord::Receive => Ok(Act::Receive(receipt(alloc, value)?)),
-        ChangeWord::WriteOff => Ok(Act::WriteOff(bill_amount(alloc, value)?)),
-        ChangeWord::Asset => Ok(Act::Asset(asset_act(alloc, value)?)),
-        ChangeWord::Issue => Ok(Act::Issue(issue(alloc, on, value)?)),
-        ChangeWord::PayDue => Ok(Act::PayDue(debt_payment(alloc, value)?)),
-        ChangeWord::Leave => Ok(Act::Leave(leave_act(alloc, value)?)),
-        ChangeWord::Interfund => Ok(Act::Interfund(fund_move(alloc, value)?)),
-        ChangeWord::Close => Ok(Act::Close(period(alloc, value)?)),
+        ActKind::Adopt => Ok(Act::Adopt(adoption(alloc, value)?)),
+        ActKind::Amend => Ok(Act::Amend(amendment(alloc, value)?)),
+        ActKind::Transfer => Ok(Act::Transfer(transfer(alloc, value)?)),
+        ActKind::Requisition => Ok(Act::Requisition(new_requisition(alloc, value)?)),
+        ActKind::Withdraw => Ok(Act::Withdraw(need::<N32>(alloc, value, "requisition")?)),
+        ActKind::Order => Ok(Act::Order(new_order(alloc, value)?)),
+        ActKind::ChangeOrder => Ok(Act::ChangeOrder(order_change(alloc, value)?)),
+        ActKind::CancelOrder => Ok(Act::CancelOrder(need::<N32>(alloc, value, "order")?)),
+        ActKind::Voucher => Ok(Act::Voucher(new_voucher(alloc, value)?)),
+        ActKind::VoidVoucher => Ok(Act::VoidVoucher(need::<N32>(alloc, value, "voucher")?)),
+        ActKind::Pay => Ok(Act::Pay(payment(alloc, value)?)),
+        ActKind::Bill => Ok(Act::Bill(new_bill(alloc, value)?)),
+        ActKind::Collect => Ok(Act::Collect(bill_amount(alloc, value)?)),
+        ActKind::Receive => Ok(Act::Receive(receipt(alloc, value)?)),
+        ActKind::WriteOff => Ok(Act::WriteOff(bill_amount(alloc, value)?)),
+        ActKind::Asset => Ok(Act::Asset(asset_act(alloc, value)?)),
+        ActKind::Issue => Ok(Act::Issue(issue(alloc, on, value)?)),
+        ActKind::PayDue => Ok(Act::PayDue(debt_payment(alloc, value)?)),
+        ActKind::Leave => Ok(Act::Leave(leave_act(alloc, value)?)),
+        ActKind::Interfund => Ok(Act::Interfund(fund_move(alloc, value)?)),
+        ActKind::Close => Ok(Act::Close(period(alloc, value)?)),
     }
 }
 

@@ -25,8 +25,8 @@ use cf_calls::shown::{
 };
 use std::alloc::{AllocError, Global};
 
-fn request_word(state: RequisitionState) -> &'static str
-    ensures value { result.now ≡ spec.request_word state }
+fn requisition_word(state: RequisitionState) -> &'static str
+    ensures value { result.now ≡ spec.requisition_word state }
     ensures plain { list_all is_plain result.now ≡ true }
 {
     match state {
@@ -225,7 +225,7 @@ fn put_requisition(
 {
     put_first(alloc, out, "items", items)?;
     out.push(b',')?;
-    put_field(out, "state", &Word(request_word(state)))?;
+    put_field(out, "state", &Word(requisition_word(state)))?;
     out.push(b',')?;
     put_field(out, "year", &Number(year as u64))?;
     out.push(b'}')?;

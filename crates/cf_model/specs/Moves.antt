@@ -1,19 +1,19 @@
 -- What an act on documents moves of line numbers, item by item (own rule).
-use Rattle.std.specs.Prelude.{ℕ, if◌then◌else◌, ◌==◌, List, [], ◌∷◌, ◌++◌, Option, Some, None, map, ℤ, pos, ◌+ℤ◌, ◌-ℤ◌}
+use Rattle.std.specs.Prelude.{ℕ, ◌+◌, ◌&&◌, if◌then◌else◌, ◌==◌, List, [], ◌∷◌, ◌++◌, Option, Some, None, map, ℤ, pos, ◌+ℤ◌, ◌-ℤ◌}
 use Rattle.std.specs.List.{filter}
 use Rattle.cf_base.specs.declared.calendar.Day.{Day}
 use Rattle.cf_calls.specs.declared.acts.Act.{Act}
-use Rattle.cf_calls.specs.declared.acts.Act.TheVariants.{Requisition, Withdraw, Order, ChangeOrder, CancelOrder, Voucher, VoidVoucher}
+use Rattle.cf_calls.specs.declared.acts.Act.TheVariants.{Requisition, Withdraw, Order, ChangeOrder, CancelOrder, Voucher, VoidVoucher, Close}
 use Rattle.cf_calls.specs.declared.items.AccountItem.{AccountItem}
 use Rattle.cf_calls.specs.declared.items.VoucherItem.{VoucherItem}
 use Rattle.cf_calls.specs.declared.items.Charge.{Charge}
 use Rattle.cf_calls.specs.declared.items.Charge.TheVariants.{Direct, OnOrder}
 use Rattle.cf_chart.specs.Plan.{Plan}
-use Rattle.cf_model.specs.Calendar.{document_year}
-use Rattle.cf_model.specs.OrderItems.{OrderItem, open_of, is_named, item_named, item_step}
+use Rattle.cf_model.specs.Calendar.{document_year, rolls}
+use Rattle.cf_model.specs.OrderItems.{OrderItem, is_live, lapses, open_of, carried_of, is_named, item_named, item_step}
 use Rattle.cf_model.specs.Documents.{Hold, Expenditure, Documents, is_number}
 use Rattle.cf_calls.specs.declared.entry.Entry.{Entry}
-use Rattle.cf_model.specs.LineNumbers.{counts, held_amount, expended_amount, added_by, removed_by}
+use Rattle.cf_model.specs.LineNumbers.{counts, carried_sum, held_amount, expended_amount, added_by, removed_by}
 
 -- what one item moves of its account's line in a year
 pub record Move : Type 0 where
@@ -71,20 +71,39 @@ spent_by voucher expenditures = filter (λ x. x.voucher == voucher) expenditures
 abbrev pub releases : Option ℕ → List Hold → List Move
 releases requisition holds = map release_move (filter (λ h. is_number requisition h.requisition) holds)
 
--- the moves of an act that draws this number, in the order of its documents' items
-abbrev pub moves_of : Plan → Documents → ℕ → Day → Act → List Move
-moves_of plan s number on (Requisition r) = map (hold_move (document_year plan on (Requisition r))) r.items
-moves_of plan s number on (Withdraw n) = releases (Some n) s.holds
-moves_of plan s number on (Order o) = releases o.requisition s.holds ++ map (order_move (document_year plan on (Order o))) o.items
-moves_of plan s number on (ChangeOrder c) = map (item_move (item_step plan number (ChangeOrder c))) (filter (is_named c.order c.item) s.items)
-moves_of plan s number on (CancelOrder n) = map (item_move (item_step plan number (CancelOrder n))) (filter (λ i. i.order == n) s.items)
-moves_of plan s number on (Voucher v) =
+-- the hold of a requisition that the roll of its year finds open
+abbrev pub lapses_of : Plan → Act → List Hold → List Move
+lapses_of plan act holds = map release_move (filter (λ h. rolls plan h.year act) holds)
+
+-- what an item has open leaves its year with the year's roll, and is encumbered in the year after where it is carried
+abbrev pub roll_moves : Plan → Act → List OrderItem → List Move
+roll_moves plan act [] = []
+roll_moves plan act (i ∷ items) =
+    (if rolls plan i.year act && is_live i
+    then record { account = i.account; year = i.year; held = pos 0; encumbered = pos 0 -ℤ pos (open_of i); expended = pos 0 }
+    ∷ (if lapses plan i then [] else record { account = i.account; year = i.year + 1; held = pos 0; encumbered = pos (open_of i); expended = pos 0 } ∷ [])
+    else [])
+    ++ roll_moves plan act items
+
+-- the moves of an act on documents that draws this number, at most 64, in the order of its documents' items
+abbrev pub document_moves : Plan → Documents → ℕ → Day → Act → List Move
+document_moves plan s number on (Requisition r) = map (hold_move (document_year plan on (Requisition r))) r.items
+document_moves plan s number on (Withdraw n) = releases (Some n) s.holds
+document_moves plan s number on (Order o) = releases o.requisition s.holds ++ map (order_move (document_year plan on (Order o))) o.items
+document_moves plan s number on (ChangeOrder c) = map (item_move (item_step plan number (ChangeOrder c))) (filter (is_named c.order c.item) s.items)
+document_moves plan s number on (CancelOrder n) = map (item_move (item_step plan number (CancelOrder n))) (filter (λ i. i.order == n) s.items)
+document_moves plan s number on (Voucher v) =
     map (spend_move (document_year plan on (Voucher v))) v.items
     ++ map (charge_move (item_step plan number (Voucher v)) s.items (document_year plan on (Voucher v))) v.items
-moves_of plan s number on (VoidVoucher n) =
+document_moves plan s number on (VoidVoucher n) =
     map unspend_move (spent_by n s.expenditures)
     ++ map (reopen_move (item_step plan number (VoidVoucher n)) s.items) (spent_by n s.expenditures)
-moves_of plan s number on _ = []
+document_moves plan s number on _ = []
+
+-- the moves of an act: those of its documents, or those of the year that it rolls
+abbrev pub moves_of : Plan → Documents → ℕ → Day → Act → List Move
+moves_of plan s number on (Close p) = lapses_of plan (Close p) s.holds ++ roll_moves plan (Close p) s.items
+moves_of plan s number on act = document_moves plan s number on act
 
 -- what moves make of one number of a line and year
 abbrev pub moved_sum : (Move → ℤ) → Plan → ℕ → ℕ → List Move → ℤ
@@ -95,8 +114,12 @@ moved_sum f plan line year (m ∷ moves) = (if counts plan line year m.account m
 abbrev pub asks_of_moves : Plan → ℕ → ℕ → List Move → ℤ
 asks_of_moves plan line year moves = moved_sum (λ m. (m.held +ℤ m.encumbered) +ℤ m.expended) plan line year moves
 
+-- what an act carries into a line and year, over these documents
+abbrev pub carried_by : Plan → Documents → ℕ → ℕ → Act → ℕ
+carried_by plan s line year act = carried_sum plan line year (carried_of plan act s.items)
+
 -- what an entry asks of a line and year, over these documents
 abbrev pub asked_of : Plan → Documents → Entry → ℕ → ℕ → ℤ
 asked_of plan s e line year =
-    (pos (removed_by line year e.change.act) -ℤ pos (added_by line year e.change.act))
+    (pos (removed_by line year e.change.act) -ℤ pos (added_by line year e.change.act + carried_by plan s line year e.change.act))
     +ℤ asks_of_moves plan line year (moves_of plan s e.drawn.number e.change.on e.change.act)

@@ -3,16 +3,19 @@
 ghost use Rattle.std.specs.Prelude.{◌≡◌, ◌≤◌, ◌++◌, ◌∷◌, [], length, take, ℕ, IfOk, IfSome};
 ghost use Rattle.cf_calls.specs.declared.entry.Entry.{Entry};
 ghost use Rattle.cf_model.specs.LineNumbers.{HasRoom};
-ghost use Rattle.cf_model.specs.Step.{Adds, IsLegal, made_by};
+ghost use Rattle.cf_model.specs.Step.{Adds, IsLegal};
+ghost use Rattle.cf_model.specs.Registers.{registers_of};
+ghost use Rattle.cf_model.specs.Results.{made_of};
 ghost use Rattle.cf_office.specs.BookState.{IsPrepared};
 
 use crate::history::{History, Office};
 use crate::prepared::{Prepared, apply_lines, apply_rest, reserve};
+use crate::registers::Registers;
 use crate::rest::Rest;
+use cf_base::Day;
 use cf_budget::Lines;
 use cf_calls::{Basis, Change, Entry, LineNumbers, Made};
 use cf_chart::{Chart, LineId};
-use cf_orders::Orders;
 use std::alloc::{AllocError, Global};
 use std::marker::Model;
 
@@ -72,7 +75,7 @@ impl BookOffice {
         requires { (e : Entry) × IsPrepared self.old prepared e }
         ensures plan { self.new.plan ≡ self.old.plan }
         ensures entries { IfSome self.old.ready (λ e. self.new.entries ≡ self.old.entries ++ e ∷ []) }
-        ensures made { IfSome self.old.ready (λ e. result ≡ made_by e.drawn e.change.act) }
+        ensures made { IfSome self.old.ready (λ e. result ≡ made_of self.old.plan (registers_of self.old.plan self.old.entries) e) }
     {
         apply_lines(&mut self.lines, prepared.lines);
         apply_rest(&mut self.rest, prepared.rest)
@@ -108,8 +111,16 @@ impl History for BookOffice {
         self.rest.adopted(fund, year)
     }
 
-    fn orders(&self) -> &Orders {
-        self.rest.orders()
+    fn registers(&self) -> &Registers {
+        self.rest.registers()
+    }
+
+    fn is_closed(&self, on: Day) -> bool {
+        self.rest.is_closed(on)
+    }
+
+    fn open_year(&self) -> u16 {
+        self.rest.open_year()
     }
 
     fn balance(&self, basis: Basis, year: u16, fund: u16, account: u32) -> i128 {

@@ -10,12 +10,14 @@ ghost use Rattle.cf_model.specs.Documents.{documents_of};
 ghost use Rattle.cf_model.specs.LineNumbers as numbers;
 ghost use Rattle.cf_model.specs.Moves.{asks_of_moves};
 ghost use Rattle.cf_model.specs.Rules as spec;
+ghost use Rattle.cf_model.specs.Registers.{registers_of};
+ghost use Rattle.cf_model.specs.Results as results;
 ghost use Rattle.cf_model.specs.Step as step;
 ghost use Rattle.cf_orders.specs.Register.{IsSmall};
 ghost use Rattle.cf_office.specs.Least.{is_before as spec_is_before, lesser as spec_lesser, least_from, excess_at, excess_if as spec_excess_if, refusal_in};
 ghost use Rattle.cf_office.specs.Moved.{act_moves, IsCleared, IsMoveSmall, asks_of, asks_if as spec_asks_if};
 
-use crate::history::History;
+use crate::history::{History, orders_of};
 use cf_base::Day;
 use cf_calls::acts::{Amendment, LineTransfer};
 use cf_calls::items::AccountItem;
@@ -140,7 +142,7 @@ fn move_excess<H: History>(history: &H, on: Day, act: &Act, moved: &LineMove) ->
         .chart()
         .line_of(account.fund, account.dept, account.object)?
         .number;
-    let asked = moves_ask(history.chart(), history.orders(), on, act, line, year);
+    let asked = moves_ask(history.chart(), orders_of(history), on, act, line, year);
     let refusal = line_refusal(line, asked, history.numbers(line, year).room)?;
     Some(Excess {
         line,
@@ -156,7 +158,7 @@ fn least_excess<H: History>(history: &H, on: Day, act: &Act) -> Option<Excess>
         (λ line year. spec.overspends line (asks_of_moves (H.plan history.now) line year (act_moves (H.plan history.now) (documents_of (H.plan history.now) (H.entries history.now)) on act.now)) (numbers.room (H.plan history.now) line year (H.entries history.now)))
         (line_of (H.plan history.now) m.account.fund m.account.dept m.account.object) m.year) None (act_moves (H.plan history.now) (documents_of (H.plan history.now) (H.entries history.now)) on act.now) }
 {
-    let orders = history.orders();
+    let orders = orders_of(history);
     let mut best = None;
     for nth in 0..orders.moves(act) {
         let moved = orders.move_at(history.chart(), on, act, nth);
@@ -192,7 +194,7 @@ pub fn exceed_rule<H: History>(history: &H, change: &Change) -> Option<Refusal>
     requires built { step.is_built (H.plan history.now) change.now.act ≡ true }
     requires names { spec.name_refusal (H.plan history.now) (documents_of (H.plan history.now) (H.entries history.now)) change.now.act ≡ None }
     requires documents { document_refusal (H.plan history.now) (documents_of (H.plan history.now) (H.entries history.now)) change.now.on change.now.desk change.now.act ≡ None }
-    ensures { result ≡ spec.exceed_refusal (H.plan history.now) (H.entries history.now) (step.entry_with (documents_of (H.plan history.now) (H.entries history.now)) change.now) }
+    ensures { result ≡ spec.exceed_refusal (H.plan history.now) (H.entries history.now) (results.entry_with (registers_of (H.plan history.now) (H.entries history.now)) change.now) }
 {
     if let Some(amendment) = change.act.amendment() {
         return amendment_rule(history, amendment);

@@ -3,19 +3,27 @@
 ghost use Rattle.std.specs.Prelude.{◌≡◌, ◌<◌, true, None, IfOk};
 ghost use Rattle.cf_calls.specs.Form.{IsChangeInForm, IsReadInForm};
 ghost use Rattle.cf_model.specs.Documents.{documents_of};
+ghost use Rattle.cf_base.specs.Calendar.{is_day};
+ghost use Rattle.cf_model.specs.DocumentRules.{document_refusal};
 ghost use Rattle.cf_orders.specs.Register.{document_shown};
 ghost use Rattle.cf_model.specs.Rules as rules;
+ghost use Rattle.cf_model.specs.Results as results;
 ghost use Rattle.cf_model.specs.Step as step;
+ghost use Rattle.cf_model.proofs.OnlyDocuments.{document_made as spec_document_made};
 
 use crate::cash::cash_rule;
 use crate::exceeds::exceed_rule;
-use crate::history::History;
+use crate::history::{History, orders_of};
 use crate::names::name_rule;
+use crate::registers::Registers;
 use crate::rules::{
     adopted_rule, ahead_rule, amount_rule, closed_rule, desk_rule, full_rule, is_built, or,
     period_rule, role_rule, unadopted_rule, year_rule,
 };
-use cf_calls::{Act, Body, Change, Drawn, Look, Made, NameKind, Read, Refusal, Shown, Verdict};
+use cf_calls::{
+    Act, Body, Change, Drawn, Entry, Look, Made, NameKind, Read, Refusal, Shown, Verdict,
+};
+use cf_chart::Chart;
 use std::alloc::{AllocError, Global};
 
 /// The rules before a repeat: an unknown desk, and a caller that has seen more than the history has.
@@ -44,7 +52,7 @@ fn call_rules<H: History>(history: &H, change: &Change) -> Option<Refusal>
     if let Some(refusal) = amount_rule(chart, act) {
         return Some(refusal);
     }
-    or(name_rule(chart, history.orders(), act), None)
+    or(name_rule(chart, orders_of(history), act), None)
 }
 
 /// The rules of periods and adopted budgets.
@@ -67,6 +75,16 @@ fn period_rules<H: History>(history: &H, change: &Change) -> Option<Refusal>
     or(unadopted_rule(history, change.on, &change.act), None)
 }
 
+/// The first broken rule of the registers.
+fn register_rule<H: History>(history: &H, change: &Change) -> Option<Refusal>
+    requires { is_day change.now.on ≡ true }
+    ensures { result ≡ document_refusal (H.plan history.now) (documents_of (H.plan history.now) (H.entries history.now)) change.now.on change.now.desk change.now.act }
+{
+    history
+        .registers()
+        .check(history.chart(), change.on, change.desk, &change.act)
+}
+
 /// The rules on the states of documents, of room, and of cash.
 #[tactic(auto, using(cf_model::proofs::First::rule_lists))]
 fn last_rules<H: History>(history: &H, change: &Change) -> Option<Refusal>
@@ -75,8 +93,9 @@ fn last_rules<H: History>(history: &H, change: &Change) -> Option<Refusal>
     requires names { rules.name_refusal (H.plan history.now) (documents_of (H.plan history.now) (H.entries history.now)) change.now.act ≡ None }
     ensures { result ≡ rules.first_of (step.last_rules (H.plan history.now) (H.entries history.now) change.now) }
 {
-    let orders = history.orders();
-    if let Some(refusal) = orders.check(history.chart(), change.on, change.desk, &change.act) {
+    // So that the proof knows that the history is legal.
+    let _chart = history.chart();
+    if let Some(refusal) = register_rule(history, change) {
         return Some(refusal);
     }
     if let Some(refusal) = exceed_rule(history, change) {
@@ -119,7 +138,7 @@ fn judge_new<H: History>(history: &H, change: &Change) -> Verdict
 {
     match later_rules(history, change) {
         Some(refusal) => Verdict::Refuse(refusal),
-        None => Verdict::Accept(history.orders().draws(&change.act)),
+        None => Verdict::Accept(history.registers().draws(history.chart(), &change.act)),
     }
 }
 
@@ -152,9 +171,16 @@ pub fn judge<H: History>(history: &H, change: &Change) -> Verdict
     }
 }
 
-/// What an accepted change made.
-pub fn made_of(drawn: Drawn, act: &Act) -> Made
-    ensures { result ≡ step.made_by drawn act.now }
+/// What an accepted entry made, over the registers before it.
+pub(crate) fn made_of(chart: &Chart, registers: &Registers, entry: &Entry) -> Made
+    requires { step.is_built chart.now entry.now.change.act ≡ true }
+    ensures { result ≡ results.made_of chart.now registers.now.registers entry.now }
+{
+    document_made(entry.drawn, &entry.change.act)
+}
+
+fn document_made(drawn: Drawn, act: &Act) -> Made
+    ensures { result ≡ spec_document_made drawn act.now }
 {
     let number = drawn.number;
     match act {
@@ -183,6 +209,13 @@ fn show_line<H: History>(history: &H, line: u16, year: u16) -> Body
     }
 }
 
+/// What a look at a document shows, if there is one of its number.
+fn look_at<H: History>(alloc: Global, history: &H, read: &Read) -> Result<Option<Shown>, AllocError>
+    ensures { IfOk result (λ s. s ≡ document_shown (H.plan history.now) (documents_of (H.plan history.now) (H.entries history.now)) read.now) }
+{
+    history.registers().look(alloc, history.chart(), read)
+}
+
 /// What a look at a document shows, or that there is none of its number.
 fn show_document<H: History>(
     alloc: Global,
@@ -193,7 +226,7 @@ fn show_document<H: History>(
 ) -> Result<Body, AllocError>
     ensures { IfOk result (λ b. b ≡ step.or_refused kind number (document_shown (H.plan history.now) (documents_of (H.plan history.now) (H.entries history.now)) read.now)) }
 {
-    match history.orders().look(alloc, history.chart(), read)? {
+    match look_at(alloc, history, read)? {
         Some(shown) => Ok(Body::Shown(shown)),
         None => Ok(Body::Refused(Refusal::UnknownName { kind, id: number })),
     }

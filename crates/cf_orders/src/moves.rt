@@ -8,7 +8,7 @@ ghost use Rattle.cf_chart.specs.Plan.{Plan};
 ghost use Rattle.cf_model.specs.Documents.{is_number};
 ghost use Rattle.cf_model.specs.OrderItems.{is_named};
 ghost use Rattle.cf_model.specs.Moves as model;
-ghost use Rattle.cf_model.specs.Moves.{moves_of, spent_by};
+ghost use Rattle.cf_model.specs.Moves.{document_moves, spent_by};
 ghost use Rattle.cf_orders.specs.Register.{line_move, IsSmall};
 ghost use Rattle.cf_orders.specs.Rows as spec;
 ghost use Rattle.cf_orders.specs.Rows.{view_hold, view_charge};
@@ -153,7 +153,7 @@ pub fn spend_at(year: u16, items: &[VoucherItem], nth: usize) -> Option<LineMove
 impl Orders {
     /// How many moves an act has: at most 64 where it is in form.
     pub fn moves(&self, act: &Act) -> usize
-        ensures value { (plan : Plan) (number : ℕ) (on : Day) → result ≡ length (moves_of plan self.now.documents number on act.now) }
+        ensures value { (plan : Plan) (number : ℕ) (on : Day) → result ≡ length (document_moves plan self.now.documents number on act.now) }
         ensures few { (on : Day) → IsActInForm on act.now → result ≤ 64 }
     {
         match act {

@@ -56,14 +56,14 @@ pub struct FunctionAmount {
 
 /// A bill of a tax or a charge.
 #[derive(Clone, Copy)]
-pub struct Levy {
+pub struct NewBill {
     pub levy_year: u16,
     pub fund: u16,
     pub source: u16,
     pub amount: u64,
 }
 
-impl Levy {
+impl NewBill {
     pub(crate) fn at(&self) -> FundYear
         ensures { result ≡ record { year = self.now.levy_year; fund = self.now.fund } }
     {
@@ -153,11 +153,19 @@ pub struct FundsAmount {
     pub amount: u64,
 }
 
-/// An amount of the city as a whole.
+/// What is charged to a function for all assets.
 #[derive(Clone, Copy)]
-pub struct CityAmount {
+pub struct FunctionTotal {
     pub year: u16,
-    pub amount: u64,
+    pub function: u16,
+    pub amount: u128,
+}
+
+/// What is charged to the city as a whole for all bonds.
+#[derive(Clone, Copy)]
+pub struct CityTotal {
+    pub year: u16,
+    pub amount: u128,
 }
 
 /// A row of the posting table. Entries of other kinds have no posts. A voucher, a void and a payment of vouchers have a
@@ -172,7 +180,7 @@ pub enum Deed {
     /// An item of a voucher is paid, in the year of the payment.
     Pay(FundAmount),
     /// A tax or a charge is billed.
-    Bill(Levy),
+    Bill(NewBill),
     /// A bill is collected, whole or in part.
     Collect(Collection),
     /// Revenue that was not billed is received in cash.
@@ -200,7 +208,7 @@ pub enum Deed {
     /// One fund repays another.
     Repay(FundsAmount),
     /// A month's depreciation of a function.
-    Depreciate(FunctionAmount),
+    Depreciate(FunctionTotal),
     /// A month's interest of all bonds.
-    AccrueInterest(CityAmount),
+    AccrueInterest(CityTotal),
 }

@@ -50,7 +50,7 @@ pub fn debit(
     account: u32,
     amount: u128,
 ) -> Result<(), AllocError>
-    requires { amount < 2 ^ 66 }
+    requires { amount < 2 ^ 127 }
     ensures { OnOk result (posts.new.items ≡ posts.old.items ++ without_zeros (spec.debit at.year at.fund account amount ∷ [])) }
 {
     put(posts, at, account, amount as i128)
@@ -63,7 +63,7 @@ pub fn credit(
     account: u32,
     amount: u128,
 ) -> Result<(), AllocError>
-    requires { amount < 2 ^ 66 }
+    requires { amount < 2 ^ 127 }
     ensures { OnOk result (posts.new.items ≡ posts.old.items ++ without_zeros (spec.credit at.year at.fund account amount ∷ [])) }
 {
     put(posts, at, account, -(amount as i128))
@@ -81,6 +81,21 @@ pub fn double(
 {
     debit(posts, at, debited, u128::from(amount))?;
     credit(posts, at, credited, u128::from(amount))
+}
+
+/// The same, of a total over many documents.
+pub fn double_total(
+    posts: &mut Vec<Post>,
+    at: FundYear,
+    debited: u32,
+    credited: u32,
+    amount: u128,
+) -> Result<(), AllocError>
+    requires { amount < 2 ^ 127 }
+    ensures { OnOk result (posts.new.items ≡ posts.old.items ++ without_zeros (spec.double at.year at.fund debited credited amount)) }
+{
+    debit(posts, at, debited, amount)?;
+    credit(posts, at, credited, amount)
 }
 
 /// Adds a double entry with its signs turned.

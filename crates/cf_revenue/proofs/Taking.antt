@@ -12,9 +12,10 @@ use Rattle.cf_model.specs.Rules.{first_of, or_else, unknown_if}
 use Rattle.cf_model.specs.Calendar.{year_of_day}
 use Rattle.cf_revenue.specs.declared.rows.BillRow.{BillRow}
 use Rattle.cf_revenue.specs.declared.rows.SettlementRow.{SettlementRow}
-use Rattle.cf_revenue.specs.Recognition.{is_in_window, year_end, year_in, revenue_year}
-use Rattle.cf_revenue.specs.Receivables.{Bill, Settlement, Receivables, bill_at, collected_year, left_of, window_if}
-use Rattle.cf_revenue.specs.ReceivableRules.{receivable_refusal, over_bill, over_left}
+use Rattle.cf_base.specs.Windows.{is_in_window, year_end}
+use Rattle.cf_model.specs.Recognition.{year_in, revenue_year}
+use Rattle.cf_model.specs.Receivables.{Bill, Settlement, Receivables, bill_at, collected_year, left_of, window_if}
+use Rattle.cf_model.specs.ReceivableRules.{receivable_refusal, over_bill, over_left}
 use Rattle.cf_revenue.specs.Register.{IsBillLevied}
 use Rattle.cf_revenue.specs.RegisterView.{AreRows}
 use Rattle.cf_revenue.specs.Rows.{view_bill, view_bills, IsRow}

@@ -1,53 +1,13 @@
 //! When a collection is revenue.
 
-ghost use Rattle.std.specs.Prelude.{◌≡◌, ◌≤◌, ◌+◌, true};
-ghost use Rattle.cf_base.specs.Calendar.{is_day, month_of_day, next_day, year_of_month};
+ghost use Rattle.std.specs.Prelude.{◌≡◌, ◌≤◌, true};
+ghost use Rattle.cf_base.specs.Calendar.{is_day};
 ghost use Rattle.cf_calls.specs.Form.{IsCount, IsYear};
 ghost use Rattle.cf_model.specs.Calendar.{year_of_day};
-ghost use Rattle.cf_revenue.specs.Recognition as spec;
+ghost use Rattle.cf_model.specs.Recognition as spec;
 
-use cf_base::{Day, fiscal_year, month_of};
+use cf_base::{Day, fiscal_year, is_in_window, month_of, year_end};
 use cf_chart::Chart;
-use jiff_core::civil::days_in_month;
-
-/// The last day of a fiscal year, 1971 to 2199, where fiscal years begin with `first_month`.
-pub fn year_end(first_month: u8, year: u16) -> Day
-    requires month { IsCount 1 12 first_month }
-    requires year { IsYear year }
-    ensures value { result ≡ spec.year_end first_month year }
-    ensures day { is_day result ≡ true }
-
-    // It lies in the year, and the day after it in the next one.
-    ensures within { year_of_month first_month (month_of_day result) ≡ year }
-    ensures last { year_of_month first_month (month_of_day (next_day result)) ≡ year + 1 }
-{
-    let month = if first_month == 1 {
-        12
-    } else {
-        first_month - 1
-    };
-    Day {
-        year,
-        month,
-        day: days_in_month(year as i16, month),
-    }
-}
-
-/// The number of the last day of a window of so many days after a year's last day. Day 0 is 1970-01-01.
-pub fn window_end(year_end: Day, days: u16) -> i32
-    requires { is_day year_end ≡ true }
-    ensures { result ≡ spec.window_end year_end days }
-{
-    year_end.number() + i32::from(days)
-}
-
-fn is_in_window(last: Day, days: u16, day: Day) -> bool
-    requires last { is_day last ≡ true }
-    requires day { is_day day ≡ true }
-    ensures { result ≡ spec.is_in_window last days day }
-{
-    last.number() < day.number() && day.number() <= window_end(last, days)
-}
 
 /// The fiscal year that a collection is revenue of: the levy year, where the day lies in it or at most `window`
 /// days after its last day, and else the day's fiscal year (own rule). It takes no memory.

@@ -2,8 +2,9 @@
 
 ghost use Rattle.std.specs.Prelude.{◌≡◌, ◌≤◌, ◌-ℤ◌, pos, true, option_map, MatchOption, None, length};
 ghost use Rattle.cf_base.specs.Calendar.{is_day};
-ghost use Rattle.cf_revenue.specs.Receivables as spec;
-ghost use Rattle.cf_revenue.specs.Receivables.{no_receivables, bill_at, window_if};
+ghost use Rattle.cf_model.specs.Results.{bill_draws};
+ghost use Rattle.cf_model.specs.Receivables as spec;
+ghost use Rattle.cf_model.specs.Receivables.{no_receivables, bill_at, window_if};
 ghost use Rattle.cf_revenue.specs.ReceivablesShown.{bill_now_at, bill_shown};
 ghost use Rattle.cf_revenue.specs.Steps.{ShowsBill};
 ghost use Rattle.cf_chart.specs.Plan.{source_at};
@@ -139,7 +140,7 @@ impl Revenue {
 
     /// The numbers that an act draws: the next bill's, from 1.
     pub fn draws(&self, act: &Act) -> Drawn
-        ensures { result ≡ spec.draws self.now.receivables act.now }
+        ensures { result ≡ bill_draws self.now.receivables act.now }
     {
         let number = match act {
             Act::Bill(_) => self.bills.len() as u32 + 1,

@@ -5,8 +5,8 @@ ghost use Rattle.std.specs.Vec.{vec_capacity};
 ghost use Rattle.cf_base.specs.Calendar.{is_day};
 ghost use Rattle.cf_calls.specs.Form.{IsYear};
 ghost use Rattle.cf_calls.specs.declared.acts.Act.TheVariants as act;
-ghost use Rattle.cf_revenue.specs.Receivables.{bills_by, settlements_by, loans_by, repayments_by, owed};
-ghost use Rattle.cf_revenue.specs.ReceivableRules.{receivable_refusal, over_loan};
+ghost use Rattle.cf_model.specs.Receivables.{bills_by, settlements_by, loans_by, repayments_by, owed};
+ghost use Rattle.cf_model.specs.ReceivableRules.{receivable_refusal, over_loan};
 ghost use Rattle.cf_revenue.specs.Register.{IsBillLevied, HasRoomToMove, HasRoomToLend, HasRoomToRepay};
 ghost use Rattle.cf_revenue.specs.Rows.{view_loan, view_settlement};
 ghost use Rattle.cf_revenue.specs.Steps.{CanSettle, lowered};
@@ -18,7 +18,7 @@ use crate::revenue::Revenue;
 use crate::rows::{BillRow, LoanRow, SettlementRow};
 use crate::years::add_in;
 use cf_base::Day;
-use cf_calls::acts::{BillAmount, FundMove, FundMoveKind, Levy};
+use cf_calls::acts::{BillAmount, FundMove, FundMoveKind, NewBill};
 use cf_chart::Chart;
 
 impl Revenue {
@@ -32,7 +32,7 @@ impl Revenue {
     }
 
     /// Enters a bill.
-    pub(crate) fn enter_bill(&mut self, number: u32, levy: &Levy)
+    pub(crate) fn enter_bill(&mut self, number: u32, levy: &NewBill)
         requires number { number ≡ length self.old.receivables.bills + 1 }
         requires year { IsYear levy.now.levy_year }
         requires amount { levy.now.amount ≤ 10000000000000 }

@@ -56,12 +56,9 @@ fn keep_desk<I: Source, O: Sink, D: Disk + Drop>(
     ensures silent { result.0 ≡ ended.NoMemory → Consumes (I.left input.old) (I.left input.new) [] × (O.held out.new ≡ O.held out.old) × (result.1 ≡ book.disk) }
     ensures read { result.0 ≡ ended.ReadFault → Rose (I.faults input.old) (I.faults input.new) }
     ensures write { result.0 ≡ ended.WriteFault → Rose (O.faults out.old) (O.faults out.new) }
+    ensures memory { result.0 ≡ ended.NoMemory → (I.faults input.new ≡ I.faults input.old) × (O.faults out.new ≡ O.faults out.old) }
 {
-    let mut clerk = Clerk {
-        alloc,
-        book,
-        accepted: false,
-    };
+    let mut clerk = Clerk { alloc, book };
     let how = run_lines(alloc, &mut clerk, input, out);
     // The office says of its entries what the run hands on.
     let _sound = clerk.book.office.entries();
@@ -82,6 +79,8 @@ fn desk_over<I: Source, O: Sink, D: Disk + Drop>(
     ensures read { result.status ≡ Status.ReadFault → Rose (I.faults input.old) (I.faults input.new) }
     ensures write { result.status ≡ Status.WriteFault → Rose (O.faults out.old) (O.faults out.new) }
     ensures disk { result.status ≡ Status.DiskFault → Rose (D.faults disk) (D.faults result.disk) }
+    ensures memory { result.status ≡ Status.NoMemory → (I.faults input.new ≡ I.faults input.old) × (O.faults out.new ≡ O.faults out.old)
+        × (D.faults result.disk ≡ D.faults disk) }
 {
     match open(alloc, disk) {
         Ok(book) => {
@@ -115,6 +114,8 @@ pub fn run_desk<I: Source, O: Sink, D: Disk + Drop>(
     ensures read { result.status ≡ Status.ReadFault → Rose (I.faults input.old) (I.faults input.new) }
     ensures write { result.status ≡ Status.WriteFault → Rose (O.faults out.old) (O.faults out.new) }
     ensures disk { result.status ≡ Status.DiskFault → Rose (D.faults disk) (D.faults result.disk) }
+    ensures memory { result.status ≡ Status.NoMemory → (I.faults input.new ≡ I.faults input.old) × (O.faults out.new ≡ O.faults out.old)
+        × (D.faults result.disk ≡ D.faults disk) }
 {
     match read_words(words) {
         Ok(Command::Desk) => desk_over(alloc, input, out, disk),

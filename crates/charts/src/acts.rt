@@ -4,8 +4,8 @@ use crate::told::{Told, told_list, told_number};
 use cf_calls::Act;
 use cf_calls::acts::{
     Adoption, Amendment, AssetAct, BillAmount, BondIssue, DebtPayment, FundMove, FundMoveKind,
-    Invoice, LeaveAct, LeaveAmount, Levy, LineTransfer, OrderChange, Payment, Period, Purchase,
-    Request,
+    LeaveAct, LeaveAmount, LineTransfer, NewBill, NewOrder, NewRequisition, NewVoucher,
+    OrderChange, Payment, Period,
 };
 use std::alloc::{AllocError, Global};
 
@@ -38,19 +38,19 @@ impl Told for LineTransfer {
     }
 }
 
-impl Told for Request {
+impl Told for NewRequisition {
     fn told(&self, alloc: Global) -> Result<String, AllocError> {
         let items = told_list(alloc, self.items.as_slice())?;
-        format!(in alloc; "Request {{ items: {items} }}")
+        format!(in alloc; "NewRequisition {{ items: {items} }}")
     }
 }
 
-impl Told for Purchase {
+impl Told for NewOrder {
     fn told(&self, alloc: Global) -> Result<String, AllocError> {
         let requisition = told_number(alloc, self.requisition.map(u64::from))?;
         let items = told_list(alloc, self.items.as_slice())?;
         format!(in alloc;
-            "Purchase {{ vendor: {}, requisition: {requisition}, items: {items} }}",
+            "NewOrder {{ vendor: {}, requisition: {requisition}, items: {items} }}",
             self.vendor
         )
     }
@@ -65,11 +65,11 @@ impl Told for OrderChange {
     }
 }
 
-impl Told for Invoice {
+impl Told for NewVoucher {
     fn told(&self, alloc: Global) -> Result<String, AllocError> {
         let items = told_list(alloc, self.items.as_slice())?;
         format!(in alloc;
-            "Invoice {{ vendor: {}, back: {}, items: {items} }}",
+            "NewVoucher {{ vendor: {}, back: {}, items: {items} }}",
             self.vendor, self.back
         )
     }
@@ -82,10 +82,10 @@ impl Told for Payment {
     }
 }
 
-impl Told for Levy {
+impl Told for NewBill {
     fn told(&self, alloc: Global) -> Result<String, AllocError> {
         format!(in alloc;
-            "Levy {{ source: {}, levy_year: {}, payer: {}, amount: {} }}",
+            "NewBill {{ source: {}, levy_year: {}, payer: {}, amount: {} }}",
             self.source, self.levy_year, self.payer, self.amount
         )
     }
