@@ -58,14 +58,35 @@ fn image(stage: &Stage, tears: [Tear; 2]) -> Result<Vec<u8>, AllocError> {
 /// Adds what desks say over an image: one that runs on, and those whose disk stops in opening.
 fn add_said(
     stage: &Stage,
-    tears: [Tear; 2],
+    image: &[u8],
     whole: &mut Texts,
     stopped: &mut Texts,
 ) -> Result<(), AllocError> {
-    let image = image(stage, tears)?;
-    whole.add(said_over(stage, image.as_slice(), 0)?)?;
+    whole.add(said_over(stage, image, 0)?)?;
     for stop in 1..6 {
-        stopped.add(said_over(stage, image.as_slice(), stop)?)?;
+        stopped.add(said_over(stage, image, stop)?)?;
+    }
+    Ok(())
+}
+
+/// The images that a crash at the end of the last run may leave, each of them once.
+fn images(stage: &Stage) -> Result<Vec<Vec<u8>>, AllocError> {
+    let mut images = Vec::new(stage.alloc);
+    for tear in TEARS {
+        for next in TEARS {
+            add_image(&mut images, image(stage, [tear, next])?)?;
+        }
+    }
+    Ok(images)
+}
+
+/// Adds an image that isn't among them.
+fn add_image(images: &mut Vec<Vec<u8>>, image: Vec<u8>) -> Result<(), AllocError> {
+    if !images
+        .iter()
+        .any(|other| other.as_slice() == image.as_slice())
+    {
+        images.push(image)?;
     }
     Ok(())
 }
@@ -85,10 +106,8 @@ pub fn show_tears(rt: &impl Print, stage: &mut Stage) -> io::Result<()> {
     let mut stopped = Texts {
         texts: Vec::new(stage.alloc),
     };
-    for tear in TEARS {
-        for next in TEARS {
-            add_said(stage, [tear, next], &mut whole, &mut stopped)?;
-        }
+    for image in &images(stage)? {
+        add_said(stage, image.as_slice(), &mut whole, &mut stopped)?;
     }
     stage.lines.clear();
     show_texts(rt, "=", &whole)?;
