@@ -1,0 +1,4 @@
+pub mod Fields
+pub mod Routes
+pub mod Heads
+pub mod Answers
