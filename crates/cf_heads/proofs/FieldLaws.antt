@@ -1,14 +1,14 @@
 -- Laws of what the fields of a head say.
-use Rattle.std.proofs.Common.{eqb, ◌≡◌, ◌≢◌, ◌+◌, ◌*◌, ◌<◌, ◌≤◌, ℕ, suc, List, [], ◌∷◌, ◌++◌, Bool, true, false, length, All, Option, Some, None, Result, Ok, Err, nat_le, nat_lt, ◌==◌, ◌&&◌, not, codes, if◌then◌else◌, arith, subst, refl, sym, ap, ◌∙◌, ◌||◌, take, drop, slice_index, drop-cons}
+use Rattle.std.proofs.Common.{eqb, ◌≡◌, ◌≢◌, ◌+◌, ◌*◌, ◌<◌, ◌≤◌, ℕ, suc, List, [], ◌∷◌, ◌++◌, Bool, true, false, length, Some, None, Result, Ok, Err, nat_le, nat_lt, ◌==◌, ◌&&◌, not, codes, if◌then◌else◌, arith, subst, refl, sym, ap, ◌∙◌, take, drop, slice_index, drop-cons}
 use Rattle.std.specs.Bool.{⊤}
-use Rattle.std.specs.List.{list_any, position_or_len, before_first, after_first}
+use Rattle.std.specs.List.{position_or_len, before_first, after_first}
 use Rattle.std.specs.Str.Parse.{digits_value, digits_value_after}
 use Rattle.std.specs.Char.{digit_value}
 use Rattle.std.proofs.lemmas.Option.{none-some}
 use Rattle.std.proofs.lemmas.Bool.{leb-true}
 use Rattle.std.proofs.lemmas.List.{take-append-drop}
 use Rattle.std.proofs.lemmas.List.Elements.{All-head, All-tail}
-use Rattle.cf_heads.specs.Fields.{Fields, values_of, body_length, is_number, put_front, parts, stated_length, first_value, HasNone}
+use Rattle.cf_heads.specs.Fields.{Fields, values_of, body_length, is_number, parts, stated_length, first_value, HasNone}
 use Rattle.cf_heads.specs.declared.fields.Refusal.{Refusal}
 use Rattle.cf_heads.specs.declared.fields.Refusal.TheVariants.{Head, Coding, Long}
 
@@ -62,7 +62,7 @@ abbrev OnlyErr : {A E : Type 0} → Result A E → Type 0
 OnlyErr (Ok a) = ⊥
 OnlyErr (Err e) = ⊤
 
-err_no_ok : {A E : Type 0} (e : E) (a : A) → ◌≡◌ {A = Result A E} (Err e) (Ok a) → ⊥
+pub err_no_ok : {A E : Type 0} (e : E) (a : A) → ◌≡◌ {A = Result A E} (Err e) (Ok a) → ⊥
 err_no_ok e a h = subst OnlyErr h tt
 
 abbrev number_of : Result ℕ Refusal → ℕ

@@ -1,15 +1,14 @@
 -- Laws of the heads of requests.
-use Rattle.std.proofs.Common.{◌≡◌, ◌⊎◌, ◌+◌, ◌-◌, ◌<◌, ◌≤◌, ℕ, List, [], ◌∷◌, ◌++◌, map, length, take, drop, min, Option, Some, None, arith, refl, sym, ap, ◌∙◌, subst, inr, append_assoc, length-append, length-take, length-drop}
-use Rattle.std.specs.Option.{option_copied}
+use Rattle.std.proofs.Common.{◌≡◌, ◌+◌, ◌<◌, ◌≤◌, ℕ, List, ◌++◌, length, take, drop, min, arith, sym, ap, ◌∙◌, subst, inr, append_assoc, length-append, length-take, length-drop}
 use Rattle.std.proofs.lemmas.List.{take-append-drop, take-append-le, take_all, length-map}
 use Rattle.std.proofs.Math.Nat.{lt_of_not-le}
 use Rattle.std.proofs.Math.Seq.{take-append_seam}
 use Rattle.httparse.specs.Borrowed.{header_parts, AreFields}
-use Rattle.httparse.specs.Grammar.{RequestHead, print_request, IsRequestHead, ReadsRequest, HasNoRequest, MayBecomeRequest}
+use Rattle.httparse.specs.Grammar.{RequestHead, print_request, ReadsRequest, HasNoRequest, MayBecomeRequest}
 use Rattle.httparse.specs.Spans.{name_and_value, RequestOverflows}
 use Rattle.httparse.specs.declared.borrowed.Header.{Header}
-use Rattle.httparse.proofs.GrammarLemmas.{request_unique, request_prefix_free, ReadsRequest-append}
-use Rattle.cf_heads.specs.Heads.{IsHead, IsTooLong, IsNoHead, IsOpenHead, BeginsWithHead}
+use Rattle.httparse.proofs.GrammarLemmas.{request_prefix_free, ReadsRequest-append}
+use Rattle.cf_heads.specs.Heads.{IsTooLong, IsNoHead, IsOpenHead, BeginsWithHead}
 use Rattle.cf_heads.specs.declared.head.Heading.{Heading}
 
 -- as many fields as headers

@@ -1,5 +1,5 @@
 -- What the fields of a head say. A field is its name and its value, without the white space around it.
-use Rattle.std.specs.Prelude.{◌≡◌, ◌≢◌, All, Option, Some, None, take, drop, ℕ, List, [], ◌∷◌, Bool, not, ◌&&◌, length, map, codes, if◌then◌else◌, ◌==◌, nat_le, nat_lt, Result, Ok, Err}
+use Rattle.std.specs.Prelude.{◌≢◌, All, Option, Some, None, take, drop, ℕ, List, [], ◌∷◌, Bool, not, ◌&&◌, length, map, codes, if◌then◌else◌, ◌==◌, nat_le, nat_lt, Result, Ok, Err}
 use Rattle.std.specs.List.{filter, list_any, list_all}
 use Rattle.std.specs.Char.{is_ascii_digit}
 use Rattle.std.specs.Str.{str_eq_ignore_ascii_case}

@@ -1,5 +1,5 @@
 -- Where requests go.
-use Rattle.std.specs.Prelude.{◌≡◌, MatchOption, ℕ, List, [], ◌∷◌, Bool, ◌&&◌, length, codes, if◌then◌else◌, ◌==◌, nat_le, Option, Some, None, Result, Ok, Err}
+use Rattle.std.specs.Prelude.{◌≡◌, ◌≤◌, ⊤, MatchOption, ℕ, List, [], ◌∷◌, ◌&&◌, length, codes, if◌then◌else◌, ◌==◌, nat_le, Option, Some, None, Result, Ok, Err}
 use Rattle.std.specs.Borrow.{Bor}
 use Rattle.std.specs.List.{before_first}
 use Rattle.std.specs.Option.{option_and_then, option_map}
@@ -83,3 +83,19 @@ ask_of method target = ask_by method (route_of (path_of target))
 -- a path is split at its first slash, if it has one
 abbrev pub IsSplit : List ℕ → Option (Bor (List ℕ) × Bor (List ℕ)) → Type 0
 IsSplit path r = MatchOption r (words_of path ≡ path ∷ []) (λ x. words_of path ≡ x.0.now ∷ words_of x.1.now)
+
+-- these two words are given
+abbrev pub HasTwoWords : List ℕ → List ℕ → Option (Bor (List ℕ) × Bor (List ℕ)) → Type 0
+HasTwoWords b c None = ⊥
+HasTwoWords b c (Some x) = (x.0.now ≡ b) × (x.1.now ≡ c)
+
+-- a fiscal year that can be looked at
+pub record IsLookYear (year : ℕ) : Type 0 where
+  pub least : 1971 ≤ year
+  pub most : year ≤ 2199
+
+-- what a route names is in range
+abbrev pub IsRouteInForm : Route → Type 0
+IsRouteInForm Calls = ⊤
+IsRouteInForm (Line line year) = (line ≤ 65535) × IsLookYear year
+IsRouteInForm (Report year kind) = IsLookYear year

@@ -6,7 +6,8 @@ ghost use Rattle.httparse.specs.Borrowed.{header_parts};
 ghost use Rattle.cf_heads.specs.Heads.{heading_by, IsFront, IsShortFront};
 
 use crate::fields::{Refusal, is_closing, length_of_body};
-use crate::route::{Miss, Route, ask_in};
+use crate::route::{Miss, Route};
+use crate::router::Routes;
 use httparse::{EMPTY_HEADER, Header, Status};
 
 /// The most bytes of a head.
@@ -42,6 +43,7 @@ pub enum Front {
 
 /// What a head asks for, by its parts.
 fn heading_in(
+    routes: &Routes,
     length: usize,
     method: &str,
     target: &str,
@@ -55,12 +57,12 @@ fn heading_in(
         is_head: method == "HEAD",
         closes: minor == 0 || is_closing(headers),
         body: length_of_body(minor, headers),
-        ask: ask_in(method, target),
+        ask: routes.ask_in(method, target),
     }
 }
 
 /// What stands at the front of a text of at most 16,384 bytes.
-fn read_short(text: &[u8]) -> Front
+fn read_short(routes: &Routes, text: &[u8]) -> Front
     requires { length text.now ≤ 16384 }
     ensures { IsShortFront text.now result }
 {
@@ -72,7 +74,7 @@ fn read_short(text: &[u8]) -> Front
                 if request.headers.len() > MOST_FIELDS {
                     return Front::NoHead;
                 }
-                Front::Head(heading_in(length, method, target, minor, request.headers))
+                Front::Head(heading_in(routes, length, method, target, minor, request.headers))
             }
             _ => Front::Open,
         },
@@ -82,11 +84,11 @@ fn read_short(text: &[u8]) -> Front
 }
 
 /// What stands at the front of a text.
-pub fn read_head(text: &[u8]) -> Front
+pub fn read_head(routes: &Routes, text: &[u8]) -> Front
     ensures { IsFront text.now result }
 {
     let (front, _) = text.split_at(text.len().min(LONGEST_HEAD));
-    match read_short(front) {
+    match read_short(routes, front) {
         Front::Head(heading) => Front::Head(heading),
         Front::NoHead => Front::NoHead,
         Front::Open => {

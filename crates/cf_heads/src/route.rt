@@ -1,7 +1,7 @@
-//! Where a request goes, by its path and method.
+//! Where requests can go, and what the words of a path say.
 
-ghost use Rattle.std.specs.Prelude.{◌≡◌, ◌≤◌, ◌<◌, ◌∷◌, [], Some, None, Option, map, codes, option_copied};
-ghost use Rattle.cf_heads.specs.Routes.{path_of, words_of, number_from, kind_of, line_route, report_route, route_by, route_of, method_of, method_name, ask_of, IsSplit};
+ghost use Rattle.std.specs.Prelude.{◌≡◌};
+ghost use Rattle.cf_heads.specs.Routes.{number_from, kind_of, line_route, report_route, method_of, method_name};
 
 use crate::fields::{is_number_text, number_within};
 use cf_base::Kind;
@@ -33,7 +33,7 @@ pub enum Miss {
 }
 
 impl Route {
-    fn method(self) -> Method
+    pub fn method(self) -> Method
         ensures { result ≡ method_of self }
     {
         match self {
@@ -84,7 +84,8 @@ fn kind_in(word: &str) -> Option<Kind>
     }
 }
 
-fn line_in(line: &str, year: &str) -> Option<Route>
+/// The look at a line, by its number and its fiscal year.
+pub fn line_in(line: &str, year: &str) -> Option<Route>
     ensures { result ≡ line_route line.now year.now }
 {
     let line = number_in(line, 0, 65535)?;
@@ -92,75 +93,11 @@ fn line_in(line: &str, year: &str) -> Option<Route>
     Some(Route::Line { line, year })
 }
 
-fn report_in(year: &str, kind: &str) -> Option<Route>
+/// The look at a statement, by its fiscal year and its word.
+pub fn report_in(year: &str, kind: &str) -> Option<Route>
     ensures { result ≡ report_route year.now kind.now }
 {
     let year = number_in(year, 1971, 2199)?;
     let kind = kind_in(kind)?;
     Some(Route::Report { year, kind })
-}
-
-/// The target up to its question mark.
-fn path_in(target: &str) -> &str
-    ensures { result.now ≡ path_of target.now }
-{
-    match target.split_once('?') {
-        Some((path, _)) => path,
-        None => target,
-    }
-}
-
-/// A path at its first slash.
-fn split_word(path: &str) -> Option<(&str, &str)>
-    ensures { IsSplit path.now result }
-{
-    path.split_once('/')
-}
-
-/// The route of a path after its first slash.
-fn route_after(path: &str) -> Option<Route>
-    ensures { result ≡ route_by ([] ∷ words_of path.now) }
-{
-    let Some((word, rest)) = split_word(path) else {
-        return if path == "calls" {
-            Some(Route::Calls)
-        } else {
-            None
-        };
-    };
-    let (first, second) = split_word(rest)?;
-    if split_word(second).is_some() {
-        return None;
-    }
-    match word {
-        "lines" => line_in(first, second),
-        "reports" => report_in(first, second),
-        _ => None,
-    }
-}
-
-/// The route of a path.
-pub fn route_in(path: &str) -> Option<Route>
-    ensures { result ≡ route_of path.now }
-{
-    let (front, rest) = split_word(path)?;
-    if front.is_empty() {
-        route_after(rest)
-    } else {
-        None
-    }
-}
-
-/// Where a request goes.
-pub fn ask_in(method: &str, target: &str) -> Result<Route, Miss>
-    ensures { result ≡ ask_of method.now target.now }
-{
-    let Some(route) = route_in(path_in(target)) else {
-        return Err(Miss::NoRoute);
-    };
-    if method == route.method().name() {
-        Ok(route)
-    } else {
-        Err(Miss::WrongMethod(route.method()))
-    }
 }

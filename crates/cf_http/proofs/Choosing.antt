@@ -1,11 +1,10 @@
 -- What the bytes of a link decide.
-use Rattle.std.proofs.Common.{◌≡◌, ◌⊎◌, ℕ, ◌<◌, ◌≤◌, List, [], ◌∷◌, ◌++◌, take, drop, get_or, length, Result, Ok, Err, inl, inr, arith, subst, sym, ap, refl, ◌∙◌, append_assoc}
-use Rattle.std.proofs.Math.Seq.{take-append_seam}
-use Rattle.httparse.specs.Grammar.{RequestHead, print_request, ReadsRequest, HasNoRequest, EndsInTarget}
+use Rattle.std.proofs.Common.{◌≡◌, ◌⊎◌, ℕ, List, [], ◌∷◌, ◌++◌, drop, get_or, length, Result, Ok, Err, inl, inr, arith, sym, ap, refl, ◌∙◌, append_assoc}
+use Rattle.httparse.specs.Grammar.{RequestHead, print_request, ReadsRequest, EndsInTarget}
 use Rattle.httparse.proofs.GrammarLemmas.{request_unique}
 use Rattle.cf_heads.specs.declared.fields.Refusal.{Refusal}
-use Rattle.cf_heads.specs.Heads.{IsNoHead, IsOpenHead, heading_of}
-use Rattle.cf_http.specs.Talk.{Message, message_bytes, IsMessage, BeginsWith}
+use Rattle.cf_heads.specs.Heads.{heading_of}
+use Rattle.cf_http.specs.Talk.{Message, BeginsWith}
 use Rattle.cf_http.specs.Laws.{EndsPastFields, OnlyTwoChoices, OneRequest}
 
 pub only_two_choices : OnlyTwoChoices

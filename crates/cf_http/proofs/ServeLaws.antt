@@ -1,5 +1,5 @@
 -- How a link is served, step by step.
-use Rattle.std.proofs.Common.{◌≡◌, ◌⊎◌, ℕ, ◌+◌, ◌-◌, ◌<◌, ◌≤◌, List, [], ◌∷◌, ◌++◌, length, take, drop, All, Bool, true, false, Option, Some, None, Result, Ok, Err, inl, inr, arith, subst, sym, ap, refl, ◌∙◌, append_assoc, length-append, length-drop}
+use Rattle.std.proofs.Common.{◌≡◌, ℕ, ◌+◌, ◌-◌, ◌<◌, ◌≤◌, List, [], ◌∷◌, ◌++◌, length, drop, Bool, Option, Ok, inr, arith, subst, sym, ap, refl, ◌∙◌, append_assoc, length-append, length-drop}
 use Rattle.std.specs.List.{flat_map}
 use Rattle.std.specs.Io.KnownBytes.{Appends}
 use Rattle.std.proofs.KnownBytes.{Appends-nil, Appends-trans}
@@ -10,11 +10,9 @@ use Rattle.cf_http.specs.declared.end.LinkEnd.TheVariants as end
 use Rattle.cf_heads.specs.declared.head.Heading.{Heading}
 use Rattle.cf_http.specs.Asking.{Rule}
 use Rattle.cf_heads.specs.Answers.{joined}
-use Rattle.cf_heads.specs.Fields.{body_length}
-use Rattle.cf_heads.specs.Heads.{BeginsWithHead, heading_of, fields_of}
-use Rattle.cf_http.specs.Talk.{Message, message_bytes, IsMessage, closes, Answers, Talk, IsOpenBody, IsCut, Last, between, cut, read_fault, limit, no_room}
+use Rattle.cf_heads.specs.Heads.{BeginsWithHead, fields_of}
+use Rattle.cf_http.specs.Talk.{Message, message_bytes, IsMessage, Talk, IsCut, Last, between, cut, read_fault, limit, no_room}
 use Rattle.cf_http.specs.Serving.{Moment, moment_of, Came, Went, Gave, EndsOver, Stops, Replied, Served, IsCounted, NoneCame, IsBodyStop}
-use Rattle.cf_http.specs.Links.{SentFront}
 use Rattle.cf_http.specs.Turns.{SaidNoMemory}
 use Rattle.cf_http.proofs.TurnLaws.{memory_over, memory_kind, after_no_limit}
 use Rattle.cf_heads.proofs.FieldLaws.{body_within}

@@ -1,11 +1,11 @@
 -- What one rule says of a door, another says of it that follows the first step by step.
-use Rattle.std.proofs.Common.{◌≡◌, ℕ, List, [], ◌∷◌, Option, Some, None, Bool, subst, sym, refl}
+use Rattle.std.proofs.Common.{ℕ, List, [], ◌∷◌, Option, Some, None, Bool, subst, sym, refl}
 use Rattle.cf_http.specs.declared.request.Request.{Request}
 use Rattle.cf_http.specs.declared.end.LinkEnd.{LinkEnd}
 use Rattle.cf_http.specs.Asking.{Rule}
 use Rattle.cf_http.specs.Talk.{Message, Answers, missed, told, Talk, LastAnswer, no_head, refused, closing, no_room, no_memory, Last, between, cut, answered, limit, read_fault, unsent_last, unsent, request_of}
 use Rattle.cf_http.specs.Serving.{Moment, moment_of, Served}
-use Rattle.cf_http.specs.Doors.{Tells, WasServed, WereServed, DoorServed}
+use Rattle.cf_http.specs.Doors.{Tells, WereServed, DoorServed}
 
 -- the second follows each step of the first
 pub record Follows {A B : Type 0} (rule : Rule A) (other : Rule B) (fits : A → B → Type 0) : Type 0 where
@@ -75,7 +75,7 @@ module _ {A B : Type 0} (rule : Rule A) (other : Rule B) (fits : A → B → Typ
   were_served_as tells a c b (link ∷ links) w f =
       let here = served_as _ _ b _ w.1.how w.1.served f in
       let rest = were_served_as tells w.0 c here.0 links w.2 here.2 in
-      (rest.0, (here.0, record { first = w.1.first; how = w.1.how; fresh = w.1.fresh; served = here.1 }, rest.1), rest.2)
+      (rest.0, (here.0, record { first = w.1.first; how = w.1.how; fresh = w.1.fresh; served = here.1; read = w.1.read; write = w.1.write }, rest.1), rest.2)
 
   pub door_served_as : {L : Type 0} (tells : Tells L) (known : Bool) (a c : A) (b : B) (finished_old finished_new : List L) (given_old given_new count : ℕ)
       → DoorServed tells rule known a c finished_old finished_new given_old given_new count → fits a b

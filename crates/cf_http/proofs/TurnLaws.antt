@@ -1,5 +1,5 @@
 -- What one answer does.
-use Rattle.std.proofs.Common.{◌≡◌, ◌⊎◌, ℕ, List, [], ◌∷◌, ◌++◌, Bool, true, false, Option, Some, None, Result, Ok, Err, OnOk, OnErr, inl, inr, IfSome, take, drop, length, ◌+◌, ◌≤◌, ◌∙◌, append_assoc, length-drop, arith, subst, sym, ap, refl}
+use Rattle.std.proofs.Common.{◌≡◌, ◌⊎◌, ℕ, List, ◌++◌, Bool, true, false, Option, Some, None, Result, Ok, Err, OnOk, OnErr, inl, inr, IfSome, take, drop, length, ◌+◌, ◌≤◌, ◌∙◌, append_assoc, length-drop, arith, subst, sym, ap, refl}
 use Rattle.std.proofs.lemmas.List.{take-append-drop, drop-drop, length-take-le}
 use Rattle.std.proofs.lemmas.Option.{none-some}
 use Rattle.httparse.specs.Grammar.{print_request}
@@ -11,12 +11,13 @@ use Rattle.cf_http.specs.Turns.{IsFinished, Said, stays, closed, fault, SaidNoMe
 use Rattle.cf_http.specs.Turns as turn
 use Rattle.cf_heads.specs.Answers.{memory_answer, miss_answer, answer_bytes, refusal_answer}
 use Rattle.cf_http.specs.Asking.{Rule, IsAnswerCode}
-use Rattle.cf_heads.specs.Fields.{body_length}
-use Rattle.cf_heads.specs.Heads.{BeginsWithHead, IsHead, IsNoHead, heading_of}
-use Rattle.cf_http.specs.Talk.{Message, message_bytes, IsMessage, BeginsWith, closes, Answers, missed, told, IsRefused, LastAnswer, Last, no_head, refused, closing, no_room, no_memory, answered, unsent, unsent_last}
+use Rattle.cf_heads.specs.Heads.{BeginsWithHead}
+use Rattle.cf_http.specs.Talk.{Message, message_bytes, IsMessage, BeginsWith, closes, Answers, missed, told, LastAnswer, Last, refused, closing, no_room, no_memory, answered, unsent, unsent_last}
 use Rattle.cf_http.specs.Serving.{EndsOver, Replied, Gave, IsAfterAnswer}
 use Rattle.cf_heads.specs.declared.head.Heading.{Heading}
+use Rattle.cf_heads.specs.Routes.{IsRouteInForm}
 use Rattle.cf_heads.specs.declared.route.Route.{Route}
+use Rattle.cf_heads.proofs.RouteLaws.{ask_in_form}
 use Rattle.cf_heads.specs.declared.route.Miss.{Miss}
 use Rattle.cf_heads.specs.declared.fields.Refusal.{Refusal}
 
@@ -41,6 +42,10 @@ pub joins_at : (text : List ℕ) (heading : Heading) (b : BeginsWithHead text he
 joins_at text heading b n =
     b.reads.1 ∙ ap (λ t. print_request b.head ++ t) (sym (take-append-drop n (drop heading.length text)) ∙ ap (λ t. take n (drop heading.length text) ++ t) (drop-drop n heading.length text))
     ∙ sym (append_assoc (print_request b.head) (take n (drop heading.length text)) (drop (heading.length + n) text))
+
+-- where it goes is in form
+pub route_at : (text : List ℕ) (heading : Heading) (b : BeginsWithHead text heading) (route : Route) → heading.ask ≡ Ok route → IsRouteInForm route
+route_at text heading b route e = ask_in_form b.head.method b.head.target route (sym (ap (λ (x : Heading). x.ask) b.asks) ∙ e)
 
 -- ---- an answer, and how the link goes on
 

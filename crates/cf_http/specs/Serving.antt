@@ -1,5 +1,5 @@
 -- What the steps of a server do on a link.
-use Rattle.std.specs.Prelude.{◌≡◌, ℕ, ◌<◌, ◌≤◌, List, [], ◌∷◌, ◌++◌, length, All, Bool, true, false, Option, ⊤}
+use Rattle.std.specs.Prelude.{◌≡◌, ℕ, ◌<◌, List, [], ◌++◌, length, All, Bool, true, false, Option, ⊤}
 use Rattle.std.specs.List.{flat_map}
 use Rattle.std.specs.Io.KnownBytes.{Appends}
 use Rattle.cf_http.specs.declared.end.LinkEnd.{LinkEnd}
@@ -7,7 +7,7 @@ use Rattle.cf_http.specs.declared.end.LinkEnd.TheVariants as end
 use Rattle.cf_http.specs.Asking.{Rule}
 use Rattle.cf_heads.specs.Answers.{joined}
 use Rattle.cf_http.specs.Links.{SentFront}
-use Rattle.cf_http.specs.Talk.{Message, message_bytes, IsMessage, BeginsWith, closes, Answers, Talk, IsCut, LastAnswer, Last}
+use Rattle.cf_http.specs.Talk.{Message, message_bytes, IsMessage, closes, Answers, Talk, IsCut, Last}
 
 -- an answerer, and what its link tells of the bytes that came and of those that it took
 pub record Moment (A : Type 0) : Type 0 where

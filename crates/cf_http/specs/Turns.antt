@@ -4,7 +4,6 @@ use Rattle.std.specs.Io.KnownBytes.{Appends}
 use Rattle.cf_heads.specs.Answers.{answer_bytes, memory_answer}
 use Rattle.cf_http.specs.Asking.{Rule, IsAnswerCode}
 use Rattle.cf_http.specs.Serving.{Gave}
-use Rattle.cf_http.specs.declared.request.Request.{Request}
 use Rattle.cf_heads.specs.declared.route.Route.{Route}
 use Rattle.cf_http.specs.Links.{SentFront}
 use Rattle.cf_http.specs.declared.end.LinkEnd.{LinkEnd}

@@ -9,7 +9,7 @@ ghost use Rattle.cf_http.specs.Steps.{IsNext};
 use crate::end::LinkEnd;
 use crate::inbox::Inbox;
 use crate::link::Link;
-use cf_heads::{Front, Heading, read_head};
+use cf_heads::{Front, Heading, Routes, read_head};
 
 /// What came next.
 #[derive(Clone, Copy, Debug, PartialEq, Eq)]
@@ -33,7 +33,7 @@ fn stop(inbox: &Inbox) -> LinkEnd
 }
 
 /// Reads until a head is there.
-pub fn next_head<L: Link>(link: &mut L, inbox: &mut Inbox) -> Next
+pub fn next_head<L: Link>(link: &mut L, routes: &Routes, inbox: &mut Inbox) -> Next
     ensures came { Came (L.received link.old) (L.received link.new) inbox.old.bytes.items inbox.new.bytes.items }
     ensures sent { L.sent link.new ≡ L.sent link.old }
     ensures next { IsNext inbox.new.bytes.items (L.ended link.new) result }
@@ -41,7 +41,7 @@ pub fn next_head<L: Link>(link: &mut L, inbox: &mut Inbox) -> Next
     ensures fault { result ≡ Next.Stop LinkEnd.ReadFault → Rose (L.faults link.old) (L.faults link.new) }
 {
     loop {
-        match read_head(inbox.bytes.as_slice()) {
+        match read_head(routes, inbox.bytes.as_slice()) {
             Front::Head(heading) => return Next::Head(heading),
             Front::NoHead => return Next::NoHead,
             Front::Open => {}

@@ -4,6 +4,7 @@ ghost use Rattle.std.specs.Prelude.{◌≡◌, ◌≢◌, ◌+◌, ◌≤◌, []
 ghost use Rattle.cf_base.specs.Causes.{Rose};
 ghost use Rattle.cf_heads.specs.Answers.{miss_answer};
 ghost use Rattle.cf_heads.specs.Heads.{BeginsWithHead, IsNoHead};
+ghost use Rattle.cf_heads.specs.Routes.{IsRouteInForm};
 ghost use Rattle.cf_http.specs.Serving.{moment_of, EndsOver, Replied, Went, Stops, IsAfterAnswer};
 ghost use Rattle.cf_http.specs.Turns.{Said, Told as SaysTold, IsFinished};
 
@@ -16,12 +17,13 @@ use crate::reading::{Next, next_body, next_head};
 use crate::request::Request;
 use crate::sending::{Told, send_answer, send_no_memory, send_refusal};
 use cf_base::Failed;
-use cf_heads::{Heading, LINES_ROOM, Miss, Refusal, Route};
+use cf_heads::{Heading, LINES_ROOM, Miss, Refusal, Route, Routes};
 use std::alloc::{AllocError, Global};
 
 /// What a server needs, whose memory is taken before the first request.
 #[derive(Drop)]
 pub struct Bench {
+    pub routes: Routes,
     pub inbox: Inbox,
     pub lines: Vec<u8>,
     pub body: Vec<u8>,
@@ -32,10 +34,12 @@ impl Bench {
     pub fn new(alloc: Global) -> Result<Bench, AllocError>
         ensures { IfOk result (λ bench. bench.inbox.bytes.items ≡ []) }
     {
+        let routes = Routes::new(alloc)?;
         let inbox = Inbox::new(alloc)?;
         let mut lines = Vec::new(alloc);
         lines.reserve(LINES_ROOM)?;
         Ok(Bench {
+            routes,
             inbox,
             lines,
             body: Vec::new(alloc),
@@ -103,7 +107,8 @@ fn reply_told<L: Link, A: Answer>(
     route: Route,
     stated: usize,
 ) -> Option<LinkEnd>
-    requires { heading.now.length + stated ≤ vec_len bench.old.inbox.bytes }
+    requires whole { heading.now.length + stated ≤ vec_len bench.old.inbox.bytes }
+    requires route { IsRouteInForm route }
     ensures said { SaysTold A.answers answer.old (L.sent link.old) (L.sent link.new) route (take stated (drop heading.now.length bench.old.inbox.bytes.items)) heading.now.closes answer.new result }
     ensures inbox { bench.new.inbox.bytes.items ≡ bench.old.inbox.bytes.items }
     ensures received { L.received link.new ≡ L.received link.old }
@@ -221,7 +226,7 @@ pub fn serve_next<L: Link, A: Answer>(
     ensures write { result ≡ Some LinkEnd.WriteFault → Rose (L.faults link.old) (L.faults link.new) }
     ensures limit { result ≢ Some LinkEnd.Limit }
 {
-    let heading = match next_head(link, &mut bench.inbox) {
+    let heading = match next_head(link, &bench.routes, &mut bench.inbox) {
         Next::Head(heading) => heading,
         Next::NoHead => return Some(refuse_text(link, answer, bench)),
         Next::Stop(how) => return Some(how),

@@ -3,6 +3,8 @@
 
 mod memory;
 mod tcp;
+#[cfg(test)]
+mod tests;
 
 pub use memory::{Coming, MemDoor, MemLink};
 pub use tcp::{TcpDoor, TcpLink};

@@ -5,8 +5,18 @@ ghost use Rattle.cf_base.specs.Causes.{Rose, HasCause};
 
 use cf_base::Failed;
 use cf_http::{Door, Link};
-use std::io::{Read, Write};
-use std::net::{Net, TcpListener, TcpStream};
+use std::io::{self, Read, Write};
+use std::net::{Net, Shutdown, TcpListener, TcpStream};
+use std::time::Duration;
+
+/// How many seconds a read waits for bytes, and a write for room, before it is a fault.
+const PATIENCE: u64 = 10;
+
+/// How many reads let unread bytes go, before a link is closed.
+const MOST_REST_READS: u32 = 64;
+
+/// How often `next` tries to get a connection, before it fails.
+const MOST_TRIES: u32 = 16;
 
 /// A connection over TCP.
 #[derive(Drop)]
@@ -14,6 +24,23 @@ pub struct TcpLink {
     stream: TcpStream,
     ended: bool,
     faults: u64,
+}
+
+impl TcpLink {
+    /// Closes the connection. Bytes that the peer sent and nobody read would have the system reset it, and the
+    /// peer could lose the last answer: so the end is told first, and a bounded rest is read.
+    fn close(mut self) {
+        if self.ended || self.stream.shutdown(Shutdown::Write).is_err() {
+            return;
+        }
+        let mut rest = [0u8; 4096];
+        for _ in 0..MOST_REST_READS {
+            match self.stream.read(&mut rest) {
+                Ok(count) if count > 0 => {}
+                _ => return,
+            }
+        }
+    }
 }
 
 impl Link for TcpLink {
@@ -49,32 +76,52 @@ impl Link for TcpLink {
     }
 }
 
-/// A door that listens on 127.0.0.1 at a port, from its first `next` on.
+/// A door that listens on 127.0.0.1 at a port, from its first `next` or `port` on.
 #[derive(Drop)]
 pub struct TcpDoor<'a, R: Net<Listener = TcpListener, Stream = TcpStream>> {
     net: &'a R,
     port: u16,
+    patience: Duration,
     listener: Option<TcpListener>,
     given: u64,
     faults: u64,
 }
 
-/// The next connection, if the door listens.
-fn accepted(listener: &Option<TcpListener>) -> Option<TcpStream> {
-    match listener {
-        Some(listener) => match listener.accept() {
-            Ok((stream, _)) => Some(stream),
-            Err(_) => None,
-        },
-        None => None,
+/// Sets how long reads and writes wait, and has answers sent at once.
+fn set_up(stream: &TcpStream, patience: Duration) -> io::Result<()> {
+    stream.set_read_timeout(Some(patience))?;
+    stream.set_write_timeout(Some(patience))?;
+    stream.set_nodelay(true)
+}
+
+/// The next connection, if the door listens. One that is broken before it can be served is passed over.
+fn accepted(listener: &Option<TcpListener>, patience: Duration) -> Option<TcpStream> {
+    let Some(listener) = listener else {
+        return None;
+    };
+    for _ in 0..MOST_TRIES {
+        if let Ok((stream, _)) = listener.accept() {
+            if set_up(&stream, patience).is_ok() {
+                return Some(stream);
+            }
+        }
     }
+    None
 }
 
 impl<'a, R: Net<Listener = TcpListener, Stream = TcpStream>> TcpDoor<'a, R> {
+    /// A door at a port, or at one that the system picks for port 0. A peer that sends or takes nothing for 10
+    /// seconds ends its link by a fault.
     pub fn new(net: &'a R, port: u16) -> Self {
+        TcpDoor::patient(net, port, Duration::from_secs(PATIENCE))
+    }
+
+    /// The same with another time than 10 seconds, which isn't 0.
+    pub fn patient(net: &'a R, port: u16, patience: Duration) -> Self {
         TcpDoor {
             net,
             port,
+            patience,
             listener: None,
             given: 0,
             faults: 0,
@@ -88,6 +135,15 @@ impl<'a, R: Net<Listener = TcpListener, Stream = TcpStream>> TcpDoor<'a, R> {
     {
         if self.listener.is_none() {
             self.listener = TcpListener::bind(self.net, ("127.0.0.1", self.port)).ok();
+        }
+    }
+
+    /// The port that it listens at, if it can.
+    pub fn port(&mut self) -> Option<u16> {
+        self.listen();
+        match &self.listener {
+            Some(listener) => Some(listener.local_addr().ok()?.port()),
+            None => None,
         }
     }
 }
@@ -110,7 +166,7 @@ impl<R: Net<Listener = TcpListener, Stream = TcpStream>> Door for TcpDoor<'_, R>
 
     fn next(&mut self) -> Result<Option<TcpLink>, Failed> {
         self.listen();
-        match accepted(&self.listener) {
+        match accepted(&self.listener, self.patience) {
             Some(stream) if self.given < u64::MAX => {
                 self.given += 1;
                 Ok(Some(TcpLink {
@@ -127,7 +183,7 @@ impl<R: Net<Listener = TcpListener, Stream = TcpStream>> Door for TcpDoor<'_, R>
     }
 
     fn done(&mut self, link: TcpLink) {
-        drop(link);
+        link.close();
     }
 
     ghost owes = { λ d known. absurd (false≢true known) };

@@ -1,4 +1,4 @@
-use Rattle.std.proofs.Common.{◌≡◌, drop, arith, refl}
+use Rattle.std.proofs.Common.{drop, arith, refl}
 use Rattle.httparse.specs.Ascii.{comma}
 use Rattle.cf_heads.proofs.FieldLaws.{parts_alone, parts_at}
 use Rattle.cf_heads.proofs.fields.has_close.Goals as goal

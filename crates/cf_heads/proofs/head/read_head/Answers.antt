@@ -1,5 +1,3 @@
-use Rattle.std.proofs.Common.{◌≡◌, subst, sym}
-use Rattle.httparse.specs.Grammar.{HasNoRequest, MayBecomeRequest}
 use Rattle.cf_heads.proofs.HeadLaws.{no_head_past, open_whole}
 use Rattle.cf_heads.proofs.head.read_head.Goals as goal
 

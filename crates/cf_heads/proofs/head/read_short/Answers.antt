@@ -1,10 +1,5 @@
-use Rattle.std.proofs.Common.{◌≡◌, ◌+◌, ◌<◌, ◌≤◌, ℕ, List, Option, Some, map, length, drop, arith, refl, sym, ap, ◌∙◌, subst}
-use Rattle.httparse.specs.Borrowed.{HoldsRequest, header_parts}
-use Rattle.httparse.specs.Grammar.{RequestHead, ReadsRequest, print_request}
-use Rattle.httparse.specs.Spans.{name_and_value}
-use Rattle.cf_heads.specs.Heads.{BeginsWithHead, heading_by, heading_of, fields_of}
-use Rattle.cf_heads.specs.declared.head.Heading.{Heading}
-use Rattle.cf_heads.proofs.HeadLaws.{length_fields, length_head, many_overflow}
+use Rattle.std.proofs.Common.{arith}
+use Rattle.cf_heads.proofs.HeadLaws.{length_fields, many_overflow}
 use Rattle.cf_heads.proofs.head.read_short.Goals as goal
 
 pub returns-then-request-gt-MOST_FIELDS : goal.returns-then-request-gt-MOST_FIELDS

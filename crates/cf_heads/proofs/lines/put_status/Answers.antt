@@ -1,4 +1,4 @@
-use Rattle.std.proofs.Common.{◌≡◌, ◌++◌, ◌∷◌, [], ◌∙◌, ap, codes, refl}
+use Rattle.std.proofs.Common.{◌++◌, ◌∷◌, [], codes, refl}
 use Rattle.http.specs.StatusCode.{code_digits}
 use Rattle.cf_heads.specs.Answers.{phrase_of}
 use Rattle.cf_heads.proofs.Joining.{joined_more, joined_none}

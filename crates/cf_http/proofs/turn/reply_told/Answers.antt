@@ -1,7 +1,6 @@
-use Rattle.std.proofs.Common.{◌≡◌, ◌∙◌, ◌++◌, sym, subst, take, drop, ap, List, ℕ, None, Some, false}
+use Rattle.std.proofs.Common.{◌≡◌, ◌∙◌, ◌++◌, subst, take, drop, ap, List, ℕ, None, Some, false}
 use Rattle.cf_heads.specs.Answers.{answer_bytes}
-use Rattle.cf_http.specs.Turns.{told, no_room, no_memory, Told, Said}
-use Rattle.cf_http.specs.declared.request.Request.{Request}
+use Rattle.cf_http.specs.Turns.{told, no_room, no_memory, Said}
 use Rattle.cf_http.proofs.TurnLaws.{said_by}
 use Rattle.cf_http.proofs.turn.reply_told.Goals as goal
 

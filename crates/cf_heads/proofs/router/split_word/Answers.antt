@@ -1,11 +1,11 @@
-use Rattle.std.proofs.Common.{◌≡◌, ◌<◌, ◌∙◌, ◌∷◌, ℕ, List, [], length, Option, Some, None, MatchOption, eqb, arith, sym, ap}
+use Rattle.std.proofs.Common.{◌≡◌, ◌<◌, ◌∙◌, ◌∷◌, ℕ, List, length, Option, Some, None, MatchOption, eqb, arith, sym, ap}
 use Rattle.std.specs.Borrow.{Bor}
 use Rattle.std.specs.List.{position_or_len, before_first, after_first}
 use Rattle.std.proofs.lemmas.Str.Pattern.{split_once_first}
 use Rattle.cf_heads.specs.Routes.{IsSplit}
 use Rattle.cf_heads.specs.Fields.{parts}
 use Rattle.cf_heads.proofs.FieldLaws.{parts_split, parts_whole}
-use Rattle.cf_heads.proofs.route.split_word.Goals as goal
+use Rattle.cf_heads.proofs.router.split_word.Goals as goal
 
 split_by : (path : List ℕ) (r : Option (Bor (List ℕ) × Bor (List ℕ)))
     → MatchOption r (position_or_len (λ b. eqb b 47) path ≡ length path) (λ x. (position_or_len (λ b. eqb b 47) path < length path) × (x.0.now ≡ before_first (λ b. eqb b 47) path) × (x.1.now ≡ after_first (λ b. eqb b 47) path))
