@@ -13,7 +13,7 @@ ghost use Rattle.cf_heads.specs.Fields.{values_of, is_number, stated_length, bod
 use httparse::Header;
 
 /// Why a head is refused.
-#[derive(Clone, Copy, Debug, PartialEq, Eq)]
+#[derive(Clone, Copy)]
 pub enum Refusal {
     /// It is no head, or one beyond the limits, or its host or its body's length isn't stated as it must be.
     Head,

@@ -17,7 +17,7 @@ pub const LONGEST_HEAD: usize = 16_384;
 pub const MOST_FIELDS: usize = 64;
 
 /// What a head asks for.
-#[derive(Clone, Copy, Debug, PartialEq, Eq)]
+#[derive(Clone, Copy)]
 pub struct Heading {
     /// How many bytes the head has.
     pub length: usize,
@@ -32,7 +32,7 @@ pub struct Heading {
 }
 
 /// What stands at the front of a text.
-#[derive(Clone, Copy, Debug, PartialEq, Eq)]
+#[derive(Clone, Copy)]
 pub enum Front {
     Head(Heading),
     /// No head, whatever follows.

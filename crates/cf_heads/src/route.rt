@@ -7,7 +7,7 @@ use crate::fields::{is_number_text, number_within};
 use cf_base::Kind;
 
 /// Where a request goes.
-#[derive(Clone, Copy, Debug, PartialEq, Eq)]
+#[derive(Clone, Copy)]
 pub enum Route {
     /// One call, which is the body.
     Calls,
@@ -18,14 +18,14 @@ pub enum Route {
 }
 
 /// How a route is asked.
-#[derive(Clone, Copy, Debug, PartialEq, Eq)]
+#[derive(Clone, Copy)]
 pub enum Method {
     Get,
     Post,
 }
 
 /// Why a request goes nowhere.
-#[derive(Clone, Copy, Debug, PartialEq, Eq)]
+#[derive(Clone, Copy)]
 pub enum Miss {
     NoRoute,
     /// The route is asked by this method alone.

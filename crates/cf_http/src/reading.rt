@@ -12,7 +12,7 @@ use crate::link::Link;
 use cf_heads::{Front, Heading, Routes, read_head};
 
 /// What came next.
-#[derive(Clone, Copy, Debug, PartialEq, Eq)]
+#[derive(Clone, Copy)]
 pub enum Next {
     Head(Heading),
     /// A text that is no head, whatever follows.

@@ -2,7 +2,7 @@ use crate::bytes::Bytes;
 use cf_heads::Route;
 
 /// A request that has a route.
-#[derive(Debug, Drop)]
+#[derive(Drop)]
 pub struct Request {
     pub route: Route,
     pub body: Bytes,

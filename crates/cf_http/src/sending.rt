@@ -30,7 +30,7 @@ pub fn send_all<L: Link>(link: &mut L, bytes: &[u8]) -> Result<(), Failed>
 }
 
 /// What an answer says beside its body.
-#[derive(Clone, Copy, Debug, PartialEq, Eq)]
+#[derive(Clone, Copy)]
 pub struct Told {
     pub code: u16,
     pub allow: Option<Method>,

@@ -1,6 +1,6 @@
 //! Links and doors over TCP. They are the trusted edge: nothing is proved of what a real link carries.
 
-ghost use Rattle.std.specs.Prelude.{◌≡◌, ◌+◌, None, [], true, false, OnOk, OnErr};
+ghost use Rattle.std.specs.Prelude.{◌≡◌, ◌≤◌, ◌+◌, None, [], true, false, OnOk, OnErr};
 ghost use Rattle.cf_base.specs.Causes.{Rose, HasCause};
 
 use cf_base::Failed;
@@ -27,6 +27,15 @@ pub struct TcpLink {
 }
 
 impl TcpLink {
+    fn fault(&mut self) -> Failed
+        ensures ended { self.new.ended ≡ self.old.ended }
+        ensures later { self.old.faults ≤ self.new.faults }
+        ensures rose { Rose self.old.faults self.new.faults }
+    {
+        self.faults = self.faults.saturating_add(1);
+        Failed
+    }
+
     /// Closes the connection. Bytes that the peer sent and nobody read would have the system reset it, and the
     /// peer could lose the last answer: so the end is told first, and a bounded rest is read.
     fn close(mut self) {
@@ -58,20 +67,14 @@ impl Link for TcpLink {
                 self.ended = self.ended || (count == 0 && !buf.is_empty());
                 Ok(count)
             }
-            Err(_) => {
-                self.faults = self.faults.saturating_add(1);
-                Err(Failed)
-            }
+            Err(_) => Err(self.fault()),
         }
     }
 
     fn write(&mut self, piece: &[u8]) -> Result<usize, Failed> {
         match self.stream.write(piece) {
             Ok(count) if count > 0 || piece.is_empty() => Ok(count),
-            _ => {
-                self.faults = self.faults.saturating_add(1);
-                Err(Failed)
-            }
+            _ => Err(self.fault()),
         }
     }
 }

@@ -41,7 +41,7 @@ fn links_over_tcp_are_served(rt: HostRuntime) -> Result<(), Fail> {
         rt.alloc(),
         b"POST /calls HTTP/1.1\r\nHost: a\r\nContent-Length: 300000\r\n\r\n",
     )?;
-    while long.len() < 30_000 {
+    for _ in 0..30_000 {
         long.push(b' ')?;
     }
     let first = asked(&rt, port, b"GET /lines/3/2026 HTTP/1.1\r\nHost: a\r\n\r\n")?;
@@ -49,7 +49,7 @@ fn links_over_tcp_are_served(rt: HostRuntime) -> Result<(), Fail> {
     let silent = TcpStream::connect(&rt, ("127.0.0.1", port))?;
     let last = asked(&rt, port, b"POST /calls HTTP/1.0\r\n\r\n")?;
     let end = serve_door(rt.alloc(), &mut door, 4, &mut Clerk);
-    assert_eq!(rt; end, DoorEnd::Done { links: 4 });
+    assert!(rt; matches!(end, DoorEnd::Done { links: 4 }));
     assert_eq!(rt;
         io::read_to_string(rt.alloc(), first)?.as_str(),
         "HTTP/1.1 200 OK\r\ncontent-type: application/json\r\ncontent-length: 2\r\n\r\n{}"
