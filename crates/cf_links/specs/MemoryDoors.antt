@@ -1,5 +1,5 @@
 -- What a door in memory tells.
-use Rattle.std.specs.Prelude.{ℕ, List, Bool, ltb, vec_len}
+use Rattle.std.specs.Prelude.{List, Bool, ltb, vec_len}
 use Rattle.cf_links.specs.declared.memory.MemLink.{MemLink}
 use Rattle.cf_links.specs.declared.memory.MemDoor.{MemDoor}
 

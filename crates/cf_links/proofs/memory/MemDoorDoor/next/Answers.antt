@@ -1,4 +1,4 @@
-use Rattle.std.proofs.Common.{◌≡◌, ◌≤◌, ◌<◌, arith, refl}
+use Rattle.std.proofs.Common.{arith, refl}
 use Rattle.std.proofs.lemmas.Bool.{le-leb}
 use Rattle.cf_http.specs.Doors.{gave, none, failed}
 use Rattle.cf_links.proofs.memory.MemDoorDoor.next.Goals as goal

@@ -1,4 +1,4 @@
-use Rattle.std.proofs.Common.{◌≡◌, ◌++◌, ◌+◌, ◌-◌, ◌≤◌, ℕ, List, take, drop, length, min, arith, refl, sym, ◌∙◌, ap, subst, length-drop, length-take}
+use Rattle.std.proofs.Common.{◌≡◌, ◌++◌, ◌+◌, ◌-◌, ◌≤◌, ℕ, List, take, drop, length, arith, sym, ◌∙◌, ap, subst, length-drop, length-take}
 use Rattle.std.proofs.lemmas.List.{take-append-drop, take-take, drop-take, length-take-le, take_all}
 use Rattle.std.proofs.Math.Seq.{take-append_seam}
 use Rattle.cf_links.proofs.memory.MemLinkLink.read.Goals as goal

@@ -1,4 +1,4 @@
-use Rattle.std.proofs.Common.{◌≡◌, ◌+◌, ap, refl}
+use Rattle.std.proofs.Common.{◌+◌, ap, refl}
 use Rattle.cf_http.specs.Doors.{gave, failed}
 use Rattle.cf_links.proofs.tcp.TcpDoorDoor.next.Goals as goal
 
