@@ -2,13 +2,15 @@
 # What calls cost over a short and a long history, on the built program: microseconds a direct voucher, its payment, and
 # looks at a line and at an account after 1,000 and after 100,000 accepted entries, vouchers a second, and bytes of memory an
 # entry; then microseconds a voucher on an order's item, and its void, after 1,000 and after 100,000 orders; then a bill, a
-# collection, and a look at a bill after 1,000 and after 100,000 bills and as many collections. The journal lies in memory (/dev/shm), where a sync costs nothing, so this is the work of the program and of the system's calls; bench/durable.sh has the disk's.
+# collection, and a look at a bill after 1,000 and after 100,000 bills and as many collections. The journal lies in memory
+# (/dev/shm), where a sync costs nothing, so this is the work of the program and of the system's calls; bench/durable.sh has
+# the disk's.
 top=$(cd "$(dirname "$0")/.." && pwd)
-"$top/cityfund" > /dev/null 2>&1 # builds it where it is out of date
+. "$top/tests/program.sh"
 scratch=$(mktemp -d /dev/shm/growth.XXXXXX) || exit 1
 trap 'rm -rf "$scratch"' EXIT
 cp "$top/examples/rivertown/chart.toml" "$scratch/chart.toml"
-cd "$scratch" && python3 - "$top/crates/cityfund/out/cityfund" <<'PY'
+cd "$scratch" && python3 - "$program" <<'PY'
 import os, subprocess, sys, threading, time
 
 ADOPT = ('{"call":"adopt","desk":1,"key":"b","on":"2025-07-01","fund":1,"year":2026,'
