@@ -191,7 +191,13 @@ pub(crate) fn made_of(chart: &Chart, registers: &Registers, entry: &Entry) -> Ma
     ensures { result ≡ results.made_of chart.now registers.now.registers entry.now }
 {
     let change = &entry.change;
-    made_known(chart, registers.revenue(), change.on, entry.drawn, &change.act)
+    made_known(
+        chart,
+        registers.revenue(),
+        change.on,
+        entry.drawn,
+        &change.act,
+    )
 }
 
 /// The fiscal year that a collection on a bill is revenue of.
