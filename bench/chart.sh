@@ -3,10 +3,10 @@
 # under the small example chart, on the built program. The journal lies in memory (/dev/shm), where a sync costs nothing.
 # Prints two rows.
 top=$(cd "$(dirname "$0")/.." && pwd)
-"$top/cityfund" > /dev/null 2>&1 # builds it where it is out of date
+. "$top/tests/program.sh"
 scratch=$(mktemp -d /dev/shm/chart.XXXXXX) || exit 1
 trap 'rm -rf "$scratch"' EXIT
-cd "$scratch" && python3 - "$top" <<'PY'
+cd "$scratch" && python3 - "$program" "$top" <<'PY'
 import os, shutil, subprocess, sys, time
 
 def table(name, count, row):
@@ -25,7 +25,7 @@ def largest():
 
 def run(word, text):
     start = time.time()
-    done = subprocess.run([sys.argv[1] + "/crates/cityfund/out/cityfund", word], input=text.encode(), stdout=subprocess.PIPE)
+    done = subprocess.run([sys.argv[1], word], input=text.encode(), stdout=subprocess.PIPE)
     return time.time() - start, done.stdout.count(b'"ok"'), done.returncode
 
 def talk(council, payables, line, dept, item):
@@ -35,7 +35,7 @@ def talk(council, payables, line, dept, item):
         yield (f'{{"call":"voucher","desk":{payables},"key":"v{n}","on":"2025-07-05","vendor":7,'
                f'"items":[{{"fund":1,"dept":{dept},"object":{item},"amount":1}}]}}\n')
 
-shutil.copy(sys.argv[1] + "/examples/rivertown/chart.toml", "chart.toml")
+shutil.copy(sys.argv[2] + "/examples/rivertown/chart.toml", "chart.toml")
 charts = [("Rivertown", None, (1, 4, 3, 20, 510)), ("largest", largest(), (64, 64, 4095, 8, 512))]
 for name, text, accounts in charts:
     if text:

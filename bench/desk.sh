@@ -2,16 +2,16 @@
 # Lines a second and peak memory of the desk's loop, on the built program: form replies and looks over an empty
 # history, so nothing is written to the journal. Prints two rows.
 top=$(cd "$(dirname "$0")/.." && pwd)
-"$top/cityfund" > /dev/null 2>&1 # builds it where it is out of date
+. "$top/tests/program.sh"
 scratch=$(mktemp -d) || exit 1
 trap 'rm -rf "$scratch"' EXIT
 cp "$top/examples/rivertown/chart.toml" "$scratch/chart.toml"
-(cd "$scratch" && "$top/crates/cityfund/out/cityfund" found > /dev/null) || exit 1
+(cd "$scratch" && "$program" found > /dev/null) || exit 1
 lines=400000
 yes 'hello' | head -n $lines > "$scratch/forms"
 yes '{"call":"line","line":3,"year":2026}' | head -n $lines > "$scratch/looks"
 for talk in forms looks; do
-    (cd "$scratch" && python3 - "$top/crates/cityfund/out/cityfund" $talk $lines <<'PY'
+    (cd "$scratch" && python3 - "$program" $talk $lines <<'PY'
 import resource, subprocess, sys, time
 program, talk, lines = sys.argv[1], sys.argv[2], int(sys.argv[3])
 start = time.time()

@@ -4,11 +4,11 @@
 # half as many calls as the disk syncs: the last number is calls / (syncs / 2). The file and the journal lie in a folder
 # made in the folder of the argument, or in bench/.
 top=$(cd "$(dirname "$0")/.." && pwd)
-"$top/cityfund" > /dev/null 2>&1 # builds it where it is out of date
+. "$top/tests/program.sh"
 scratch=$(mktemp -d "${1:-$top/bench}/durable.XXXXXX") || exit 1
 trap 'rm -rf "$scratch"' EXIT
 cp "$top/examples/rivertown/chart.toml" "$scratch/chart.toml"
-cd "$scratch" && python3 - "$top/crates/cityfund/out/cityfund" <<'PY'
+cd "$scratch" && python3 - "$program" <<'PY'
 import os, subprocess, sys, time
 
 TURNS, SYNCS, CALLS = 5, 1000, 500

@@ -4,11 +4,11 @@
 # entry; then microseconds a voucher on an order's item, and its void, after 1,000 and after 100,000 orders. The journal lies in memory (/dev/shm),
 # where a sync costs nothing, so this is the work of the program and of the system's calls; bench/durable.sh has the disk's.
 top=$(cd "$(dirname "$0")/.." && pwd)
-"$top/cityfund" > /dev/null 2>&1 # builds it where it is out of date
+. "$top/tests/program.sh"
 scratch=$(mktemp -d /dev/shm/growth.XXXXXX) || exit 1
 trap 'rm -rf "$scratch"' EXIT
 cp "$top/examples/rivertown/chart.toml" "$scratch/chart.toml"
-cd "$scratch" && python3 - "$top/crates/cityfund/out/cityfund" <<'PY'
+cd "$scratch" && python3 - "$program" <<'PY'
 import os, subprocess, sys, threading, time
 
 ADOPT = ('{"call":"adopt","desk":1,"key":"b","on":"2025-07-01","fund":1,"year":2026,'

@@ -3,11 +3,11 @@
 # one item, or as many as its argument says. Its bytes are written here, as syncs would make a desk too slow for that.
 # Prints the seconds of a desk on empty input, and entries a second.
 top=$(cd "$(dirname "$0")/.." && pwd)
-"$top/cityfund" > /dev/null 2>&1 # builds it where it is out of date
+. "$top/tests/program.sh"
 scratch=$(mktemp -d) || exit 1
 trap 'rm -rf "$scratch"' EXIT
 cp "$top/examples/rivertown/chart.toml" "$scratch/chart.toml"
-cd "$scratch" && python3 - "$top/crates/cityfund/out/cityfund" "${1:-200000}" <<'PY'
+cd "$scratch" && python3 - "$program" "${1:-200000}" <<'PY'
 import datetime, os, resource, struct, subprocess, sys, time
 
 PROGRAM, VOUCHERS = sys.argv[1], int(sys.argv[2])

@@ -1,11 +1,18 @@
 #!/bin/sh
 # Runs the examples through the launcher and compares what it prints with the replies beside them: each talk of
-# examples/ over a journal of its own, founded with the chart of Rivertown, and the day of examples/two-runs/ by two
-# desks, one after the other, over one journal. Then what founding and opening refuse.
+# examples/ over a journal of its own, founded with the chart of Rivertown, those of examples/milltown/ with the chart of
+# Milltown, and the day of examples/two-runs/ by two desks, one after the other, over one journal. Then what founding and
+# opening refuse, and the launcher with stubs (launcher.sh).
 cd "$(dirname "$0")/.." || exit 1
 top=$(pwd)
+. tests/program.sh
 scratch=$(mktemp -d) || exit 1
 trap 'rm -rf "$scratch"' EXIT
+# The launcher runs the program from a folder of its own, as it does at a city without the sources.
+city=$scratch/city
+mkdir -p "$city/out"
+cp cityfund "$city/cityfund"
+cp "$program" "$city/out/cityfund"
 passed=0
 failed=0
 
@@ -23,7 +30,7 @@ verdict() {
 expect() {
     name=$1 wanted=$2 text=$3
     shift 3
-    said=$(cd "$scratch" && "$top/cityfund" "$@" 2>&1 < /dev/null)
+    said=$(cd "$scratch" && "$city/cityfund" "$@" 2>&1 < /dev/null)
     status=$?
     [ "$status" -eq "$wanted" ] && [ "$said" = "$text" ]
     verdict "$name: status $status: $said" $?
@@ -31,24 +38,28 @@ expect() {
 
 # talk LINES REPLIES: a desk over the journal that is there.
 talk() {
-    (cd "$scratch" && "$top/cityfund" desk < "$top/$1" > got)
+    (cd "$scratch" && "$city/cityfund" desk < "$top/$1" > got)
     status=$?
     [ "$status" -eq 0 ] && diff "$scratch/got" "$2"
     verdict "$1: status $status" $?
 }
 
+# fresh CITY: no journal, and the city's chart.
 fresh() {
     rm -f "$scratch/fund.journal"
-    cp examples/rivertown/chart.toml "$scratch/chart.toml"
+    cp "examples/$1/chart.toml" "$scratch/chart.toml"
 }
 
-for lines in examples/*.jsonl; do
-    fresh
+for lines in examples/*.jsonl examples/milltown/*.jsonl; do
+    case $lines in
+    examples/milltown/*) fresh milltown ;;
+    *) fresh rivertown ;;
+    esac
     expect "found for $lines" 0 founded found
     talk "$lines" "${lines%.jsonl}.replies"
 done
 
-fresh
+fresh rivertown
 expect "found for two runs" 0 founded found
 talk examples/two-runs/morning.jsonl examples/two-runs/morning.replies
 # The journal has the chart, so the desk needs no other.
@@ -67,7 +78,7 @@ verdict "the journal stays" $?
 # A second desk, while the first waits for a line.
 rm -f "$scratch/got"
 mkfifo "$scratch/lines"
-(cd "$scratch" && "$top/cityfund" desk < lines > got) &
+(cd "$scratch" && "$city/cityfund" desk < lines > got) &
 exec 3> "$scratch/lines"
 printf '%s\n' '{"call":"line","line":3,"year":2026}' >&3
 until [ -s "$scratch/got" ] || ! kill -0 $! 2> /dev/null; do sleep 0.1; done
@@ -78,11 +89,20 @@ verdict "the first desk goes on" $?
 cmp -s "$scratch/fund.journal" "$scratch/before"
 verdict "the journal of two desks stays" $?
 
+# A journal whose first byte is damaged isn't founded over.
+printf '\000' | dd of="$scratch/fund.journal" bs=1 conv=notrunc 2> /dev/null
+expect "a desk without a first byte" 7 "cityfund: not founded" desk
+expect "found without a first byte" 1 \
+    "cityfund: fund.journal doesn't begin as a journal, and may still hold entries: move it away first" found
+printf '\001' | dd of="$scratch/fund.journal" bs=1 conv=notrunc 2> /dev/null
+cmp -s "$scratch/fund.journal" "$scratch/before"
+verdict "the journal without a first byte stays" $?
+
 # Another version of the journal.
 printf '\002' | dd of="$scratch/fund.journal" bs=1 seek=1 conv=notrunc 2> /dev/null
 expect "another version" 9 "cityfund: damaged at 1" desk
 
-fresh
+fresh rivertown
 expect "a desk without a journal" 7 "cityfund: not founded" desk
 [ ! -e "$scratch/fund.journal" ]
 verdict "no journal is made" $?
@@ -90,6 +110,9 @@ verdict "no journal is made" $?
 sed 's/^window = 60$/window = 61/' examples/rivertown/chart.toml > "$scratch/chart.toml"
 expect "a window of 61" 3 "cityfund: chart refused" found
 expect "a desk after a refused chart" 7 "cityfund: not founded" desk
+
+sh tests/launcher.sh
+verdict "the launcher" $?
 
 echo "examples: $passed passed, $failed failed"
 [ "$failed" -eq 0 ]

@@ -4,11 +4,11 @@
 # it was answered with, and at most one call more, the next one of the stream. This is of the program alone: what the
 # system had taken of a write outlives the program, so it shows nothing of a power cut. Not part of the merge gate.
 top=$(cd "$(dirname "$0")/.." && pwd)
-"$top/cityfund" > /dev/null 2>&1 # builds it where it is out of date
+. "$top/tests/program.sh"
 scratch=$(mktemp -d) || exit 1
 trap 'rm -rf "$scratch"' EXIT
 cp "$top/examples/rivertown/chart.toml" "$scratch/chart.toml"
-cd "$scratch" && python3 - "$top/crates/cityfund/out/cityfund" "${1:-100}" <<'PY'
+cd "$scratch" && python3 - "$program" "${1:-100}" <<'PY'
 import itertools, json, random, subprocess, sys, threading
 
 PROGRAM, ROUNDS = sys.argv[1], int(sys.argv[2])

@@ -17,8 +17,8 @@ use Rattle.cf_calls.specs.declared.acts.LeaveAct.TheVariants.{Earn, Use, Mature}
 use Rattle.cf_calls.specs.declared.acts.Period.{Period}
 use Rattle.cf_calls.specs.declared.acts.Period.TheVariants as period
 use Rattle.cf_calls.specs.Form.{IsYear, IsCount, IsAdoptionForm, IsIssueForm, IsVoucherForm, IsPeriodForm, IsActInForm, IsWithinLimits, is_by, is_distinct, is_most, is_period, same_line, same_source, same_number}
-use Rattle.cf_codec.specs.declared.kind.ActKind.{ActKind}
-use Rattle.cf_codec.specs.declared.kind.ActKind.TheVariants as kind
+use Rattle.cf_calls.specs.declared.kind.ActKind.{ActKind}
+use Rattle.cf_calls.specs.declared.kind.ActKind.TheVariants as kind
 use Rattle.cf_codec.specs.Formats.{Format, and_then, kept}
 use Rattle.cf_codec.specs.Fields.{byte, half, word, one_of, flag, year, amount, most_amount, signed, month}
 use Rattle.cf_codec.specs.Kinds.{kind_of, value_in, kinds, kind_value, kind_code, kind, moves, move_value, move_code, move_kind}

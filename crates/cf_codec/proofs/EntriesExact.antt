@@ -11,8 +11,8 @@ use Rattle.cf_calls.specs.declared.acts.AssetAct.TheVariants.{Donate}
 use Rattle.cf_calls.specs.declared.entry.Drawn.{Drawn}
 use Rattle.cf_calls.specs.declared.entry.Entry.{Entry}
 use Rattle.cf_calls.specs.Form.{is_key, IsActInForm, IsDrawn, IsPaymentNumber, IsEntryInForm}
-use Rattle.cf_codec.specs.declared.kind.ActKind.{ActKind}
-use Rattle.cf_codec.specs.declared.kind.ActKind.TheVariants as kind
+use Rattle.cf_calls.specs.declared.kind.ActKind.{ActKind}
+use Rattle.cf_calls.specs.declared.kind.ActKind.TheVariants as kind
 use Rattle.cf_codec.specs.Formats.{Format}
 use Rattle.cf_codec.specs.Fields.{half, word, key, day}
 use Rattle.cf_codec.specs.Kinds.{kind_of, kind}

@@ -35,8 +35,8 @@ use Rattle.cf_calls.specs.declared.items.Charge.TheVariants.{Direct, OnOrder}
 use Rattle.cf_calls.specs.declared.items.Liquidation.{Liquidation}
 use Rattle.cf_calls.specs.declared.items.Liquidation.TheVariants.{Lesser, Recorded, Final}
 use Rattle.cf_calls.specs.Form.{is_distinct, is_period, month_number, same_line, same_source, same_number, same_order_item}
-use Rattle.cf_codec.specs.declared.kind.ActKind.{ActKind}
-use Rattle.cf_codec.specs.declared.kind.ActKind.TheVariants as kind
+use Rattle.cf_calls.specs.declared.kind.ActKind.{ActKind}
+use Rattle.cf_calls.specs.declared.kind.ActKind.TheVariants as kind
 use Rattle.cf_codec.specs.Formats.{Format, and_then, kept, list, field, ◌>>=◌, done}
 use Rattle.cf_codec.specs.Fields.{byte, half, word, one_of, flag, year, amount, most_amount, signed, month}
 use Rattle.cf_codec.specs.Kinds.{move_kind}

@@ -3,34 +3,8 @@
 ghost use Rattle.std.specs.Prelude.{◌≡◌};
 ghost use Rattle.cf_codec.specs.Kinds as spec;
 
-use cf_calls::Act;
 use cf_calls::acts::FundMoveKind;
-
-/// Which call an entry is of.
-#[derive(Clone, Copy)]
-pub enum ActKind {
-    Adopt,
-    Amend,
-    Transfer,
-    Requisition,
-    Withdraw,
-    Order,
-    ChangeOrder,
-    CancelOrder,
-    Voucher,
-    VoidVoucher,
-    Pay,
-    Bill,
-    Collect,
-    Receive,
-    WriteOff,
-    Asset,
-    Issue,
-    PayDue,
-    Leave,
-    Interfund,
-    Close,
-}
+use cf_calls::{Act, ActKind};
 
 /// The kind of an act.
 pub fn kind_of(act: &Act) -> ActKind

@@ -7,10 +7,10 @@ ghost use Rattle.cf_codec.specs.Fields as spec;
 ghost use Rattle.cf_codec.specs.Kinds as kinds;
 ghost use Rattle.cf_codec.specs.Puts.{HasRoom, Puts};
 
-use crate::kind::{ActKind, kind_code, move_code};
+use crate::kind::{kind_code, move_code};
 use cf_base::{Day, Month};
-use cf_calls::Key;
 use cf_calls::acts::FundMoveKind;
+use cf_calls::{ActKind, Key};
 
 /// A number of 1 byte.
 #[tactic(auto, unfolding(crate::specs::Formats::number_bytes))]

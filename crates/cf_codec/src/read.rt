@@ -7,12 +7,11 @@ ghost use Rattle.cf_codec.specs.Entries as spec;
 ghost use Rattle.cf_codec.specs.Entries.{BeginsWith, HasPayload, payload, read_of};
 
 use crate::fault::{CodecFault, CodecRefused, Refused};
-use crate::kind::ActKind;
 use crate::take::{faulty, take_day, take_half, take_key, take_kind, take_word};
 use crate::take_acts::take_act;
 use cf_base::Day;
 use cf_calls::acts::AssetAct;
-use cf_calls::{Act, Change, Drawn, Entry};
+use cf_calls::{Act, ActKind, Change, Drawn, Entry};
 use std::alloc::Global;
 
 /// Whether an entry of a kind may be dated so: a bond is issued on one of the first 28 days of a month.

@@ -10,10 +10,10 @@ ghost use Rattle.cf_codec.specs.Fields as spec;
 ghost use Rattle.cf_codec.specs.Kinds as kinds;
 
 use crate::fault::Refused;
-use crate::kind::{ActKind, kind_value, move_value};
+use crate::kind::{kind_value, move_value};
 use cf_base::{Cents, Day, MOST_CENTS, Month};
-use cf_calls::Key;
 use cf_calls::acts::FundMoveKind;
+use cf_calls::{ActKind, Key};
 use std::alloc::Global;
 
 /// The fault of the field that these bytes begin with.

@@ -12,20 +12,19 @@ use crate::fault::Refused;
 use crate::items::{
     AccountElement, LineElement, Principal, SourceElement, VoucherElement, VoucherNumber,
 };
-use crate::kind::ActKind;
 use crate::lists::{Element, take_distinct, take_list};
 use crate::take::{
     faulty, or_faulty, take_amount, take_between, take_byte, take_flag, take_half, take_month,
     take_most_amount, take_move_kind, take_one_of, take_signed, take_word, take_year,
 };
 use cf_base::Day;
-use cf_calls::Act;
 use cf_calls::acts::{
     Adoption, Amendment, AssetAct, BillAmount, BondIssue, DebtPayment, Disposal, Donation,
     FundMove, LeaveAct, LeaveAmount, LeaveMaturity, LineTransfer, NewBill, NewOrder,
     NewRequisition, NewVoucher, OrderChange, Payment, Period,
 };
 use cf_calls::items::Principals;
+use cf_calls::{Act, ActKind};
 use std::alloc::Global;
 
 fn take_adoption(alloc: Global, bytes: &[u8]) -> Result<(Adoption, &[u8]), Refused>

@@ -29,8 +29,8 @@ use Rattle.cf_calls.specs.declared.acts.Period.TheVariants as period
 use Rattle.cf_calls.specs.declared.items.SourceAmount.{SourceAmount}
 use Rattle.cf_calls.specs.Form.{is_period, month_number}
 use Rattle.cf_json.specs.declared.fault.FormFault.{FormFault}
-use Rattle.cf_json.specs.declared.words.ChangeWord.{ChangeWord}
-use Rattle.cf_json.specs.declared.words.ChangeWord.TheVariants as word
+use Rattle.cf_calls.specs.declared.kind.ActKind.{ActKind}
+use Rattle.cf_calls.specs.declared.kind.ActKind.TheVariants as word
 use Rattle.cf_json.specs.declared.words.AssetWord.{AssetWord}
 use Rattle.cf_json.specs.declared.words.AssetWord.TheVariants as asset
 use Rattle.cf_json.specs.declared.words.LeaveWord.{LeaveWord}
@@ -211,7 +211,7 @@ abbrev pub period_of : Data → Result Period FormFault
 period_of d = field (as_word period_words) (codes "what") d >>= (λ what. period_by what d)
 
 -- the act of a changing call on a day
-abbrev pub act_of : ChangeWord → Day → Data → Result Act FormFault
+abbrev pub act_of : ActKind → Day → Data → Result Act FormFault
 act_of word.Adopt on d = adoption_of d >>= (λ a. Ok (Adopt a))
 act_of word.Amend on d = amendment_of d >>= (λ a. Ok (Amend a))
 act_of word.Transfer on d = transfer_of d >>= (λ t. Ok (Transfer t))

@@ -8,7 +8,7 @@ use Rattle.cf_calls.specs.declared.call.Call.{Call}
 use Rattle.cf_calls.specs.declared.call.Call.TheVariants as call
 use Rattle.cf_json.specs.declared.fault.FormFault.{FormFault}
 use Rattle.cf_json.specs.declared.fault.FormFault.TheVariants as fault
-use Rattle.cf_json.specs.declared.words.ChangeWord.{ChangeWord}
+use Rattle.cf_calls.specs.declared.kind.ActKind.{ActKind}
 use Rattle.cf_json.specs.declared.words.LookWord.{LookWord}
 use Rattle.cf_json.specs.Faults.{◌>>=◌}
 use Rattle.cf_json.specs.Fields.{field, optional, only}
@@ -21,7 +21,7 @@ use Rattle.cf_json.specs.Reads.{read_of, look_names}
 abbrev pub change_names : List (List ℕ)
 change_names = codes "call" ∷ codes "desk" ∷ codes "key" ∷ codes "on" ∷ codes "after" ∷ []
 
-abbrev pub change_of : ChangeWord → Data → Result Call FormFault
+abbrev pub change_of : ActKind → Data → Result Call FormFault
 change_of w d = do
   desk ← field as_n16 (codes "desk") d
   key ← field as_key (codes "key") d
@@ -47,7 +47,7 @@ abbrev pub has_hand : Data → Bool
 has_hand d = is_some (get (codes "desk") d) || is_some (get (codes "key") d) || is_some (get (codes "on") d)
 
 -- a word of both tables is the look where no such field is there
-abbrev pub call_by : Option ChangeWord → Option LookWord → Data → Result Call FormFault
+abbrev pub call_by : Option ActKind → Option LookWord → Data → Result Call FormFault
 call_by None None d = Err fault.Call
 call_by (Some w) None d = change_of w d
 call_by None (Some l) d = look_of l d

@@ -12,13 +12,13 @@ use Rattle.cf_json.specs.declared.words.LeaveWord.{LeaveWord}
 use Rattle.cf_json.specs.declared.words.LeaveWord.TheVariants as leave
 use Rattle.cf_json.specs.declared.words.PeriodWord.{PeriodWord}
 use Rattle.cf_json.specs.declared.words.PeriodWord.TheVariants as period
-use Rattle.cf_json.specs.declared.words.ChangeWord.{ChangeWord}
-use Rattle.cf_json.specs.declared.words.ChangeWord.TheVariants.{Adopt, Amend, Transfer, Requisition, Withdraw, Order, ChangeOrder, CancelOrder, Voucher, VoidVoucher, Pay, Bill, Collect, Receive, WriteOff, Asset, Issue, PayDue, Leave, Interfund, Close}
+use Rattle.cf_calls.specs.declared.kind.ActKind.{ActKind}
+use Rattle.cf_calls.specs.declared.kind.ActKind.TheVariants.{Adopt, Amend, Transfer, Requisition, Withdraw, Order, ChangeOrder, CancelOrder, Voucher, VoidVoucher, Pay, Bill, Collect, Receive, WriteOff, Asset, Issue, PayDue, Leave, Interfund, Close}
 use Rattle.cf_json.specs.declared.words.LookWord.{LookWord}
 use Rattle.cf_json.specs.declared.words.LookWord.TheVariants as look
 
 -- the words of the changing calls
-abbrev pub change_words : List (List ℕ × ChangeWord)
+abbrev pub change_words : List (List ℕ × ActKind)
 change_words =
     (codes "adopt", Adopt) ∷ (codes "amend", Amend) ∷ (codes "transfer", Transfer) ∷ (codes "requisition", Requisition) ∷ (codes "withdraw", Withdraw)
     ∷ (codes "order", Order) ∷ (codes "change_order", ChangeOrder) ∷ (codes "cancel_order", CancelOrder) ∷ (codes "voucher", Voucher) ∷ (codes "void_voucher", VoidVoucher)

@@ -11,15 +11,15 @@ use crate::fields::{may, must, need};
 use crate::items::{ChargedItem, LineItem, PlainItem, Principal, SourceItem, VoucherNumber};
 use crate::kinds::{By, Count, Flag, MonthText, N16, N32, Year};
 use crate::lists::list;
-use crate::words::{AssetWord, ChangeWord, LeaveWord, MoveWord, PeriodWord};
+use crate::words::{AssetWord, LeaveWord, MoveWord, PeriodWord};
 use cf_base::Day;
-use cf_calls::Act;
 use cf_calls::acts::{
     Adoption, Amendment, AssetAct, BillAmount, BondIssue, DebtPayment, Disposal, Donation,
     FundMove, LeaveAct, LeaveAmount, LeaveMaturity, LineTransfer, NewBill, NewOrder,
     NewRequisition, NewVoucher, OrderChange, Payment, Period,
 };
 use cf_calls::items::SourceAmount;
+use cf_calls::{Act, ActKind};
 use serde_json::Value;
 use std::alloc::Global;
 
@@ -334,32 +334,32 @@ fn period(alloc: Global, value: &Value) -> Result<Period, CallRefused>
 }
 
 /// The act of a changing call on a day.
-pub fn act_of(alloc: Global, word: ChangeWord, on: Day, value: &Value) -> Result<Act, CallRefused>
+pub fn act_of(alloc: Global, word: ActKind, on: Day, value: &Value) -> Result<Act, CallRefused>
     ensures answer { Gives result (spec.act_of word on (view value.now)) }
     ensures form { IfOk result (IsActInForm on) }
 {
     match word {
-        ChangeWord::Adopt => Ok(Act::Adopt(adoption(alloc, value)?)),
-        ChangeWord::Amend => Ok(Act::Amend(amendment(alloc, value)?)),
-        ChangeWord::Transfer => Ok(Act::Transfer(transfer(alloc, value)?)),
-        ChangeWord::Requisition => Ok(Act::Requisition(new_requisition(alloc, value)?)),
-        ChangeWord::Withdraw => Ok(Act::Withdraw(need::<N32>(alloc, value, "requisition")?)),
-        ChangeWord::Order => Ok(Act::Order(new_order(alloc, value)?)),
-        ChangeWord::ChangeOrder => Ok(Act::ChangeOrder(order_change(alloc, value)?)),
-        ChangeWord::CancelOrder => Ok(Act::CancelOrder(need::<N32>(alloc, value, "order")?)),
-        ChangeWord::Voucher => Ok(Act::Voucher(new_voucher(alloc, value)?)),
-        ChangeWord::VoidVoucher => Ok(Act::VoidVoucher(need::<N32>(alloc, value, "voucher")?)),
-        ChangeWord::Pay => Ok(Act::Pay(payment(alloc, value)?)),
-        ChangeWord::Bill => Ok(Act::Bill(new_bill(alloc, value)?)),
-        ChangeWord::Collect => Ok(Act::Collect(bill_amount(alloc, value)?)),
-        ChangeWord::Receive => Ok(Act::Receive(receipt(alloc, value)?)),
-        ChangeWord::WriteOff => Ok(Act::WriteOff(bill_amount(alloc, value)?)),
-        ChangeWord::Asset => Ok(Act::Asset(asset_act(alloc, value)?)),
-        ChangeWord::Issue => Ok(Act::Issue(issue(alloc, on, value)?)),
-        ChangeWord::PayDue => Ok(Act::PayDue(debt_payment(alloc, value)?)),
-        ChangeWord::Leave => Ok(Act::Leave(leave_act(alloc, value)?)),
-        ChangeWord::Interfund => Ok(Act::Interfund(fund_move(alloc, value)?)),
-        ChangeWord::Close => Ok(Act::Close(period(alloc, value)?)),
+        ActKind::Adopt => Ok(Act::Adopt(adoption(alloc, value)?)),
+        ActKind::Amend => Ok(Act::Amend(amendment(alloc, value)?)),
+        ActKind::Transfer => Ok(Act::Transfer(transfer(alloc, value)?)),
+        ActKind::Requisition => Ok(Act::Requisition(new_requisition(alloc, value)?)),
+        ActKind::Withdraw => Ok(Act::Withdraw(need::<N32>(alloc, value, "requisition")?)),
+        ActKind::Order => Ok(Act::Order(new_order(alloc, value)?)),
+        ActKind::ChangeOrder => Ok(Act::ChangeOrder(order_change(alloc, value)?)),
+        ActKind::CancelOrder => Ok(Act::CancelOrder(need::<N32>(alloc, value, "order")?)),
+        ActKind::Voucher => Ok(Act::Voucher(new_voucher(alloc, value)?)),
+        ActKind::VoidVoucher => Ok(Act::VoidVoucher(need::<N32>(alloc, value, "voucher")?)),
+        ActKind::Pay => Ok(Act::Pay(payment(alloc, value)?)),
+        ActKind::Bill => Ok(Act::Bill(new_bill(alloc, value)?)),
+        ActKind::Collect => Ok(Act::Collect(bill_amount(alloc, value)?)),
+        ActKind::Receive => Ok(Act::Receive(receipt(alloc, value)?)),
+        ActKind::WriteOff => Ok(Act::WriteOff(bill_amount(alloc, value)?)),
+        ActKind::Asset => Ok(Act::Asset(asset_act(alloc, value)?)),
+        ActKind::Issue => Ok(Act::Issue(issue(alloc, on, value)?)),
+        ActKind::PayDue => Ok(Act::PayDue(debt_payment(alloc, value)?)),
+        ActKind::Leave => Ok(Act::Leave(leave_act(alloc, value)?)),
+        ActKind::Interfund => Ok(Act::Interfund(fund_move(alloc, value)?)),
+        ActKind::Close => Ok(Act::Close(period(alloc, value)?)),
     }
 }
 

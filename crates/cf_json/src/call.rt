@@ -11,13 +11,13 @@ use crate::fault::{CallRefused, FormFault};
 use crate::fields::{key, may, need, only};
 use crate::kinds::{Count, DayText, N16};
 use crate::looks::{look_names, read_of};
-use crate::words::{ChangeWord, LookWord, change_word, look_word};
-use cf_calls::{Call, Change, Look};
+use crate::words::{LookWord, change_word, look_word};
+use cf_calls::{ActKind, Call, Change, Look};
 use serde_json::Value;
 use serde_json::error::Category;
 use std::alloc::Global;
 
-fn change_of(alloc: Global, word: ChangeWord, value: &Value) -> Result<Call, CallRefused>
+fn change_of(alloc: Global, word: ActKind, value: &Value) -> Result<Call, CallRefused>
     ensures answer { Gives result (spec.change_of word (view value.now)) }
     ensures form { IfOk result IsCallInForm }
 {
@@ -56,7 +56,7 @@ fn has_hand(value: &Value) -> bool
 
 fn call_by(
     alloc: Global,
-    change: Option<ChangeWord>,
+    change: Option<ActKind>,
     look: Option<LookWord>,
     value: &Value,
 ) -> Result<Call, CallRefused>

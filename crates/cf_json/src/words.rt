@@ -6,35 +6,9 @@ ghost use Rattle.cf_json.specs.Words.{change_words, look_words, asset_words, lea
 
 use crate::kinds::FieldKind;
 use cf_base::Kind;
-use cf_calls::Basis;
 use cf_calls::acts::FundMoveKind;
+use cf_calls::{ActKind, Basis};
 use serde_json::Value;
-
-/// Which changing call a line is.
-#[derive(Clone, Copy)]
-pub enum ChangeWord {
-    Adopt,
-    Amend,
-    Transfer,
-    Requisition,
-    Withdraw,
-    Order,
-    ChangeOrder,
-    CancelOrder,
-    Voucher,
-    VoidVoucher,
-    Pay,
-    Bill,
-    Collect,
-    Receive,
-    WriteOff,
-    Asset,
-    Issue,
-    PayDue,
-    Leave,
-    Interfund,
-    Close,
-}
 
 /// Which look a line is.
 #[derive(Clone, Copy)]
@@ -75,31 +49,31 @@ pub enum PeriodWord {
 }
 
 /// The changing call of a word.
-pub fn change_word(text: &str) -> Option<ChangeWord>
+pub fn change_word(text: &str) -> Option<ActKind>
     ensures { result ≡ word_in change_words text.now }
 {
     match text {
-        "adopt" => Some(ChangeWord::Adopt),
-        "amend" => Some(ChangeWord::Amend),
-        "transfer" => Some(ChangeWord::Transfer),
-        "requisition" => Some(ChangeWord::Requisition),
-        "withdraw" => Some(ChangeWord::Withdraw),
-        "order" => Some(ChangeWord::Order),
-        "change_order" => Some(ChangeWord::ChangeOrder),
-        "cancel_order" => Some(ChangeWord::CancelOrder),
-        "voucher" => Some(ChangeWord::Voucher),
-        "void_voucher" => Some(ChangeWord::VoidVoucher),
-        "pay" => Some(ChangeWord::Pay),
-        "bill" => Some(ChangeWord::Bill),
-        "collect" => Some(ChangeWord::Collect),
-        "receive" => Some(ChangeWord::Receive),
-        "write_off" => Some(ChangeWord::WriteOff),
-        "asset" => Some(ChangeWord::Asset),
-        "issue" => Some(ChangeWord::Issue),
-        "pay_due" => Some(ChangeWord::PayDue),
-        "leave" => Some(ChangeWord::Leave),
-        "interfund" => Some(ChangeWord::Interfund),
-        "close" => Some(ChangeWord::Close),
+        "adopt" => Some(ActKind::Adopt),
+        "amend" => Some(ActKind::Amend),
+        "transfer" => Some(ActKind::Transfer),
+        "requisition" => Some(ActKind::Requisition),
+        "withdraw" => Some(ActKind::Withdraw),
+        "order" => Some(ActKind::Order),
+        "change_order" => Some(ActKind::ChangeOrder),
+        "cancel_order" => Some(ActKind::CancelOrder),
+        "voucher" => Some(ActKind::Voucher),
+        "void_voucher" => Some(ActKind::VoidVoucher),
+        "pay" => Some(ActKind::Pay),
+        "bill" => Some(ActKind::Bill),
+        "collect" => Some(ActKind::Collect),
+        "receive" => Some(ActKind::Receive),
+        "write_off" => Some(ActKind::WriteOff),
+        "asset" => Some(ActKind::Asset),
+        "issue" => Some(ActKind::Issue),
+        "pay_due" => Some(ActKind::PayDue),
+        "leave" => Some(ActKind::Leave),
+        "interfund" => Some(ActKind::Interfund),
+        "close" => Some(ActKind::Close),
         _ => None,
     }
 }

@@ -1,6 +1,6 @@
 //! The office that answers by running numbers and look-ups.
 
-ghost use Rattle.std.specs.Prelude.{◌≡◌, ◌≤◌, ◌++◌, ◌∷◌, [], length, take, ℕ, IfOk, IfSome};
+ghost use Rattle.std.specs.Prelude.{◌≡◌, ◌≤◌, ◌++◌, ◌∷◌, [], length, take, ℕ, IfOk, IfSome, OnOk, OnErr};
 ghost use Rattle.cf_calls.specs.declared.entry.Entry.{Entry};
 ghost use Rattle.cf_model.specs.LineNumbers.{HasRoom};
 ghost use Rattle.cf_model.specs.Step.{Adds, IsLegal};
@@ -8,7 +8,7 @@ ghost use Rattle.cf_model.specs.Registers.{registers_of};
 ghost use Rattle.cf_model.specs.Results.{made_of};
 ghost use Rattle.cf_office.specs.BookState.{IsPrepared};
 
-use crate::history::{History, Office};
+use crate::history::History;
 use crate::prepared::{Prepared, apply_lines, apply_rest, reserve};
 use crate::registers::Registers;
 use crate::rest::Rest;
@@ -80,6 +80,18 @@ impl BookOffice {
         apply_lines(&mut self.lines, prepared.lines);
         apply_rest(&mut self.rest, prepared.rest)
     }
+
+    /// Adds an entry that the rules accept, and says what it made. Where there is no memory nothing changes.
+    pub fn accept(&mut self, entry: Entry) -> Result<Made, AllocError>
+        requires { Adds self.old.plan self.old.entries entry }
+        ensures plan { self.new.plan ≡ self.old.plan }
+        ensures ok { OnOk result (self.new.entries ≡ self.old.entries ++ entry ∷ []) }
+        ensures made { IfOk result (λ m. m ≡ made_of self.old.plan (registers_of self.old.plan self.old.entries) entry) }
+        ensures err { OnErr result (self.new.entries ≡ self.old.entries) }
+    {
+        let prepared = self.reserve(entry)?;
+        Ok(self.apply(prepared))
+    }
 }
 
 impl History for BookOffice {
@@ -129,12 +141,5 @@ impl History for BookOffice {
 
     fn numbers(&self, line: u16, year: u16) -> LineNumbers {
         self.lines.numbers(LineId { number: line }, year)
-    }
-}
-
-impl Office for BookOffice {
-    fn accept(&mut self, entry: Entry) -> Result<Made, AllocError> {
-        let prepared = self.reserve(entry)?;
-        Ok(self.apply(prepared))
     }
 }

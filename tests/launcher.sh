@@ -1,0 +1,85 @@
+#!/bin/sh
+# Tries ./build and ./cityfund with an rt and a program that are stubs: a failed build leaves the old program and is said
+# to have failed, the launcher builds nothing, and what could be a journal isn't founded over.
+cd "$(dirname "$0")/.." || exit 1
+scratch=$(mktemp -d) || exit 1
+trap 'rm -rf "$scratch"' EXIT
+city=$scratch/city
+passed=0
+failed=0
+
+# expect NAME STATUS TEXT COMMAND..: runs the command in the folder of the journal; TEXT is the last line of what it says.
+expect() {
+    name=$1 wanted=$2 text=$3
+    shift 3
+    said=$(cd "$scratch/desk" && PATH=$scratch/kit:$PATH "$@" 2>&1 < /dev/null)
+    status=$?
+    if [ "$status" -eq "$wanted" ] && [ "$(echo "$said" | tail -n 1)" = "$text" ]; then
+        passed=$((passed + 1))
+    else
+        failed=$((failed + 1))
+        echo "failed: $name: status $status: $said"
+    fi
+}
+
+# rt STATUS NAME: from now on rt builds the program NAME and ends with this status; where the name is empty it builds none.
+rt() {
+    printf '#!/bin/sh\n[ -z "%s" ] || { mkdir -p out; cp %s out/cityfund; }\nexit %s\n' "$2" "$scratch/$2" "$1" > "$scratch/kit/rt"
+    chmod +x "$scratch/kit/rt"
+}
+
+# program NAME: a program that says NAME and its words, and without words ends as the real one does.
+program() {
+    printf '#!/bin/sh\necho "%s $*"\n[ $# -gt 0 ] || exit 2\n' "$1" > "$scratch/$1"
+    chmod +x "$scratch/$1"
+}
+
+mkdir -p "$scratch/kit" "$scratch/desk" "$city/crates/cityfund/src"
+cp build cityfund "$city/"
+echo 'cityfund:' > "$city/crates.txt"
+: > "$city/crates/cityfund/src/main.rt"
+program old
+program new
+
+expect "no program" 1 "cityfund: there is no program yet: run $city/build" "$city/cityfund" desk
+rt 1 ''
+expect "a first build that fails" 1 "build: failed: rt ended with status 1; out/cityfund is as it was" "$city/build"
+expect "still no program" 1 "cityfund: there is no program yet: run $city/build" "$city/cityfund" desk
+rt 7 old
+expect "a first build" 0 "build: built out/cityfund" "$city/build"
+expect "the program runs" 0 "old desk" "$city/cityfund" desk
+expect "nothing is said before it" 0 "old desk" sh -c "'$city/cityfund' desk 2>&1 | head -n 1"
+touch "$city/crates/cityfund/src/main.rt"
+expect "a newer source is told" 0 "cityfund: a source is newer than this program: $city/build makes a new one" \
+    sh -c "'$city/cityfund' desk 2>&1 > out"
+rt 1 ''
+expect "a later build that fails" 1 "build: failed: rt ended with status 1; out/cityfund is as it was" "$city/build"
+expect "the old program runs" 0 "old desk" "$city/cityfund" desk
+expect "and isn't taken for the new one" 0 "cityfund: a source is newer than this program: $city/build makes a new one" \
+    sh -c "'$city/cityfund' desk 2>&1 > out"
+rt 127 ''
+expect "a build without rt" 1 "build: failed: rt ended with status 127; out/cityfund is as it was" "$city/build"
+printf '#!/bin/sh\nexit 3\n' > "$scratch/broken"
+chmod +x "$scratch/broken"
+rt 7 broken
+expect "a program that doesn't run" 1 "build: failed: the program that was built doesn't run; out/cityfund is as it was" "$city/build"
+expect "the old program still runs" 0 "old desk" "$city/cityfund" desk
+rt 7 new
+expect "a later build" 0 "build: built out/cityfund" "$city/build"
+expect "the new program runs" 0 "new desk" sh -c "'$city/cityfund' desk 2>&1 | head -n 1"
+[ "$(ls "$city/out")" = cityfund ]
+expect "nothing is left beside it" 0 "" test $? -eq 0
+
+printf '\003\001entries' > "$scratch/desk/fund.journal"
+expect "found beside what isn't a journal" 1 \
+    "cityfund: fund.journal doesn't begin as a journal, and may still hold entries: move it away first" "$city/cityfund" found
+expect "desk beside it" 0 "new desk" "$city/cityfund" desk
+printf '\001\001entries' > "$scratch/desk/fund.journal"
+expect "found beside a journal" 0 "new found" "$city/cityfund" found
+printf '\003' > "$scratch/desk/fund.journal"
+expect "found beside one byte" 0 "new found" "$city/cityfund" found
+: > "$scratch/desk/fund.journal"
+expect "found beside an empty file" 0 "new found" "$city/cityfund" found
+
+echo "launcher: $passed passed, $failed failed"
+[ "$failed" -eq 0 ]
