@@ -7,8 +7,6 @@ mod money;
 mod outside;
 mod standard;
 mod statement;
-#[cfg(test)]
-mod tests;
 mod window;
 
 pub use calendar::{Day, Month, day_text, fiscal_year, month_of, month_text, read_day, read_month};

@@ -9,12 +9,8 @@ mod measure;
 mod put;
 mod put_acts;
 mod read;
-#[cfg(test)]
-mod table;
 mod take;
 mod take_acts;
-#[cfg(test)]
-mod tests;
 mod write;
 
 pub use fault::{CodecFault, CodecRefused, NoMemory};

@@ -8,6 +8,3 @@ mod memory;
 pub use disk::Disk;
 pub use file::FileDisk;
 pub use memory::{DiskCall, MemDisk};
-
-#[cfg(test)]
-mod tests;

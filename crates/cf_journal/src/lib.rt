@@ -12,6 +12,3 @@ pub use founding::found;
 pub use journal::{Journal, record_len};
 pub use opening::open;
 pub use refused::{Disk_, FoundRefused, OpenRefused};
-
-#[cfg(test)]
-mod tests;

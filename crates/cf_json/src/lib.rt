@@ -2,8 +2,6 @@
 #![tactic(auto)]
 
 mod acts;
-#[cfg(test)]
-mod answers;
 mod call;
 mod fault;
 mod fields;
@@ -17,10 +15,6 @@ mod posted;
 mod refusals;
 mod replies;
 mod shown;
-#[cfg(test)]
-mod table;
-#[cfg(test)]
-mod tests;
 mod words;
 
 pub use call::read_call;

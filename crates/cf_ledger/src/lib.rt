@@ -6,8 +6,6 @@ mod history;
 mod ledger;
 mod places;
 mod post;
-#[cfg(test)]
-mod tests;
 mod years;
 
 pub use ledger::Ledger;

@@ -1,0 +1,103 @@
+//! Where requests can go, and what the words of a path say.
+
+ghost use Rattle.std.specs.Prelude.{◌≡◌};
+ghost use Rattle.cf_heads.specs.Routes.{number_from, kind_of, line_route, report_route, method_of, method_name};
+
+use crate::fields::{is_number_text, number_within};
+use cf_base::Kind;
+
+/// Where a request goes.
+#[derive(Clone, Copy)]
+pub enum Route {
+    /// One call, which is the body.
+    Calls,
+    /// The look at a line's numbers.
+    Line { line: u16, year: u16 },
+    /// The look at a statement.
+    Report { year: u16, kind: Kind },
+}
+
+/// How a route is asked.
+#[derive(Clone, Copy)]
+pub enum Method {
+    Get,
+    Post,
+}
+
+/// Why a request goes nowhere.
+#[derive(Clone, Copy)]
+pub enum Miss {
+    NoRoute,
+    /// The route is asked by this method alone.
+    WrongMethod(Method),
+}
+
+impl Route {
+    pub fn method(self) -> Method
+        ensures { result ≡ method_of self }
+    {
+        match self {
+            Route::Calls => Method::Post,
+            Route::Line { .. } => Method::Get,
+            Route::Report { .. } => Method::Get,
+        }
+    }
+}
+
+impl Method {
+    pub fn name(self) -> &'static str
+        ensures { result.now ≡ method_name self }
+    {
+        match self {
+            Method::Get => "GET",
+            Method::Post => "POST",
+        }
+    }
+}
+
+/// A number of one to five digits, within bounds.
+fn number_in(text: &str, least: u16, most: u16) -> Option<u16>
+    ensures { result ≡ number_from least most text.now }
+{
+    if !is_number_text(text.as_bytes()) || text.len() > 5 {
+        return None;
+    }
+    match number_within(text.as_bytes(), u32::from(most)) {
+        Some(number) if number >= u32::from(least) => Some(number as u16),
+        _ => None,
+    }
+}
+
+/// A statement by its word.
+fn kind_in(word: &str) -> Option<Kind>
+    ensures { result ≡ kind_of word.now }
+{
+    match word {
+        "balance" => Some(Kind::Balance),
+        "operating" => Some(Kind::Operating),
+        "budget" => Some(Kind::Budget),
+        "position" => Some(Kind::Position),
+        "activities" => Some(Kind::Activities),
+        "reconcile" => Some(Kind::Reconcile),
+        "changes" => Some(Kind::Changes),
+        _ => None,
+    }
+}
+
+/// The look at a line, by its number and its fiscal year.
+pub fn line_in(line: &str, year: &str) -> Option<Route>
+    ensures { result ≡ line_route line.now year.now }
+{
+    let line = number_in(line, 0, 65535)?;
+    let year = number_in(year, 1971, 2199)?;
+    Some(Route::Line { line, year })
+}
+
+/// The look at a statement, by its fiscal year and its word.
+pub fn report_in(year: &str, kind: &str) -> Option<Route>
+    ensures { result ≡ report_route year.now kind.now }
+{
+    let year = number_in(year, 1971, 2199)?;
+    let kind = kind_in(kind)?;
+    Some(Route::Report { year, kind })
+}

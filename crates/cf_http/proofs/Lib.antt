@@ -1,0 +1,7 @@
+pub mod CameLaws
+pub mod TurnLaws
+pub mod ServeLaws
+pub mod DoorLaws
+pub mod Choosing
+pub mod SentLaws
+pub mod ServedAs

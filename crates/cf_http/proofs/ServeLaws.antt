@@ -1,0 +1,211 @@
+-- How a link is served, step by step.
+use Rattle.std.proofs.Common.{◌≡◌, ℕ, ◌+◌, ◌-◌, ◌<◌, ◌≤◌, List, [], ◌∷◌, ◌++◌, length, drop, Bool, Option, Ok, inr, arith, subst, sym, ap, refl, ◌∙◌, append_assoc, length-append, length-drop}
+use Rattle.std.specs.List.{flat_map}
+use Rattle.std.specs.Io.KnownBytes.{Appends}
+use Rattle.std.proofs.KnownBytes.{Appends-nil, Appends-trans}
+use Rattle.std.proofs.lemmas.List.{append-nil}
+use Rattle.std.proofs.lemmas.List.Elements.{All-append, All-nil, All-cons}
+use Rattle.cf_http.specs.declared.end.LinkEnd.{LinkEnd}
+use Rattle.cf_http.specs.declared.end.LinkEnd.TheVariants as end
+use Rattle.cf_heads.specs.declared.head.Heading.{Heading}
+use Rattle.cf_http.specs.Asking.{Rule}
+use Rattle.cf_heads.specs.Answers.{joined}
+use Rattle.cf_heads.specs.Heads.{BeginsWithHead, fields_of}
+use Rattle.cf_http.specs.Talk.{Message, message_bytes, IsMessage, Talk, IsCut, Last, between, cut, read_fault, limit, no_room}
+use Rattle.cf_http.specs.Serving.{Moment, moment_of, Came, Went, Gave, EndsOver, Stops, Replied, Served, IsCounted, NoneCame, IsBodyStop}
+use Rattle.cf_http.specs.Turns.{SaidNoMemory}
+use Rattle.cf_http.proofs.TurnLaws.{memory_over, memory_kind, after_no_limit}
+use Rattle.cf_heads.proofs.FieldLaws.{body_within}
+use Rattle.cf_http.proofs.SentLaws.{front_of_second}
+use Rattle.cf_heads.proofs.HeadLaws.{length_head, begins_on}
+
+-- ---- nothing is answered
+
+over_none : {A : Type 0} (rule : Rule A) (before : A) (sent : Option (List ℕ)) (text : List ℕ) (ended : Bool) (how : LinkEnd) → Gave how sent sent [] → Last rule before text ended how [] before
+    → EndsOver rule before sent text before sent ended how
+over_none rule before sent text ended how gave ends = record { last = []; ends = ends; gave = gave }
+
+pub none_over : {A : Type 0} (rule : Rule A) (before : A) (sent : Option (List ℕ)) (text : List ℕ) (ended : Bool) (how : LinkEnd) → NoneCame text ended how → EndsOver rule before sent text before sent ended how
+none_over rule before sent text ended end.Closed n = over_none rule before sent text ended end.Closed (Appends-nil sent) (between n.0 n.1)
+none_over rule before sent text ended end.Cut n = over_none rule before sent text ended end.Cut (Appends-nil sent) (cut n.0 n.1)
+none_over rule before sent text ended end.ReadFault n = over_none rule before sent text ended end.ReadFault (Appends-nil sent) read_fault
+none_over rule before sent text ended end.WriteFault n = absurd n
+none_over rule before sent text ended end.Limit n = absurd n
+none_over rule before sent text ended end.NoMemory n = absurd n
+
+-- the head came, and not its whole body
+open_body : (text : List ℕ) (heading : Heading) (n : ℕ) → BeginsWithHead text heading → heading.body ≡ Ok n → length text < heading.length + n → IsCut text
+open_body text heading n b states short = inr (record {
+  head = b.head;
+  part = drop heading.length text;
+  stated = n;
+  is_head = b.is_head;
+  reads = b.reads;
+  states = sym (ap (λ (x : Heading). x.body) b.asks) ∙ states;
+  short =
+      let fits : heading.length ≤ length text = subst (λ (x : Heading). x.length ≤ length text) (sym b.asks) (length_head text b.head _ b.reads) in
+      let e : length (drop heading.length text) ≡ length text - heading.length = length-drop heading.length text in
+      omega (arith, fits, e, short);
+})
+
+pub body_over : {A : Type 0} (rule : Rule A) (before : A) (sent : Option (List ℕ)) (text : List ℕ) (ended : Bool) (heading : Heading) (n : ℕ) (how : LinkEnd)
+    → BeginsWithHead text heading → heading.body ≡ Ok n → IsBodyStop (heading.length + n) text ended how → EndsOver rule before sent text before sent ended how
+body_over rule before sent text ended heading n end.Closed b states s = absurd s
+body_over rule before sent text ended heading n end.Cut b states s = over_none rule before sent text ended end.Cut (Appends-nil sent) (cut (open_body text heading n b states s.0) s.1)
+body_over rule before sent text ended heading n end.ReadFault b states s = over_none rule before sent text ended end.ReadFault (Appends-nil sent) read_fault
+body_over rule before sent text ended heading n end.WriteFault b states s = absurd s
+body_over rule before sent text ended heading n end.Limit b states s = absurd s
+body_over rule before sent text ended heading n end.NoMemory b states s = absurd s
+
+-- what is read is short enough for the room
+pub need_within : (text : List ℕ) (heading : Heading) (n : ℕ) → BeginsWithHead text heading → heading.body ≡ Ok n → heading.length + n ≤ 278528
+need_within text heading n b states =
+    let len : heading.length ≤ 16384 = subst (λ (x : Heading). x.length ≤ 16384) (sym b.asks) b.is_head.short in
+    let body : n ≤ 262144 = body_within b.head.minor (fields_of b.head) n (sym (ap (λ (x : Heading). x.body) b.asks) ∙ states) in
+    omega (arith, len, body)
+
+-- the head stays at the front while more comes
+pub begins_still : (a b : Option (List ℕ)) (text more : List ℕ) (heading : Heading) → BeginsWithHead text heading → Came a b text more → BeginsWithHead more heading
+begins_still a b text more heading begins c = subst (λ (t : List ℕ). BeginsWithHead t heading) (sym c.joins) (begins_on text c.came heading begins)
+
+-- ---- bytes came, and the link ends over them
+
+pub stops_over : {A : Type 0} (rule : Rule A) (before after : A) (r_old r_new r_end s_old s_mid s_new : Option (List ℕ)) (text more : List ℕ) (ended : Bool) (how : LinkEnd)
+    → Came r_old r_new text more → r_end ≡ r_new → s_mid ≡ s_old → EndsOver rule before s_mid more after s_new ended how
+    → Stops rule (moment_of before r_old s_old) text (moment_of after r_end s_new) ended how
+stops_over rule before after r_old r_new r_end s_old s_mid s_new text more ended how c r s over = record {
+  came = c.came;
+  received = subst (λ (x : Option (List ℕ)). Appends r_old x c.came) (sym r) c.received;
+  over = subst (λ (x : Option (List ℕ)). EndsOver rule before x (text ++ c.came) after s_new ended how) s
+      (subst (λ (t : List ℕ). EndsOver rule before s_mid t after s_new ended how) c.joins over);
+}
+
+-- ---- bytes came, and their first request was answered
+
+pub went_one : {A : Type 0} (rule : Rule A) (before after : A) (r_old r_new r_end s_old s_mid s_new : Option (List ℕ)) (text more rest : List ℕ)
+    → Came r_old r_new text more → r_end ≡ r_new → s_mid ≡ s_old → Replied rule before s_mid more after s_new rest
+    → Went rule (moment_of before r_old s_old) text (moment_of after r_end s_new) rest 1
+went_one rule before after r_old r_new r_end s_old s_mid s_new text more rest c r s reply = record {
+  came = c.came;
+  messages = reply.message ∷ [];
+  answers = reply.answer ∷ [];
+  received = subst (λ (x : Option (List ℕ)). Appends r_old x c.came) (sym r) c.received;
+  joins = sym c.joins ∙ reply.joins ∙ ap (λ t. t ++ rest) (sym (append-nil (message_bytes reply.message)));
+  each = All-cons IsMessage reply.message [] reply.is_message (All-nil IsMessage);
+  counted = refl;
+  talk = (after, reply.stays, reply.answers, refl);
+  sent = subst (λ (t : List ℕ). Appends s_old s_new t) (sym (append-nil reply.answer)) (subst (λ (x : Option (List ℕ)). Appends x s_new reply.answer) s reply.sent);
+}
+
+-- ---- one after another
+
+message_bytes-append : (ms ns : List Message) → flat_map message_bytes (ms ++ ns) ≡ flat_map message_bytes ms ++ flat_map message_bytes ns
+message_bytes-append [] ns = refl
+message_bytes-append (m ∷ ms) ns = ap (λ t. message_bytes m ++ t) (message_bytes-append ms ns) ∙ sym (append_assoc (message_bytes m) (flat_map message_bytes ms) (flat_map message_bytes ns))
+
+joined-append : (xs ys : List (List ℕ)) → joined (xs ++ ys) ≡ joined xs ++ joined ys
+joined-append [] ys = refl
+joined-append (x ∷ xs) ys = ap (λ t. x ++ t) (joined-append xs ys) ∙ sym (append_assoc x (joined xs) (joined ys))
+
+talk_on : {A : Type 0} (rule : Rule A) (a b c : A) (ms ns : List Message) (xs ys : List (List ℕ)) → Talk rule a ms xs b → Talk rule b ns ys c → Talk rule a (ms ++ ns) (xs ++ ys) c
+talk_on rule a b c [] ns [] ys t u = subst (λ x. Talk rule x ns ys c) t u
+talk_on rule a b c [] ns (x ∷ xs) ys t u = absurd t
+talk_on rule a b c (m ∷ ms) ns [] ys t u = absurd t
+talk_on rule a b c (m ∷ ms) ns (x ∷ xs) ys t u = (t.0, t.1, t.2, talk_on rule t.0 b c ms ns xs ys t.3 u)
+
+pub went_none : {A : Type 0} (rule : Rule A) (at : Moment A) (text : List ℕ) → Went rule at text at text 0
+went_none rule at text = record {
+  came = [];
+  messages = [];
+  answers = [];
+  received = Appends-nil at.received;
+  joins = append-nil text;
+  each = All-nil IsMessage;
+  counted = refl;
+  talk = refl;
+  sent = Appends-nil at.sent;
+}
+
+-- the text of two stretches
+text_on : (old came1 sent1 mid came2 sent2 rest : List ℕ) → old ++ came1 ≡ sent1 ++ mid → mid ++ came2 ≡ sent2 ++ rest → old ++ (came1 ++ came2) ≡ (sent1 ++ sent2) ++ rest
+text_on old came1 sent1 mid came2 sent2 rest e f =
+    sym (append_assoc old came1 came2) ∙ ap (λ t. t ++ came2) e ∙ append_assoc sent1 mid came2 ∙ ap (λ t. sent1 ++ t) f ∙ sym (append_assoc sent1 sent2 rest)
+
+pub went_on : {A : Type 0} (rule : Rule A) (a b c : Moment A) (x y z : List ℕ) (m n k : ℕ) → k ≡ m + n → Went rule a x b y m → Went rule b y c z n → Went rule a x c z k
+went_on rule a b c x y z m n k e f g = record {
+  came = f.came ++ g.came;
+  messages = f.messages ++ g.messages;
+  answers = f.answers ++ g.answers;
+  received = Appends-trans a.received b.received c.received f.came g.came f.received g.received;
+  joins = text_on x f.came (flat_map message_bytes f.messages) y g.came (flat_map message_bytes g.messages) z f.joins g.joins
+      ∙ ap (λ t. t ++ z) (sym (message_bytes-append f.messages g.messages));
+  each = All-append IsMessage f.messages g.messages f.each g.each;
+  counted = let l = length-append f.messages g.messages in omega (arith, l, e, f.counted, g.counted);
+  talk = talk_on rule a.answerer b.answerer c.answerer f.messages g.messages f.answers g.answers f.talk g.talk;
+  sent = subst (λ (t : List ℕ). Appends a.sent c.sent t) (sym (joined-append f.answers g.answers)) (Appends-trans a.sent b.sent c.sent (joined f.answers) (joined g.answers) f.sent g.sent);
+}
+
+-- ---- a whole link
+
+gave_after : (how : LinkEnd) (a b c : Option (List ℕ)) (first last : List ℕ) → Appends a b first → Gave how b c last → Gave how a c (first ++ last)
+gave_after end.Closed a b c first last s g = Appends-trans a b c first last s g
+gave_after end.Cut a b c first last s g = Appends-trans a b c first last s g
+gave_after end.ReadFault a b c first last s g = Appends-trans a b c first last s g
+gave_after end.WriteFault a b c first last s g = front_of_second a b c first last s g
+gave_after end.Limit a b c first last s g = Appends-trans a b c first last s g
+gave_after end.NoMemory a b c first last s g = Appends-trans a b c first last s g
+
+counted_below : (how : LinkEnd) (n : ℕ) → n < 1000000 → (how ≡ end.Limit → ⊥) → IsCounted how n
+counted_below end.Closed n lt no_limit = lt
+counted_below end.Cut n lt no_limit = lt
+counted_below end.ReadFault n lt no_limit = lt
+counted_below end.WriteFault n lt no_limit = lt
+counted_below end.Limit n lt no_limit = absurd (no_limit refl)
+counted_below end.NoMemory n lt no_limit = lt
+
+pub served_over : {A : Type 0} (rule : Rule A) (a b c : Moment A) (y : List ℕ) (n : ℕ) (ended : Bool) (how : LinkEnd) → n < 1000000 → (how ≡ end.Limit → ⊥)
+    → Went rule a [] b y n → Stops rule b y c ended how → Served rule a c ended how
+served_over rule a b c y n ended how lt no_limit f s = record {
+  came = f.came ++ s.came;
+  messages = f.messages;
+  rest = y ++ s.came;
+  answers = f.answers;
+  last = s.over.last;
+  middle = b.answerer;
+  received = Appends-trans a.received b.received c.received f.came s.came f.received s.received;
+  joins = ap (λ t. t ++ s.came) f.joins ∙ append_assoc (flat_map message_bytes f.messages) y s.came;
+  each = f.each;
+  counted = subst (IsCounted how) (sym f.counted) (counted_below how n lt no_limit);
+  talk = f.talk;
+  ends = s.over.ends;
+  sent = gave_after how a.sent b.sent c.sent (joined f.answers) s.over.last f.sent s.over.gave;
+}
+
+pub served_limit : {A : Type 0} (rule : Rule A) (a b : Moment A) (y : List ℕ) (n : ℕ) (ended : Bool) → n ≡ 1000000 → Went rule a [] b y n → Served rule a b ended end.Limit
+served_limit rule a b y n ended e f = record {
+  came = f.came;
+  messages = f.messages;
+  rest = y;
+  answers = f.answers;
+  last = [];
+  middle = b.answerer;
+  received = f.received;
+  joins = f.joins;
+  each = f.each;
+  counted = f.counted ∙ e;
+  talk = f.talk;
+  ends = limit;
+  sent = subst (λ (t : List ℕ). Appends a.sent b.sent t) (sym (append-nil (joined f.answers))) f.sent;
+}
+
+-- there was no memory to begin with
+pub served_memory : {A : Type 0} (rule : Rule A) (answerer : A) (r_old r_new s_old s_new : Option (List ℕ)) (ended : Bool) (how : LinkEnd) → r_new ≡ r_old → SaidNoMemory s_old s_new how
+    → Served rule (moment_of answerer r_old s_old) (moment_of answerer r_new s_new) ended how
+served_memory rule answerer r_old r_new s_old s_new ended how r said =
+    served_over rule (moment_of answerer r_old s_old) (moment_of answerer r_old s_old) (moment_of answerer r_new s_new) [] 0 ended how (omega arith)
+    (after_no_limit how (memory_kind s_old s_new how said)) (went_none rule (moment_of answerer r_old s_old) [])
+    (record {
+      came = [];
+      received = subst (λ (x : Option (List ℕ)). Appends r_old x []) (sym r) (Appends-nil r_old);
+      over = memory_over rule answerer answerer s_old s_new [] ended how no_room said;
+    })

@@ -1,0 +1,85 @@
+-- What one rule says of a door, another says of it that follows the first step by step.
+use Rattle.std.proofs.Common.{ℕ, List, [], ◌∷◌, Option, Some, None, Bool, subst, sym, refl}
+use Rattle.cf_http.specs.declared.request.Request.{Request}
+use Rattle.cf_http.specs.declared.end.LinkEnd.{LinkEnd}
+use Rattle.cf_http.specs.Asking.{Rule}
+use Rattle.cf_http.specs.Talk.{Message, Answers, missed, told, Talk, LastAnswer, no_head, refused, closing, no_room, no_memory, Last, between, cut, answered, limit, read_fault, unsent_last, unsent, request_of}
+use Rattle.cf_http.specs.Serving.{Moment, moment_of, Served}
+use Rattle.cf_http.specs.Doors.{Tells, WereServed, DoorServed}
+
+-- the second follows each step of the first
+pub record Follows {A B : Type 0} (rule : Rule A) (other : Rule B) (fits : A → B → Type 0) : Type 0 where
+  pub step : (a c : A) (b : B) (request : Request) (answer : Option (ℕ × List ℕ)) → rule a request answer c → fits a b → (d : B) × other b request answer d × fits c d
+
+module _ {A B : Type 0} (rule : Rule A) (other : Rule B) (fits : A → B → Type 0) (follows : Follows rule other fits) where
+  answers_as : (a c : A) (b : B) (m : Message) (bytes : List ℕ) → Answers rule a m bytes c → fits a b → (d : B) × Answers other b m bytes d × fits c d
+  answers_as a _ b m _ (missed miss e) f = (b, missed miss e, f)
+  answers_as a _ b m _ (told route code body c e is says) f =
+      let s = follows.step a c b (request_of route m) (Some (code, body)) says f in (s.0, told route code body s.0 e is s.1, s.2)
+
+  talk_as : (a c : A) (b : B) (ms : List Message) (xs : List (List ℕ)) → Talk rule a ms xs c → fits a b → (d : B) × Talk other b ms xs d × fits c d
+  talk_as a c b [] [] t f = (b, refl, subst (λ x. fits x b) (sym t) f)
+  talk_as a c b [] (x ∷ xs) t f = absurd t
+  talk_as a c b (m ∷ ms) [] t f = absurd t
+  talk_as a c b (m ∷ ms) (x ∷ xs) t f =
+      let here = answers_as a t.0 b m x t.2 f in
+      let rest = talk_as t.0 c here.0 ms xs t.3 here.2 in (rest.0, (here.0, t.1, here.1, rest.1), rest.2)
+
+  last_answer_as : (a c : A) (b : B) (text : List ℕ) (how : LinkEnd) (x : List ℕ) → LastAnswer rule a text how x c → fits a b → (d : B) × LastAnswer other b text how x d × fits c d
+  last_answer_as a _ b text _ _ (no_head n) f = (b, no_head n, f)
+  last_answer_as a _ b text _ _ (refused head why r) f = (b, refused head why r, f)
+  last_answer_as a _ b text _ _ (closing m answer c begins closes says) f =
+      let s = answers_as a c b m answer says f in (s.0, closing m answer s.0 begins closes s.1, s.2)
+  last_answer_as a _ b text _ _ no_room f = (b, no_room, f)
+  last_answer_as a _ b text _ _ (no_memory m route c begins e says) f =
+      let s = follows.step a c b (request_of route m) None says f in (s.0, no_memory m route s.0 begins e s.1, s.2)
+
+  last_as : (a c : A) (b : B) (text : List ℕ) (ended : Bool) (how : LinkEnd) (x : List ℕ) → Last rule a text ended how x c → fits a b → (d : B) × Last other b text ended how x d × fits c d
+  last_as a _ b text ended _ _ (between e is) f = (b, between e is, f)
+  last_as a _ b text ended _ _ (cut e is) f = (b, cut e is, f)
+  last_as a _ b text ended _ _ (answered how answer c l) f =
+      let s = last_answer_as a c b text how answer l f in (s.0, answered how answer s.0 s.1, s.2)
+  last_as a _ b text ended _ _ limit f = (b, limit, f)
+  last_as a _ b text ended _ _ read_fault f = (b, read_fault, f)
+  last_as a _ b text ended _ _ (unsent_last how answer c l) f =
+      let s = last_answer_as a c b text how answer l f in (s.0, unsent_last how answer s.0 s.1, s.2)
+  last_as a _ b text ended _ _ (unsent m answer c begins stays says) f =
+      let s = answers_as a c b m answer says f in (s.0, unsent m answer s.0 begins stays s.1, s.2)
+
+  served_as : (old new : Moment A) (b : B) (ended : Bool) (how : LinkEnd) → Served rule old new ended how → fits old.answerer b
+      → (d : B) × Served other (moment_of b old.received old.sent) (moment_of d new.received new.sent) ended how × fits new.answerer d
+  served_as old new b ended how s f =
+      let here = talk_as old.answerer s.middle b s.messages s.answers s.talk f in
+      let rest = last_as s.middle new.answerer here.0 s.rest ended how s.last s.ends here.2 in (
+        rest.0,
+        record {
+          came = s.came;
+          messages = s.messages;
+          rest = s.rest;
+          answers = s.answers;
+          last = s.last;
+          middle = here.0;
+          received = s.received;
+          joins = s.joins;
+          each = s.each;
+          counted = s.counted;
+          talk = here.1;
+          ends = rest.1;
+          sent = s.sent;
+        },
+        rest.2,
+      )
+
+  were_served_as : {L : Type 0} (tells : Tells L) (a c : A) (b : B) (links : List L) → WereServed tells rule a links c → fits a b → (d : B) × WereServed tells other b links d × fits c d
+  were_served_as tells a c b [] w f = (b, refl, subst (λ x. fits x b) (sym w) f)
+  were_served_as tells a c b (link ∷ links) w f =
+      let here = served_as _ _ b _ w.1.how w.1.served f in
+      let rest = were_served_as tells w.0 c here.0 links w.2 here.2 in
+      (rest.0, (here.0, record { first = w.1.first; how = w.1.how; fresh = w.1.fresh; served = here.1; read = w.1.read; write = w.1.write }, rest.1), rest.2)
+
+  pub door_served_as : {L : Type 0} (tells : Tells L) (known : Bool) (a c : A) (b : B) (finished_old finished_new : List L) (given_old given_new count : ℕ)
+      → DoorServed tells rule known a c finished_old finished_new given_old given_new count → fits a b
+      → (d : B) × DoorServed tells other known b d finished_old finished_new given_old given_new count × fits c d
+  door_served_as tells known a c b finished_old finished_new given_old given_new count s f =
+      let w = were_served_as tells a c b s.links s.served f in
+      (w.0, record { links = s.links; counted = s.counted; given = s.given; finished = s.finished; served = w.1 }, w.2)

@@ -1,0 +1,27 @@
+use Rattle.std.proofs.Common.{◌≡◌, ◌++◌, ◌+◌, ◌-◌, ◌≤◌, ℕ, List, take, drop, length, arith, sym, ◌∙◌, ap, subst, length-drop, length-take}
+use Rattle.std.proofs.lemmas.List.{take-append-drop, take-take, drop-take, length-take-le, take_all}
+use Rattle.std.proofs.Math.Seq.{take-append_seam}
+use Rattle.cf_links.proofs.memory.MemLinkLink.read.Goals as goal
+
+-- so many bytes more
+take_on : (p n : ℕ) (bytes : List ℕ) → take (p + n) bytes ≡ take p bytes ++ take n (drop p bytes)
+take_on p n bytes =
+    sym (take-append-drop p (take (p + n) bytes))
+    ∙ ap (λ t. t ++ drop p (take (p + n) bytes)) (take-take p (p + n) bytes (omega arith))
+    ∙ ap (λ t. take p bytes ++ t) (drop-take p n bytes)
+
+front : (rest tail : List ℕ) (n : ℕ) → n ≤ length rest → take n (take n rest ++ tail) ≡ take n rest
+front rest tail n le = let e : length (take n rest) ≡ n = length-take-le n rest le in subst (λ (k : ℕ). take k (take n rest ++ tail) ≡ take n rest) e (take-append_seam (take n rest) tail)
+
+given : (bytes copied rest tail : List ℕ) (p n : ℕ) → rest ≡ drop p bytes → copied ≡ take n rest → n ≤ length rest → take (p + n) bytes ≡ take p bytes ++ take n (copied ++ tail)
+given bytes copied rest tail p n r c le =
+    take_on p n bytes ∙ ap (λ t. take p bytes ++ t) (ap (take n) (sym r) ∙ sym (front rest tail n le) ∙ ap (λ t. take n (t ++ tail)) (sym c))
+
+pub returns-clause-bytes : goal.returns-clause-bytes
+returns-clause-bytes c =
+    let l = c.args.self.now in
+    let rest = take (length c.deref.result.now - l.place) (drop l.place c.deref.result.now) in
+    given l.bytes.items c.copy_from_slice.new.self rest (drop c.min-count.result c.args.buf.now) l.place c.min-count.result
+    (rw c.deref.ensures.value (take_all (length l.bytes.items - l.place) (drop l.place l.bytes.items) (let e = length-drop l.place l.bytes.items in omega (arith, e))))
+    c.copy_from_slice.ensures.after
+    (let a = length-take (length c.deref.result.now - l.place) (drop l.place c.deref.result.now) in let e = length-drop l.place c.deref.result.now in omega (arith, a, e, c.min-count.ensures))

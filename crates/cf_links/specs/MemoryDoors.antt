@@ -1,0 +1,10 @@
+-- What a door in memory tells.
+use Rattle.std.specs.Prelude.{List, Bool, ltb, vec_len}
+use Rattle.cf_links.specs.declared.memory.MemLink.{MemLink}
+use Rattle.cf_links.specs.declared.memory.MemDoor.{MemDoor}
+
+abbrev pub finished_of : MemDoor → List MemLink
+finished_of d = d.finished.items
+
+abbrev pub is_coming : MemDoor → Bool
+is_coming d = ltb 0 (vec_len d.coming)

@@ -1,0 +1,10 @@
+//! Links and doors in memory and over TCP.
+#![tactic(auto)]
+
+mod memory;
+mod tcp;
+#[cfg(test)]
+mod tests;
+
+pub use memory::{Coming, MemDoor, MemLink};
+pub use tcp::{TcpDoor, TcpLink};

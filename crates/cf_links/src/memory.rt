@@ -1,0 +1,222 @@
+//! Links and doors in memory.
+
+ghost use Rattle.std.specs.Prelude.{◌≡◌, ◌≤◌, ◌<◌, ◌+◌, ◌^◌, Some, [], false, take, length, vec_len, vec_capacity};
+ghost use Rattle.cf_base.specs.Causes.{Rose};
+
+use cf_base::Failed;
+use cf_http::{Door, Link};
+use std::alloc::{AllocError, Global};
+
+/// A link over bytes in memory. It can be told how many bytes a read gives at most, which reads and writes
+/// fail, and how many bytes it takes. A growth that memory refuses is a fault.
+#[derive(Drop)]
+pub struct MemLink {
+    bytes: Vec<u8>,
+    place: usize,
+    ended: bool,
+    sent: Vec<u8>,
+    piece: usize,
+    limit: usize,
+    reads: u64,
+    fail_at: u64,
+    faults: u64,
+    ghost within: { place ≤ vec_len bytes },
+}
+
+impl MemLink {
+    ghost use Rattle.cf_links.specs.Memory.{bytes_of, received_of, sent_of, ended_of, SameBytes};
+
+    /// A link on which these bytes come, in pieces of at most `piece` bytes, and whose calls succeed.
+    pub fn new(alloc: Global, bytes: Vec<u8>, piece: usize) -> Self
+        ensures bytes { bytes_of result ≡ bytes.items }
+        ensures received { received_of result ≡ [] }
+        ensures sent { sent_of result ≡ [] }
+        ensures ended { ended_of result ≡ false }
+    {
+        MemLink::failing(alloc, bytes, piece, u64::MAX, usize::MAX)
+    }
+
+    /// The same where the read of this number, from 0, fails, and so does a write past this many bytes.
+    pub fn failing(alloc: Global, bytes: Vec<u8>, piece: usize, fail_at: u64, limit: usize) -> Self
+        ensures bytes { bytes_of result ≡ bytes.items }
+        ensures received { received_of result ≡ [] }
+        ensures sent { sent_of result ≡ [] }
+        ensures ended { ended_of result ≡ false }
+    {
+        MemLink {
+            bytes,
+            place: 0,
+            ended: false,
+            sent: Vec::new(alloc),
+            piece,
+            limit,
+            reads: 0,
+            fail_at,
+            faults: 0,
+        }
+    }
+
+    /// What it took.
+    pub fn sent(&self) -> &[u8]
+        ensures { result.now ≡ sent_of self.now }
+    {
+        self.sent.as_slice()
+    }
+
+    /// How many bytes it gave.
+    pub fn received(&self) -> usize {
+        self.place
+    }
+
+    fn fault(&mut self) -> Failed
+        ensures same { SameBytes self.old self.new }
+        ensures later { self.old.faults ≤ self.new.faults }
+        ensures rose { Rose self.old.faults self.new.faults }
+    {
+        self.faults = self.faults.saturating_add(1);
+        Failed
+    }
+}
+
+/// A front of a piece, of at most so many bytes.
+fn front(piece: &[u8], most: usize) -> &[u8]
+    ensures { result.now ≡ take most piece.now }
+{
+    if most < piece.len() {
+        &piece[..most]
+    } else {
+        piece
+    }
+}
+
+impl Link for MemLink {
+    ghost use Rattle.cf_links.specs.Memory.{received_of, sent_of, ended_of};
+
+    ghost received = { λ l. Some (received_of l) };
+
+    ghost sent = { λ l. Some (sent_of l) };
+
+    ghost ended = { ended_of };
+
+    ghost faults = { λ l. l.faults };
+
+    fn read(&mut self, buf: &mut [u8]) -> Result<usize, Failed> {
+        let number = self.reads;
+        self.reads = self.reads.saturating_add(1);
+        if number == self.fail_at {
+            return Err(self.fault());
+        }
+        let most = buf.len().min(self.piece.max(1));
+        let rest = &self.bytes[self.place..];
+        let count = rest.len().min(most);
+        buf[..count].copy_from_slice(&rest[..count]);
+        self.place += count;
+        self.ended = self.ended || (count == 0 && !buf.is_empty());
+        Ok(count)
+    }
+
+    fn write(&mut self, piece: &[u8]) -> Result<usize, Failed> {
+        let part = front(piece, self.limit.saturating_sub(self.sent.len()));
+        if part.is_empty() && !piece.is_empty() {
+            return Err(self.fault());
+        }
+        match self.sent.extend_from_slice(part) {
+            Ok(()) => Ok(part.len()),
+            Err(_) => Err(self.fault()),
+        }
+    }
+}
+
+/// A link that is to come at a door in memory: its bytes, how many a read gives at most, which read fails, and
+/// past how many bytes a write does.
+#[derive(Drop)]
+pub struct Coming {
+    pub bytes: Vec<u8>,
+    pub piece: usize,
+    pub fail_at: u64,
+    pub limit: usize,
+}
+
+/// A door over links in memory, which it gives in their order. It can be told at which call of `next`, from 1,
+/// it fails. It has room for all of its links from the start.
+#[derive(Drop)]
+pub struct MemDoor {
+    alloc: Global,
+    /// The links to come, the last one first.
+    coming: Vec<Coming>,
+    finished: Vec<MemLink>,
+    given: u64,
+    calls: u64,
+    fail_at: u64,
+    faults: u64,
+    ghost fits: { given + vec_len coming ≤ vec_capacity finished },
+    ghost owed: { length finished.items ≤ given },
+}
+
+impl MemDoor {
+    /// A door that gives these links, and fails at the call of this number.
+    pub fn new(alloc: Global, links: Vec<Coming>, fail_at: u64) -> Result<Self, AllocError> {
+        let mut coming = links;
+        coming.reverse();
+        let mut finished = Vec::new(alloc);
+        finished.reserve(coming.len())?;
+        Ok(MemDoor {
+            alloc,
+            coming,
+            finished,
+            given: 0,
+            calls: 0,
+            fail_at,
+            faults: 0,
+        })
+    }
+
+    /// The links that were finished, the oldest first.
+    pub fn finished(&self) -> &[MemLink] {
+        self.finished.as_slice()
+    }
+}
+
+impl Door for MemDoor {
+    ghost use Rattle.std.specs.Prelude.{true};
+    ghost use Rattle.cf_links.specs.MemoryDoors.{finished_of, is_coming};
+
+    type Link = MemLink;
+
+    ghost tells = { true };
+
+    ghost finished = { finished_of };
+
+    ghost given = { λ d. d.given };
+
+    ghost coming = { is_coming };
+
+    ghost faults = { λ d. d.faults };
+
+    fn next(&mut self) -> Result<Option<MemLink>, Failed> {
+        self.calls = self.calls.saturating_add(1);
+        if self.calls == self.fail_at {
+            self.faults = self.faults.saturating_add(1);
+            return Err(Failed);
+        }
+        match self.coming.pop() {
+            Some(link) => {
+                self.given += 1;
+                Ok(Some(MemLink::failing(
+                    self.alloc,
+                    link.bytes,
+                    link.piece,
+                    link.fail_at,
+                    link.limit,
+                )))
+            }
+            None => Ok(None),
+        }
+    }
+
+    fn done(&mut self, link: MemLink) {
+        let _ = self.finished.push(link);
+    }
+
+    ghost owes = { λ d known. d.owed };
+}

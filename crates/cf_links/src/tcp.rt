@@ -1,0 +1,193 @@
+//! Links and doors over TCP. They are the trusted edge: nothing is proved of what a real link carries.
+
+ghost use Rattle.std.specs.Prelude.{◌≡◌, ◌≤◌, ◌+◌, None, [], true, false, OnOk, OnErr};
+ghost use Rattle.cf_base.specs.Causes.{Rose, HasCause};
+
+use cf_base::Failed;
+use cf_http::{Door, Link};
+use std::io::{self, Read, Write};
+use std::net::{Net, Shutdown, TcpListener, TcpStream};
+use std::time::Duration;
+
+/// How many seconds a read waits for bytes, and a write for room, before it is a fault.
+const PATIENCE: u64 = 10;
+
+/// How many reads let unread bytes go, before a link is closed.
+const MOST_REST_READS: u32 = 64;
+
+/// How often `next` tries to get a connection, before it fails.
+const MOST_TRIES: u32 = 16;
+
+/// A connection over TCP.
+#[derive(Drop)]
+pub struct TcpLink {
+    stream: TcpStream,
+    ended: bool,
+    faults: u64,
+}
+
+impl TcpLink {
+    fn fault(&mut self) -> Failed
+        ensures ended { self.new.ended ≡ self.old.ended }
+        ensures later { self.old.faults ≤ self.new.faults }
+        ensures rose { Rose self.old.faults self.new.faults }
+    {
+        self.faults = self.faults.saturating_add(1);
+        Failed
+    }
+
+    /// Closes the connection. Bytes that the peer sent and nobody read would have the system reset it, and the
+    /// peer could lose the last answer: so the end is told first, and a bounded rest is read.
+    fn close(mut self) {
+        if self.ended || self.stream.shutdown(Shutdown::Write).is_err() {
+            return;
+        }
+        let mut rest = [0u8; 4096];
+        for _ in 0..MOST_REST_READS {
+            match self.stream.read(&mut rest) {
+                Ok(count) if count > 0 => {}
+                _ => return,
+            }
+        }
+    }
+}
+
+impl Link for TcpLink {
+    ghost received = { λ _. None };
+
+    ghost sent = { λ _. None };
+
+    ghost ended = { λ l. l.ended };
+
+    ghost faults = { λ l. l.faults };
+
+    fn read(&mut self, buf: &mut [u8]) -> Result<usize, Failed> {
+        match self.stream.read(buf) {
+            Ok(count) => {
+                self.ended = self.ended || (count == 0 && !buf.is_empty());
+                Ok(count)
+            }
+            Err(_) => Err(self.fault()),
+        }
+    }
+
+    fn write(&mut self, piece: &[u8]) -> Result<usize, Failed> {
+        match self.stream.write(piece) {
+            Ok(count) if count > 0 || piece.is_empty() => Ok(count),
+            _ => Err(self.fault()),
+        }
+    }
+}
+
+/// A door that listens on 127.0.0.1 at a port, from its first `next` or `port` on.
+#[derive(Drop)]
+pub struct TcpDoor<'a, R: Net<Listener = TcpListener, Stream = TcpStream>> {
+    net: &'a R,
+    port: u16,
+    patience: Duration,
+    listener: Option<TcpListener>,
+    given: u64,
+    faults: u64,
+}
+
+/// Sets how long reads and writes wait, and has answers sent at once.
+fn set_up(stream: &TcpStream, patience: Duration) -> io::Result<()> {
+    stream.set_read_timeout(Some(patience))?;
+    stream.set_write_timeout(Some(patience))?;
+    stream.set_nodelay(true)
+}
+
+/// The next connection, if the door listens. One that is broken before it can be served is passed over.
+fn accepted(listener: &Option<TcpListener>, patience: Duration) -> Option<TcpStream> {
+    let Some(listener) = listener else {
+        return None;
+    };
+    for _ in 0..MOST_TRIES {
+        if let Ok((stream, _)) = listener.accept() {
+            if set_up(&stream, patience).is_ok() {
+                return Some(stream);
+            }
+        }
+    }
+    None
+}
+
+impl<'a, R: Net<Listener = TcpListener, Stream = TcpStream>> TcpDoor<'a, R> {
+    /// A door at a port, or at one that the system picks for port 0. A peer that sends or takes nothing for 10
+    /// seconds ends its link by a fault.
+    pub fn new(net: &'a R, port: u16) -> Self {
+        TcpDoor::patient(net, port, Duration::from_secs(PATIENCE))
+    }
+
+    /// The same with another time than 10 seconds, which isn't 0.
+    pub fn patient(net: &'a R, port: u16, patience: Duration) -> Self {
+        TcpDoor {
+            net,
+            port,
+            patience,
+            listener: None,
+            given: 0,
+            faults: 0,
+        }
+    }
+
+    /// Listens, if it doesn't yet.
+    fn listen(&mut self)
+        ensures given { self.new.given ≡ self.old.given }
+        ensures faults { self.new.faults ≡ self.old.faults }
+    {
+        if self.listener.is_none() {
+            self.listener = TcpListener::bind(self.net, ("127.0.0.1", self.port)).ok();
+        }
+    }
+
+    /// The port that it listens at, if it can.
+    pub fn port(&mut self) -> Option<u16> {
+        self.listen();
+        match &self.listener {
+            Some(listener) => Some(listener.local_addr().ok()?.port()),
+            None => None,
+        }
+    }
+}
+
+impl<R: Net<Listener = TcpListener, Stream = TcpStream>> Door for TcpDoor<'_, R> {
+    ghost use Rattle.std.specs.Prelude.{None, [], true, false};
+    ghost use Rattle.std.proofs.lemmas.Bool.{false≢true};
+
+    type Link = TcpLink;
+
+    ghost tells = { false };
+
+    ghost finished = { λ _. [] };
+
+    ghost given = { λ d. d.given };
+
+    ghost coming = { λ _. true };
+
+    ghost faults = { λ d. d.faults };
+
+    fn next(&mut self) -> Result<Option<TcpLink>, Failed> {
+        self.listen();
+        match accepted(&self.listener, self.patience) {
+            Some(stream) if self.given < u64::MAX => {
+                self.given += 1;
+                Ok(Some(TcpLink {
+                    stream,
+                    ended: false,
+                    faults: 0,
+                }))
+            }
+            _ => {
+                self.faults = self.faults.saturating_add(1);
+                Err(Failed)
+            }
+        }
+    }
+
+    fn done(&mut self, link: TcpLink) {
+        link.close();
+    }
+
+    ghost owes = { λ d known. absurd (false≢true known) };
+}

@@ -1,0 +1,48 @@
+//! Plays a script of charts, lines and payloads, and prints beside each line of it what the public calls say.
+//!
+//! | Line of the script | What is printed below it |
+//! |---|---|
+//! | `# ..` | nothing: a heading |
+//! | `chart FILE` | nothing: the lines below change the text of this file |
+//! | `clear` | nothing: the text is empty |
+//! | `OLD => NEW` | what is said of the text with this change, in which `;` is the end of a line |
+//! | `rows TABLE N` | nothing: a table of N empty rows comes before the text |
+//! | `said` | what is said of the text |
+//! | `show` | the rows of the chart that the text states |
+//! | `line FUND DEPT OBJECT` | the control line of an account |
+//! | `document HEX` | what is said of a chart of these bytes |
+//! | `blanks N HEX` | the same of N blanks with these bytes behind them |
+//! | `call LINE`, `bytes HEX` | the call that a line, or these bytes, are, or the form reply |
+//! | `payload HEX` | the entry that begins these bytes, or the offset of the first faulty field |
+//! | `room N HEX` | what writing the entry into N bytes of room leaves of them |
+//! | `replies` | the text of each refusal, each result and each look |
+#![tactic(auto)]
+
+mod acts;
+mod document;
+mod entries;
+mod hex;
+mod items;
+mod lines;
+mod looks;
+mod play;
+mod refusals;
+mod replies;
+mod rows;
+mod told;
+mod word;
+
+use document::Document;
+use play::play;
+use std::io;
+use word::word_of;
+
+fn main(rt: HostRuntime) -> io::Result<()> {
+    let mut document = Document::new(rt.alloc());
+    for line in rt.lines(rt.alloc()) {
+        let line = line?;
+        println!(rt; "{line}")?;
+        play(&rt, &mut document, &word_of(line.as_str()))?;
+    }
+    Ok(())
+}

@@ -1,0 +1,164 @@
+//! A disk in memory between runs, and what the next run is given.
+
+use cf_base::{MemSink, MemSource};
+use cf_disk::MemDisk;
+use cf_top::{Ran, Status, run};
+use std::alloc::{AllocError, Global};
+
+/// What stands on the disk, and what the next run is given.
+#[derive(Drop)]
+pub struct Stage {
+    pub alloc: Global,
+    /// The chart that `found` reads.
+    pub chart: String,
+    /// The lines that a desk reads.
+    pub lines: String,
+    /// What the disk holds, all of it synced.
+    pub bytes: Vec<u8>,
+    /// What it held when the script said so.
+    pub kept: Vec<u8>,
+    /// The calls of the disk that fail.
+    pub fails: Vec<u64>,
+    /// The call of the disk at which it stops, or 0.
+    pub stop: u64,
+    /// How many bytes the output takes.
+    pub limit: usize,
+    /// What the disk held before the last run.
+    pub before: Vec<u8>,
+    /// The disk of the last run.
+    pub last: Option<MemDisk>,
+}
+
+/// How a run ended, what it printed, and its disk.
+#[derive(Drop)]
+pub struct Left {
+    pub status: Status,
+    pub out: MemSink,
+    pub disk: MemDisk,
+}
+
+/// A source of this text.
+fn source(alloc: Global, text: &str) -> Result<MemSource, AllocError> {
+    Ok(MemSource::new(Vec::from_slice(alloc, text.as_bytes())?))
+}
+
+/// A run of one word over a disk, with an output that takes so many bytes.
+pub fn run_over(
+    alloc: Global,
+    word: &str,
+    chart: &str,
+    lines: &str,
+    disk: MemDisk,
+    limit: usize,
+) -> Result<Left, AllocError> {
+    let words = vec![in alloc; String::from_str(alloc, word)?]?;
+    let mut chart = source(alloc, chart)?;
+    let mut input = source(alloc, lines)?;
+    let mut out = MemSink::limited(alloc, limit);
+    let Ran { status, disk } = run(
+        alloc,
+        words.as_slice(),
+        &mut chart,
+        &mut input,
+        &mut out,
+        disk,
+    );
+    Ok(Left { status, out, disk })
+}
+
+/// A disk with these bytes, which fails at these calls and stops at that one.
+pub fn disk_with(
+    alloc: Global,
+    bytes: &[u8],
+    fails: &[u64],
+    stop: u64,
+) -> Result<MemDisk, AllocError> {
+    let bytes = Vec::from_slice(alloc, bytes)?;
+    let fails = Vec::from_slice(alloc, fails)?;
+    MemDisk::with_faults(alloc, bytes, fails, stop)
+}
+
+impl Left {
+    /// What the run said.
+    pub fn said(&self) -> &str {
+        str::from_utf8(self.out.bytes()).unwrap_or("no text")
+    }
+}
+
+impl Stage {
+    pub fn new(alloc: Global) -> Stage {
+        Stage {
+            alloc,
+            chart: String::new(alloc),
+            lines: String::new(alloc),
+            bytes: Vec::new(alloc),
+            kept: Vec::new(alloc),
+            fails: Vec::new(alloc),
+            stop: 0,
+            limit: usize::MAX,
+            before: Vec::new(alloc),
+            last: None,
+        }
+    }
+
+    /// A run of one word with what was prepared.
+    fn ran(&self, word: &str) -> Result<Left, AllocError> {
+        let (fails, stop) = (self.fails.as_slice(), self.stop);
+        let disk = disk_with(self.alloc, self.bytes.as_slice(), fails, stop)?;
+        let (chart, lines) = (self.chart.as_str(), self.lines.as_str());
+        run_over(self.alloc, word, chart, lines, disk, self.limit)
+    }
+
+    /// Puts what a run left on the disk. The next run has no faults and no lines.
+    fn keep_left(&mut self, disk: MemDisk) -> Result<(), AllocError> {
+        self.before = Vec::from_slice(self.alloc, self.bytes.as_slice())?;
+        self.bytes = Vec::from_slice(self.alloc, disk.bytes())?;
+        self.last = Some(disk);
+        self.lines.clear();
+        self.fails.clear();
+        self.stop = 0;
+        self.limit = usize::MAX;
+        Ok(())
+    }
+
+    /// Runs one word: how it ended, and what it printed.
+    pub fn run_word(&mut self, word: &str) -> Result<(Status, MemSink), AllocError> {
+        let Left { status, out, disk } = self.ran(word)?;
+        self.keep_left(disk)?;
+        Ok((status, out))
+    }
+
+    /// Adds a line for the next desk.
+    pub fn add_line(&mut self, line: &str) -> Result<(), AllocError> {
+        self.lines.push_str(line)?;
+        self.lines.push_str("\n")
+    }
+
+    /// Sets a byte of the disk.
+    pub fn set_byte(&mut self, at: usize, byte: u8) {
+        if let Some(slot) = self.bytes.get_mut(at) {
+            *slot = byte;
+        }
+    }
+
+    /// Remembers what the disk holds.
+    pub fn keep(&mut self) -> Result<(), AllocError> {
+        self.kept = Vec::from_slice(self.alloc, self.bytes.as_slice())?;
+        Ok(())
+    }
+
+    /// Puts back what was remembered.
+    pub fn put_back(&mut self) -> Result<(), AllocError> {
+        self.bytes = Vec::from_slice(self.alloc, self.kept.as_slice())?;
+        Ok(())
+    }
+
+    /// The chart with the first text replaced by the second, where it is there.
+    pub fn change_chart(&mut self, old: &str, new: &str) -> Result<(), AllocError> {
+        if let Some((before, after)) = self.chart.as_str().split_once(old) {
+            let text = format!(in self.alloc; "{before}{new}{after}")?;
+            self.chart = text;
+        }
+        Ok(())
+    }
+}

@@ -1,0 +1,90 @@
+//! The lines of the script.
+
+/// What a line of the script asks for.
+#[derive(Clone, Copy)]
+pub enum Word<'a> {
+    Heading,
+    Line(&'a str),
+    Lines(&'a str),
+    Chart(&'a str),
+    Swap { old: &'a str, new: &'a str },
+    Fail(u64),
+    Stop(u64),
+    Limit(usize),
+    Run(&'a str),
+    Calls,
+    Empty,
+    Cut(usize),
+    Set { at: usize, byte: u8 },
+    Add(&'a str),
+    Keep,
+    Back,
+    Same,
+    Cuts,
+    Tears,
+}
+
+/// A number of the script.
+fn number(word: &str) -> u64 {
+    word.parse::<u64>().unwrap_or(0)
+}
+
+/// A size of the script.
+fn size(word: &str) -> usize {
+    word.parse::<usize>().unwrap_or(0)
+}
+
+/// A byte of the script.
+pub fn byte(word: &str) -> u8 {
+    word.parse::<u8>().unwrap_or(0)
+}
+
+fn swap(rest: &str) -> Word<'_> {
+    match rest.split_once(" => ") {
+        Some((old, new)) => Word::Swap { old, new },
+        None => Word::Heading,
+    }
+}
+
+fn set(rest: &str) -> Word<'_> {
+    let (at, value) = rest.split_once(" ").unwrap_or((rest, ""));
+    Word::Set {
+        at: size(at),
+        byte: byte(value),
+    }
+}
+
+/// A word of what the disk holds. What is none of the words is a heading.
+fn disk_word<'a>(verb: &str, rest: &'a str) -> Word<'a> {
+    match verb {
+        "empty" => Word::Empty,
+        "cut" => Word::Cut(size(rest)),
+        "set" => set(rest),
+        "add" => Word::Add(rest),
+        "keep" => Word::Keep,
+        "back" => Word::Back,
+        "same" => Word::Same,
+        "cuts" => Word::Cuts,
+        "tears" => Word::Tears,
+        _ => Word::Heading,
+    }
+}
+
+/// What a line of the script asks for.
+pub fn word_of(line: &str) -> Word<'_> {
+    if line.starts_with("{") {
+        return Word::Line(line);
+    }
+    let (verb, rest) = line.split_once(" ").unwrap_or((line, ""));
+    match verb {
+        "lines" => Word::Lines(rest),
+        "chart" => Word::Chart(rest),
+        "swap" => swap(rest),
+        "fail" => Word::Fail(number(rest)),
+        "stop" => Word::Stop(number(rest)),
+        "limit" => Word::Limit(size(rest)),
+        "run" => Word::Run(rest),
+        "calls" => Word::Calls,
+        _ => disk_word(verb, rest),
+    }
+}
