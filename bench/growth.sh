@@ -1,8 +1,10 @@
 #!/bin/sh
 # What calls cost over a short and a long history, on the built program: microseconds a direct voucher, its payment, and
 # looks at a line and at an account after 1,000 and after 100,000 accepted entries, vouchers a second, and bytes of memory an
-# entry; then microseconds a voucher on an order's item, and its void, after 1,000 and after 100,000 orders. The journal lies in memory (/dev/shm),
-# where a sync costs nothing, so this is the work of the program and of the system's calls; bench/durable.sh has the disk's.
+# entry; then microseconds a voucher on an order's item, and its void, after 1,000 and after 100,000 orders; then a bill, a
+# collection, and a look at a bill after 1,000 and after 100,000 bills and as many collections. The journal lies in memory
+# (/dev/shm), where a sync costs nothing, so this is the work of the program and of the system's calls; bench/durable.sh has
+# the disk's.
 top=$(cd "$(dirname "$0")/.." && pwd)
 . "$top/tests/program.sh"
 scratch=$(mktemp -d /dev/shm/growth.XXXXXX) || exit 1
@@ -35,6 +37,15 @@ def voids(count):
 
 def payments(count):
     return ['{"call":"pay","desk":5,"key":"p%d","on":"2025-07-06","vouchers":[%d]}\n' % (number, number + 1) for number in range(count)]
+
+def bills(first, count):
+    return ['{"call":"bill","desk":6,"key":"b%d","on":"2025-07-05","source":1,"levy_year":2026,"payer":9,"amount":1000}\n' % number for number in range(first, first + count)]
+
+def collections(first, count, bills):
+    return ['{"call":"collect","desk":5,"key":"c%d","on":"2025-07-05","bill":%d,"amount":1}\n' % (number, number * 7919 % bills + 1) for number in range(first, first + count)]
+
+def bill_looks(count, bills):
+    return ['{"call":"bill","bill":%d}\n' % (number * 7919 % bills + 1) for number in range(count)]
 
 def talk(desk, lines):
     text = "".join(lines).encode()
@@ -83,4 +94,16 @@ for documents in (1_000, 100_000):
     status = desk.wait()
     print(f"after {documents:,} orders: a voucher on an item {seconds / BATCH * 1e6:.1f} us ({accepted:,} accepted), "
           f"a void {undone / BATCH * 1e6:.1f} us ({voided:,} accepted), status {status}")
+
+for billed in (1_000, 100_000):
+    desk = fresh_desk()
+    talk(desk, bills(0, billed))
+    talk(desk, collections(0, billed, billed))
+    seconds, accepted = talk(desk, bills(billed, BATCH))
+    taking, collected = talk(desk, collections(billed, BATCH, billed))
+    look, _ = talk(desk, bill_looks(BATCH, billed))
+    desk.stdin.close()
+    status = desk.wait()
+    print(f"after {billed:,} bills and collections: a bill {seconds / BATCH * 1e6:.1f} us ({accepted:,} accepted), "
+          f"a collection {taking / BATCH * 1e6:.1f} us ({collected:,} accepted), a look at a bill {look / BATCH * 1e6:.1f} us, status {status}")
 PY

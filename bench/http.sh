@@ -1,6 +1,7 @@
 #!/bin/sh
 # Small requests a second on one link in memory, each answered by one fixed text, and the peak memory: looks of 39
-# bytes, and calls with a body of 36. The time has the making of the requests in it. Prints two rows.
+# bytes, and calls with a body of 36. The time has the making of the requests in it; the peak is the link's own bytes, the
+# requests twice and the answers, and what serving takes beside. Prints two rows.
 top=$(cd "$(dirname "$0")/.." && pwd)
 (cd "$top/crates/http_cases" && rt run < /dev/null > /dev/null 2>&1) || exit 1 # builds it where it is out of date
 python3 - "$top/crates/http_cases/out/http_cases" <<'PY'

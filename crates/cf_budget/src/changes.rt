@@ -1,6 +1,6 @@
 //! Changes of line numbers, merged by line and year before they are applied: what a call asks of a line is a sum.
 
-ghost use Rattle.std.specs.Prelude.{◌≡◌, ◌<◌, ℕ, Bool, true, false, length, OnOk, IfSome, IfNone, set, get_or};
+ghost use Rattle.std.specs.Prelude.{◌≡◌, ◌<◌, ◌≤◌, ◌+◌, ℕ, Bool, true, false, length, OnOk, IfSome, IfNone, set, get_or};
 ghost use Rattle.std.specs.List.{All, list_all, list_any};
 ghost use Rattle.cf_calls.specs.Form.{is_distinct};
 ghost use Rattle.cf_budget.specs.Tables.{row_plus, has_row, AreHeld, KeepsRows, SameRows};
@@ -9,7 +9,8 @@ ghost use Rattle.cf_budget.specs.Changes.{changes_at, same_place, added, IsPlace
 
 use crate::changed::plus;
 use crate::lines::Lines;
-use crate::row::Row;
+use crate::row::{Row, ZERO};
+use arrayvec::ArrayVec;
 use cf_chart::LineId;
 use std::alloc::AllocError;
 
@@ -19,6 +20,17 @@ pub struct LineChange {
     pub line: LineId,
     pub year: u16,
     pub by: Row,
+}
+
+impl Default for LineChange {
+    /// No change of the first line.
+    fn default() -> LineChange {
+        LineChange {
+            line: LineId { number: 0 },
+            year: 0,
+            by: ZERO,
+        }
+    }
 }
 
 /// Reserves the lines and years of changes. No number changes.
@@ -43,20 +55,25 @@ pub fn apply(lines: &mut Lines, changes: &[LineChange])
     }
 }
 
-/// Adds a change of a line and year to what is changed of them: there is one change a line and year.
-pub fn merge(changes: &mut Vec<LineChange>, change: &LineChange) -> Result<(), AllocError>
+/// Changes of at most 64 lines and years, which take no memory.
+pub type MergedChanges = ArrayVec<LineChange, 64>;
+
+/// Adds a change of a line and year to what is changed of them: there is one change a line and year. It takes no
+/// memory.
+pub fn merge(changes: &mut MergedChanges, change: &LineChange)
     requires apart { is_distinct same_place changes.old.items ≡ true }
     requires held { AreHeld (row_plus (changes_at changes.old.items change.now.line.number change.now.year) change.now.by) }
-    ensures apart { OnOk result (is_distinct same_place changes.new.items ≡ true) }
-    ensures adds { OnOk result (Adds changes.old.items changes.new.items change.now.line.number change.now.year change.now.by) }
+    requires room { length changes.old.items < 64 }
+    ensures few { length changes.new.items ≤ length changes.old.items + 1 }
+    ensures apart { is_distinct same_place changes.new.items ≡ true }
+    ensures adds { Adds changes.old.items changes.new.items change.now.line.number change.now.year change.now.by }
     ensures places { (p : ℕ → ℕ → Bool) → p change.now.line.number change.now.year ≡ true →
         list_all (λ c. p c.line.number c.year) changes.old.items ≡ true → list_all (λ c. p c.line.number c.year) changes.new.items ≡ true }
 {
     match place_of(changes.as_slice(), change) {
-        Some(k) => add_at(changes, k, &change.by),
-        None => changes.push(*change)?,
+        Some(k) => add_at(changes.as_mut_slice(), k, &change.by),
+        None => changes.push(*change),
     }
-    Ok(())
 }
 
 fn is_same_place(a: &LineChange, b: &LineChange) -> bool
@@ -78,10 +95,10 @@ fn place_of(changes: &[LineChange], change: &LineChange) -> Option<usize>
     None
 }
 
-fn add_at(changes: &mut Vec<LineChange>, k: usize, by: &Row)
-    requires within { k < length changes.old.items }
-    requires held { (d : Change) → AreHeld (row_plus (get_or changes.old.items k d).by by.now) }
-    ensures { (d : Change) → changes.new.items ≡ set changes.old.items k (added (get_or changes.old.items k d) by.now) }
+fn add_at(changes: &mut [LineChange], k: usize, by: &Row)
+    requires within { k < length changes.old }
+    requires held { (d : Change) → AreHeld (row_plus (get_or changes.old k d).by by.now) }
+    ensures { (d : Change) → changes.new ≡ set changes.old k (added (get_or changes.old k d) by.now) }
 {
     let mut change = changes[k];
     change.by = plus(&change.by, by);

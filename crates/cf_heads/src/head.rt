@@ -10,10 +10,10 @@ use crate::route::{Miss, Route};
 use crate::router::Routes;
 use httparse::{EMPTY_HEADER, Header, Status};
 
-/// The most bytes of a head.
+/// The most bytes of a head (own).
 pub const LONGEST_HEAD: usize = 16_384;
 
-/// The most fields of a head.
+/// The most fields of a head (own).
 pub const MOST_FIELDS: usize = 64;
 
 /// What a head asks for.
@@ -21,7 +21,7 @@ pub const MOST_FIELDS: usize = 64;
 pub struct Heading {
     /// How many bytes the head has.
     pub length: usize,
-    /// Whether its method is HEAD, so that the answer has no body.
+    /// Whether its method is HEAD, so that the answer has no body (RFC 9110, section 9.3.2).
     pub is_head: bool,
     /// Whether the link is to be closed after the answer.
     pub closes: bool,

@@ -22,7 +22,7 @@ use std::alloc::{AllocError, Global};
 
 /// What a server needs, whose memory is taken before the first request.
 #[derive(Drop)]
-pub struct Bench {
+pub struct Workspace {
     pub routes: Routes,
     pub inbox: Inbox,
     pub lines: Vec<u8>,
@@ -30,15 +30,15 @@ pub struct Bench {
     ghost room: { 256 ≤ vec_capacity lines },
 }
 
-impl Bench {
-    pub fn new(alloc: Global) -> Result<Bench, AllocError>
-        ensures { IfOk result (λ bench. bench.inbox.bytes.items ≡ []) }
+impl Workspace {
+    pub fn new(alloc: Global) -> Result<Workspace, AllocError>
+        ensures { IfOk result (λ workspace. workspace.inbox.bytes.items ≡ []) }
     {
         let routes = Routes::new(alloc)?;
         let inbox = Inbox::new(alloc)?;
         let mut lines = Vec::new(alloc);
         lines.reserve(LINES_ROOM)?;
-        Ok(Bench {
+        Ok(Workspace {
             routes,
             inbox,
             lines,
@@ -102,25 +102,25 @@ fn reply_told<L: Link, A: Answer>(
     alloc: Global,
     link: &mut L,
     answer: &mut A,
-    bench: &mut Bench,
+    workspace: &mut Workspace,
     heading: &Heading,
     route: Route,
     stated: usize,
 ) -> Option<LinkEnd>
-    requires whole { heading.now.length + stated ≤ vec_len bench.old.inbox.bytes }
+    requires whole { heading.now.length + stated ≤ vec_len workspace.old.inbox.bytes }
     requires route { IsRouteInForm route }
-    ensures said { SaysTold A.answers answer.old (L.sent link.old) (L.sent link.new) route (take stated (drop heading.now.length bench.old.inbox.bytes.items)) heading.now.closes answer.new result }
-    ensures inbox { bench.new.inbox.bytes.items ≡ bench.old.inbox.bytes.items }
+    ensures said { SaysTold A.answers answer.old (L.sent link.old) (L.sent link.new) route (take stated (drop heading.now.length workspace.old.inbox.bytes.items)) heading.now.closes answer.new result }
+    ensures inbox { workspace.new.inbox.bytes.items ≡ workspace.old.inbox.bytes.items }
     ensures received { L.received link.new ≡ L.received link.old }
     ensures later { L.faults link.old ≤ L.faults link.new }
     ensures fault { result ≡ Some LinkEnd.WriteFault → Rose (L.faults link.old) (L.faults link.new) }
 {
-    let Ok(body) = body_in(alloc, bench.inbox.bytes.as_slice(), heading, stated) else {
+    let Ok(body) = body_in(alloc, workspace.inbox.bytes.as_slice(), heading, stated) else {
         return Some(send_no_memory(link));
     };
     let request = Request { route, body };
-    bench.body.clear();
-    let Ok(code) = answer.answer(&request, &mut bench.body) else {
+    workspace.body.clear();
+    let Ok(code) = answer.answer(&request, &mut workspace.body) else {
         return Some(send_no_memory(link));
     };
     let told = Told {
@@ -129,7 +129,7 @@ fn reply_told<L: Link, A: Answer>(
         closes: heading.closes,
         is_head: false,
     };
-    let sent = send_answer(link, &mut bench.lines, told, bench.body.as_slice());
+    let sent = send_answer(link, &mut workspace.lines, told, workspace.body.as_slice());
     finish(sent, heading.closes)
 }
 
@@ -148,15 +148,15 @@ fn reply<L: Link, A: Answer>(
     alloc: Global,
     link: &mut L,
     answer: &mut A,
-    bench: &mut Bench,
+    workspace: &mut Workspace,
     heading: &Heading,
     stated: usize,
 ) -> Option<LinkEnd>
-    requires begins { BeginsWithHead bench.old.inbox.bytes.items heading.now }
+    requires begins { BeginsWithHead workspace.old.inbox.bytes.items heading.now }
     requires states { heading.now.body ≡ Ok stated }
-    requires whole { heading.now.length + stated ≤ length bench.old.inbox.bytes.items }
-    ensures open { result ≡ None → Replied A.answers answer.old (L.sent link.old) bench.old.inbox.bytes.items answer.new (L.sent link.new) bench.new.inbox.bytes.items }
-    ensures over { IfSome result (EndsOver A.answers answer.old (L.sent link.old) bench.old.inbox.bytes.items answer.new (L.sent link.new) (L.ended link.new)) }
+    requires whole { heading.now.length + stated ≤ length workspace.old.inbox.bytes.items }
+    ensures open { result ≡ None → Replied A.answers answer.old (L.sent link.old) workspace.old.inbox.bytes.items answer.new (L.sent link.new) workspace.new.inbox.bytes.items }
+    ensures over { IfSome result (EndsOver A.answers answer.old (L.sent link.old) workspace.old.inbox.bytes.items answer.new (L.sent link.new) (L.ended link.new)) }
     ensures received { L.received link.new ≡ L.received link.old }
     ensures later { L.faults link.old ≤ L.faults link.new }
     ensures write { result ≡ Some LinkEnd.WriteFault → Rose (L.faults link.old) (L.faults link.new) }
@@ -165,47 +165,47 @@ fn reply<L: Link, A: Answer>(
     let count = heading.length + stated;
     match heading.ask {
         Err(miss) => {
-            let how = reply_missed(link, &mut bench.lines, heading, miss);
-            pass_after(&mut bench.inbox, how, count);
+            let how = reply_missed(link, &mut workspace.lines, heading, miss);
+            pass_after(&mut workspace.inbox, how, count);
             how
         }
         Ok(route) => {
-            let how = reply_told(alloc, link, answer, bench, heading, route, stated);
-            pass_after(&mut bench.inbox, how, count);
+            let how = reply_told(alloc, link, answer, workspace, heading, route, stated);
+            pass_after(&mut workspace.inbox, how, count);
             how
         }
     }
 }
 
 /// The end of a link after a text that is no head.
-fn refuse_text<L: Link, A: Answer>(link: &mut L, answer: &A, bench: &mut Bench) -> LinkEnd
-    requires { IsNoHead bench.old.inbox.bytes.items }
-    ensures over { EndsOver A.answers answer.now (L.sent link.old) bench.old.inbox.bytes.items answer.now (L.sent link.new) (L.ended link.new) result }
+fn refuse_text<L: Link, A: Answer>(link: &mut L, answer: &A, workspace: &mut Workspace) -> LinkEnd
+    requires { IsNoHead workspace.old.inbox.bytes.items }
+    ensures over { EndsOver A.answers answer.now (L.sent link.old) workspace.old.inbox.bytes.items answer.now (L.sent link.new) (L.ended link.new) result }
     ensures received { L.received link.new ≡ L.received link.old }
     ensures later { L.faults link.old ≤ L.faults link.new }
     ensures write { result ≡ LinkEnd.WriteFault → Rose (L.faults link.old) (L.faults link.new) }
     ensures kind { IsAfterAnswer result }
 {
-    send_refusal(link, &mut bench.lines, false, Refusal::Head)
+    send_refusal(link, &mut workspace.lines, false, Refusal::Head)
 }
 
 /// The end of a link after a head that is refused.
 fn refuse_head<L: Link, A: Answer>(
     link: &mut L,
     answer: &A,
-    bench: &mut Bench,
+    workspace: &mut Workspace,
     heading: &Heading,
     why: Refusal,
 ) -> LinkEnd
-    requires begins { BeginsWithHead bench.old.inbox.bytes.items heading.now }
+    requires begins { BeginsWithHead workspace.old.inbox.bytes.items heading.now }
     requires refused { heading.now.body ≡ Err why }
-    ensures over { EndsOver A.answers answer.now (L.sent link.old) bench.old.inbox.bytes.items answer.now (L.sent link.new) (L.ended link.new) result }
+    ensures over { EndsOver A.answers answer.now (L.sent link.old) workspace.old.inbox.bytes.items answer.now (L.sent link.new) (L.ended link.new) result }
     ensures received { L.received link.new ≡ L.received link.old }
     ensures later { L.faults link.old ≤ L.faults link.new }
     ensures write { result ≡ LinkEnd.WriteFault → Rose (L.faults link.old) (L.faults link.new) }
     ensures kind { IsAfterAnswer result }
 {
-    send_refusal(link, &mut bench.lines, heading.is_head, why)
+    send_refusal(link, &mut workspace.lines, heading.is_head, why)
 }
 
 /// Reads the next request and answers it.
@@ -213,30 +213,30 @@ pub fn serve_next<L: Link, A: Answer>(
     alloc: Global,
     link: &mut L,
     answer: &mut A,
-    bench: &mut Bench,
+    workspace: &mut Workspace,
 ) -> Option<LinkEnd>
     ensures open { result ≡ None → Went A.answers
-        (moment_of answer.old (L.received link.old) (L.sent link.old)) bench.old.inbox.bytes.items
-        (moment_of answer.new (L.received link.new) (L.sent link.new)) bench.new.inbox.bytes.items 1 }
+        (moment_of answer.old (L.received link.old) (L.sent link.old)) workspace.old.inbox.bytes.items
+        (moment_of answer.new (L.received link.new) (L.sent link.new)) workspace.new.inbox.bytes.items 1 }
     ensures over { IfSome result (Stops A.answers
-        (moment_of answer.old (L.received link.old) (L.sent link.old)) bench.old.inbox.bytes.items
+        (moment_of answer.old (L.received link.old) (L.sent link.old)) workspace.old.inbox.bytes.items
         (moment_of answer.new (L.received link.new) (L.sent link.new)) (L.ended link.new)) }
     ensures later { L.faults link.old ≤ L.faults link.new }
     ensures read { result ≡ Some LinkEnd.ReadFault → Rose (L.faults link.old) (L.faults link.new) }
     ensures write { result ≡ Some LinkEnd.WriteFault → Rose (L.faults link.old) (L.faults link.new) }
     ensures limit { result ≢ Some LinkEnd.Limit }
 {
-    let heading = match next_head(link, &bench.routes, &mut bench.inbox) {
+    let heading = match next_head(link, &workspace.routes, &mut workspace.inbox) {
         Next::Head(heading) => heading,
-        Next::NoHead => return Some(refuse_text(link, answer, bench)),
+        Next::NoHead => return Some(refuse_text(link, answer, workspace)),
         Next::Stop(how) => return Some(how),
     };
     let stated = match heading.body {
         Ok(stated) => stated as usize,
-        Err(why) => return Some(refuse_head(link, answer, bench, &heading, why)),
+        Err(why) => return Some(refuse_head(link, answer, workspace, &heading, why)),
     };
-    if let Some(how) = next_body(link, &mut bench.inbox, heading.length + stated) {
+    if let Some(how) = next_body(link, &mut workspace.inbox, heading.length + stated) {
         return Some(how);
     }
-    reply(alloc, link, answer, bench, &heading, stated)
+    reply(alloc, link, answer, workspace, &heading, stated)
 }

@@ -1,5 +1,5 @@
 -- What a door in memory tells.
-use Rattle.std.specs.Prelude.{List, Bool, ltb, vec_len}
+use Rattle.std.specs.Prelude.{ℕ, List, Bool, ltb, vec_len}
 use Rattle.cf_links.specs.declared.memory.MemLink.{MemLink}
 use Rattle.cf_links.specs.declared.memory.MemDoor.{MemDoor}
 
@@ -8,3 +8,6 @@ finished_of d = d.finished.items
 
 abbrev pub is_coming : MemDoor → Bool
 is_coming d = ltb 0 (vec_len d.coming)
+
+abbrev pub given_of : MemDoor → ℕ
+given_of d = d.given

@@ -1,6 +1,6 @@
 //! Links and doors in memory.
 
-ghost use Rattle.std.specs.Prelude.{◌≡◌, ◌≤◌, ◌<◌, ◌+◌, ◌^◌, Some, [], false, take, length, vec_len, vec_capacity};
+ghost use Rattle.std.specs.Prelude.{◌≡◌, ◌≤◌, ◌<◌, ◌+◌, ◌^◌, Some, [], false, take, length, ltb, IfOk, vec_len, vec_capacity};
 ghost use Rattle.cf_base.specs.Causes.{Rose};
 
 use cf_base::Failed;
@@ -64,7 +64,9 @@ impl MemLink {
     }
 
     /// How many bytes it gave.
-    pub fn received(&self) -> usize {
+    pub fn received(&self) -> usize
+        ensures { result ≡ length (received_of self.now) }
+    {
         self.place
     }
 
@@ -154,8 +156,14 @@ pub struct MemDoor {
 }
 
 impl MemDoor {
+    ghost use Rattle.cf_links.specs.MemoryDoors.{finished_of, given_of, is_coming};
+
     /// A door that gives these links, and fails at the call of this number.
-    pub fn new(alloc: Global, links: Vec<Coming>, fail_at: u64) -> Result<Self, AllocError> {
+    pub fn new(alloc: Global, links: Vec<Coming>, fail_at: u64) -> Result<Self, AllocError>
+        ensures finished { IfOk result (λ door. finished_of door ≡ []) }
+        ensures given { IfOk result (λ door. given_of door ≡ 0) }
+        ensures coming { IfOk result (λ door. is_coming door ≡ ltb 0 (length links.items)) }
+    {
         let mut coming = links;
         coming.reverse();
         let mut finished = Vec::new(alloc);
@@ -172,14 +180,16 @@ impl MemDoor {
     }
 
     /// The links that were finished, the oldest first.
-    pub fn finished(&self) -> &[MemLink] {
+    pub fn finished(&self) -> &[MemLink]
+        ensures { result.now ≡ finished_of self.now }
+    {
         self.finished.as_slice()
     }
 }
 
 impl Door for MemDoor {
     ghost use Rattle.std.specs.Prelude.{true};
-    ghost use Rattle.cf_links.specs.MemoryDoors.{finished_of, is_coming};
+    ghost use Rattle.cf_links.specs.MemoryDoors.{finished_of, given_of, is_coming};
 
     type Link = MemLink;
 
@@ -187,7 +197,7 @@ impl Door for MemDoor {
 
     ghost finished = { finished_of };
 
-    ghost given = { λ d. d.given };
+    ghost given = { given_of };
 
     ghost coming = { is_coming };
 

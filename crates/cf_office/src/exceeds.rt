@@ -1,10 +1,8 @@
 //! Budgetary control: whether more is asked of a control line than it has room for.
 
-ghost use Rattle.std.specs.Prelude.{ℕ, ◌≡◌, ◌<◌, None, true, pos, length, IfSome};
-ghost use Rattle.cf_base.specs.Calendar.{is_day};
-ghost use Rattle.cf_calls.specs.Form.{IsChangeInForm, IsActInForm};
-ghost use Rattle.cf_calls.specs.Acts.{amendment_of, transfer_of};
-ghost use Rattle.cf_chart.specs.Plan.{line_of};
+ghost use Rattle.std.specs.Prelude.{◌≡◌, ◌<◌, None, true, pos, length};
+ghost use Rattle.std.specs.List.{All, list_all};
+ghost use Rattle.cf_calls.specs.Form.{IsChangeInForm};
 ghost use Rattle.cf_model.specs.DocumentRules.{document_refusal};
 ghost use Rattle.cf_model.specs.Documents.{documents_of};
 ghost use Rattle.cf_model.specs.LineNumbers as numbers;
@@ -13,17 +11,15 @@ ghost use Rattle.cf_model.specs.Rules as spec;
 ghost use Rattle.cf_model.specs.Registers.{registers_of};
 ghost use Rattle.cf_model.specs.Results as results;
 ghost use Rattle.cf_model.specs.Step as step;
-ghost use Rattle.cf_orders.specs.Register.{IsSmall};
-ghost use Rattle.cf_office.specs.Least.{is_before as spec_is_before, lesser as spec_lesser, least_from, excess_at, excess_if as spec_excess_if, refusal_in};
-ghost use Rattle.cf_office.specs.Moved.{act_moves, IsCleared, IsMoveSmall, asks_of, asks_if as spec_asks_if};
+ghost use Rattle.cf_office.specs.Least.{is_before as spec_is_before, lesser as spec_lesser, least_from, excess_by, refusal_in};
+ghost use Rattle.cf_office.specs.Moved.{act_moves, asks_of, is_inside, AreSmallSums, IsCleared};
 
 use crate::history::{History, orders_of};
+use crate::moves::merged_moves;
 use cf_base::Day;
+use cf_budget::{LineChange, Row};
 use cf_calls::acts::{Amendment, LineTransfer};
-use cf_calls::items::AccountItem;
 use cf_calls::{Act, Change, Refusal};
-use cf_chart::Chart;
-use cf_orders::{LineMove, Orders};
 
 /// A line and fiscal year of which too much is asked, with its refusal.
 #[derive(Clone, Copy)]
@@ -51,51 +47,12 @@ fn fall_of(by: i64) -> u64
     if by < 0 { by.unsigned_abs() } else { 0 }
 }
 
-/// Whether an account is of a line.
-fn is_on(chart: &Chart, item: &AccountItem, line: u16) -> bool
-    ensures { result ≡ numbers.is_on chart.now line item.now }
+/// What a change asks of its line and year, in cents: by how much it narrows the room.
+fn asks(by: &Row) -> i128
+    requires { AreSmallSums by.now }
+    ensures { result ≡ asks_of by.now }
 {
-    match chart.line_of(item.fund, item.dept, item.object) {
-        Some(found) => found.number == line,
-        None => false,
-    }
-}
-
-/// What a move asks of a line and year, in cents.
-fn move_asks(chart: &Chart, moved: &LineMove, line: u16, year: u16) -> i128
-    requires { IsSmall moved.now }
-    ensures value { result ≡ asks_of chart.now line year moved.now }
-    ensures small { IsMoveSmall result }
-{
-    if moved.year == year && is_on(chart, &moved.account, line) {
-        moved.held + moved.encumbered + moved.expended
-    } else {
-        0
-    }
-}
-
-/// What a move asks, where there is one.
-fn asks_if(chart: &Chart, moved: Option<LineMove>, line: u16, year: u16) -> i128
-    requires { IfSome moved IsSmall }
-    ensures value { result ≡ spec_asks_if chart.now line year moved }
-    ensures small { IsMoveSmall result }
-{
-    match moved {
-        Some(moved) => move_asks(chart, &moved, line, year),
-        None => 0,
-    }
-}
-
-/// What an act's moves ask of a line and year, in cents.
-fn moves_ask(chart: &Chart, orders: &Orders, on: Day, act: &Act, line: u16, year: u16) -> i128
-    requires { IsCleared chart.now orders.now.documents on act.now }
-    ensures { result ≡ asks_of_moves chart.now line year (act_moves chart.now orders.now.documents on act.now) }
-{
-    let mut total = 0;
-    for nth in 0..orders.moves(act) {
-        total += asks_if(chart, orders.move_at(chart, on, act, nth), line, year);
-    }
-    total
+    by.held + by.encumbered + by.expended
 }
 
 fn is_before(one: &Excess, other: &Excess) -> bool
@@ -114,36 +71,16 @@ fn lesser(first: Option<Excess>, second: Option<Excess>) -> Option<Excess>
     }
 }
 
-/// The same, where there is such a move.
-fn excess_if<H: History>(history: &H, on: Day, act: &Act, moved: Option<LineMove>) -> Option<Excess>
-    requires cleared { IsCleared (H.plan history.now) (documents_of (H.plan history.now) (H.entries history.now)) on act.now }
-    requires year { IfSome moved (λ m. m.year < 2201) }
-    ensures { result ≡ spec_excess_if (H.plan history.now)
-        (λ line year. spec.overspends line (asks_of_moves (H.plan history.now) line year (act_moves (H.plan history.now) (documents_of (H.plan history.now) (H.entries history.now)) on act.now)) (numbers.room (H.plan history.now) line year (H.entries history.now)))
-        moved }
+/// What a change asks too much of its line and year.
+fn change_excess<H: History>(history: &H, change: &LineChange) -> Option<Excess>
+    requires inside { is_inside (H.plan history.now) change.now.line.number change.now.year ≡ true }
+    requires small { AreSmallSums change.now.by }
+    ensures { result ≡ excess_by (λ line year. numbers.room (H.plan history.now) line year (H.entries history.now)) change.now }
 {
-    match moved {
-        Some(moved) => move_excess(history, on, act, &moved),
-        None => None,
-    }
-}
-
-/// What an act's moves ask too much of on the line and year of one of them.
-fn move_excess<H: History>(history: &H, on: Day, act: &Act, moved: &LineMove) -> Option<Excess>
-    requires cleared { IsCleared (H.plan history.now) (documents_of (H.plan history.now) (H.entries history.now)) on act.now }
-    requires year { moved.now.year < 2201 }
-    ensures { result ≡ excess_at
-        (λ line year. spec.overspends line (asks_of_moves (H.plan history.now) line year (act_moves (H.plan history.now) (documents_of (H.plan history.now) (H.entries history.now)) on act.now)) (numbers.room (H.plan history.now) line year (H.entries history.now)))
-        (line_of (H.plan history.now) moved.now.account.fund moved.now.account.dept moved.now.account.object) moved.now.year }
-{
-    let account = &moved.account;
-    let year = moved.year;
-    let line = history
-        .chart()
-        .line_of(account.fund, account.dept, account.object)?
-        .number;
-    let asked = moves_ask(history.chart(), orders_of(history), on, act, line, year);
-    let refusal = line_refusal(line, asked, history.numbers(line, year).room)?;
+    let line = change.line.number;
+    let year = change.year;
+    let room = history.numbers(line, year).room;
+    let refusal = line_refusal(line, asks(&change.by), room)?;
     Some(Excess {
         line,
         year,
@@ -151,18 +88,15 @@ fn move_excess<H: History>(history: &H, on: Day, act: &Act, moved: &LineMove) ->
     })
 }
 
-/// The least line, and its least year, of which an act's moves ask too much.
-fn least_excess<H: History>(history: &H, on: Day, act: &Act) -> Option<Excess>
-    requires { IsCleared (H.plan history.now) (documents_of (H.plan history.now) (H.entries history.now)) on act.now }
-    ensures { result ≡ least_from (λ m. excess_at
-        (λ line year. spec.overspends line (asks_of_moves (H.plan history.now) line year (act_moves (H.plan history.now) (documents_of (H.plan history.now) (H.entries history.now)) on act.now)) (numbers.room (H.plan history.now) line year (H.entries history.now)))
-        (line_of (H.plan history.now) m.account.fund m.account.dept m.account.object) m.year) None (act_moves (H.plan history.now) (documents_of (H.plan history.now) (H.entries history.now)) on act.now) }
+/// The least line, and its least year, of which one of these changes asks too much.
+fn least_excess<H: History>(history: &H, changes: &[LineChange]) -> Option<Excess>
+    requires inside { list_all (λ c. is_inside (H.plan history.now) c.line.number c.year) changes.now ≡ true }
+    requires small { All (λ c. AreSmallSums c.by) changes.now }
+    ensures { result ≡ least_from (excess_by (λ line year. numbers.room (H.plan history.now) line year (H.entries history.now))) None changes.now }
 {
-    let orders = orders_of(history);
     let mut best = None;
-    for nth in 0..orders.moves(act) {
-        let moved = orders.move_at(history.chart(), on, act, nth);
-        best = lesser(best, excess_if(history, on, act, moved));
+    for change in changes {
+        best = lesser(best, change_excess(history, change));
     }
     best
 }
@@ -174,7 +108,8 @@ fn moves_rule<H: History>(history: &H, on: Day, act: &Act) -> Option<Refusal>
         (λ line. spec.first_below (λ year. spec.overspends line (asks_of_moves (H.plan history.now) line year (act_moves (H.plan history.now) (documents_of (H.plan history.now) (H.entries history.now)) on act.now)) (numbers.room (H.plan history.now) line year (H.entries history.now))) 2201)
         (length (H.plan history.now).lines) }
 {
-    refusal_of(least_excess(history, on, act))
+    let changes = merged_moves(history.chart(), orders_of(history), on, act);
+    refusal_of(least_excess(history, changes.as_slice()))
 }
 
 fn refusal_of(excess: Option<Excess>) -> Option<Refusal>

@@ -5,25 +5,30 @@ ghost use Rattle.cf_calls.specs.Form.{IsChangeInForm, IsReadInForm};
 ghost use Rattle.cf_model.specs.Documents.{documents_of};
 ghost use Rattle.cf_base.specs.Calendar.{is_day};
 ghost use Rattle.cf_model.specs.DocumentRules.{document_refusal};
-ghost use Rattle.cf_orders.specs.Register.{document_shown};
+ghost use Rattle.cf_office.specs.RegistersState.{register_shown};
 ghost use Rattle.cf_model.specs.Rules as rules;
 ghost use Rattle.cf_model.specs.Results as results;
 ghost use Rattle.cf_model.specs.Step as step;
-ghost use Rattle.cf_model.proofs.OnlyDocuments.{document_made as spec_document_made};
+ghost use Rattle.cf_model.specs.ReceivableRules.{receivable_refusal};
+ghost use Rattle.cf_model.specs.Receivables.{bill_at};
+ghost use Rattle.cf_model.specs.Registers.{registers_of};
+ghost use Rattle.cf_model.proofs.Entered.{made_known as spec_made_known};
 
 use crate::cash::cash_rule;
 use crate::exceeds::exceed_rule;
 use crate::history::{History, orders_of};
-use crate::names::name_rule;
+use crate::names::{name_rule, register_name_rule};
 use crate::registers::Registers;
 use crate::rules::{
-    adopted_rule, ahead_rule, amount_rule, closed_rule, desk_rule, full_rule, is_built, or,
-    period_rule, role_rule, unadopted_rule, year_rule,
+    adopted_rule, ahead_rule, amount_rule, closed_rule, desk_rule, full_rule, is_built, levy_rule,
+    or, period_rule, role_rule, unadopted_rule, year_rule,
 };
+use cf_base::Day;
 use cf_calls::{
     Act, Body, Change, Drawn, Entry, Look, Made, NameKind, Read, Refusal, Shown, Verdict,
 };
 use cf_chart::Chart;
+use cf_revenue::Revenue;
 use std::alloc::{AllocError, Global};
 
 /// The rules before a repeat: an unknown desk, and a caller that has seen more than the history has.
@@ -52,7 +57,10 @@ fn call_rules<H: History>(history: &H, change: &Change) -> Option<Refusal>
     if let Some(refusal) = amount_rule(chart, act) {
         return Some(refusal);
     }
-    or(name_rule(chart, orders_of(history), act), None)
+    if let Some(refusal) = name_rule(chart, orders_of(history), act) {
+        return Some(refusal);
+    }
+    or(register_name_rule(chart, history.registers(), act), None)
 }
 
 /// The rules of periods and adopted budgets.
@@ -64,6 +72,9 @@ fn period_rules<H: History>(history: &H, change: &Change) -> Option<Refusal>
         return Some(refusal);
     }
     if let Some(refusal) = year_rule(history, change.on, &change.act) {
+        return Some(refusal);
+    }
+    if let Some(refusal) = levy_rule(history, change.on, &change.act) {
         return Some(refusal);
     }
     if let Some(refusal) = closed_rule(history, change.on, &change.act) {
@@ -78,14 +89,16 @@ fn period_rules<H: History>(history: &H, change: &Change) -> Option<Refusal>
 /// The first broken rule of the registers.
 fn register_rule<H: History>(history: &H, change: &Change) -> Option<Refusal>
     requires { is_day change.now.on ≡ true }
-    ensures { result ≡ document_refusal (H.plan history.now) (documents_of (H.plan history.now) (H.entries history.now)) change.now.on change.now.desk change.now.act }
+    ensures { result ≡ rules.or_else
+        (document_refusal (H.plan history.now) (documents_of (H.plan history.now) (H.entries history.now)) change.now.on change.now.desk change.now.act)
+        (receivable_refusal (registers_of (H.plan history.now) (H.entries history.now)).receivables change.now.act) }
 {
     history
         .registers()
         .check(history.chart(), change.on, change.desk, &change.act)
 }
 
-/// The rules on the states of documents, of room, and of cash.
+/// The rules on the states of documents, on what is left of bills and loans, of room, and of cash.
 #[tactic(auto, using(cf_model::proofs::First::rule_lists))]
 fn last_rules<H: History>(history: &H, change: &Change) -> Option<Refusal>
     requires form { IsChangeInForm change.now }
@@ -173,17 +186,39 @@ pub fn judge<H: History>(history: &H, change: &Change) -> Verdict
 
 /// What an accepted entry made, over the registers before it.
 pub(crate) fn made_of(chart: &Chart, registers: &Registers, entry: &Entry) -> Made
-    requires { step.is_built chart.now entry.now.change.act ≡ true }
+    requires built { step.is_built chart.now entry.now.change.act ≡ true }
+    requires day { is_day entry.now.change.on ≡ true }
     ensures { result ≡ results.made_of chart.now registers.now.registers entry.now }
 {
-    document_made(entry.drawn, &entry.change.act)
+    let change = &entry.change;
+    made_known(
+        chart,
+        registers.revenue(),
+        change.on,
+        entry.drawn,
+        &change.act,
+    )
 }
 
-fn document_made(drawn: Drawn, act: &Act) -> Made
-    ensures { result ≡ spec_document_made drawn act.now }
+/// The fiscal year that a collection on a bill is revenue of.
+fn made_year(chart: &Chart, revenue: &Revenue, on: Day, bill: u32) -> Made
+    requires { is_day on ≡ true }
+    ensures { result ≡ results.made_year chart.now on (bill_at bill revenue.now.receivables.bills) }
+{
+    match revenue.collected_year(chart, on, bill) {
+        Some(year) => Made::Year { year },
+        None => Made::Nothing,
+    }
+}
+
+fn made_known(chart: &Chart, revenue: &Revenue, on: Day, drawn: Drawn, act: &Act) -> Made
+    requires { is_day on ≡ true }
+    ensures { result ≡ spec_made_known chart.now revenue.now.receivables on drawn act.now }
 {
     let number = drawn.number;
     match act {
+        Act::Bill(_) => Made::Bill { number },
+        Act::Collect(part) => made_year(chart, revenue, on, part.bill),
         Act::Requisition(_) => Made::Requisition { number },
         Act::Order(_) => Made::Order { number },
         Act::Voucher(_) => Made::Voucher {
@@ -209,22 +244,22 @@ fn show_line<H: History>(history: &H, line: u16, year: u16) -> Body
     }
 }
 
-/// What a look at a document shows, if there is one of its number.
+/// What a look at a document or a bill shows, if there is one of its number.
 fn look_at<H: History>(alloc: Global, history: &H, read: &Read) -> Result<Option<Shown>, AllocError>
-    ensures { IfOk result (λ s. s ≡ document_shown (H.plan history.now) (documents_of (H.plan history.now) (H.entries history.now)) read.now) }
+    ensures { IfOk result (λ s. s ≡ register_shown (H.plan history.now) (documents_of (H.plan history.now) (H.entries history.now)) (registers_of (H.plan history.now) (H.entries history.now)).receivables read.now) }
 {
     history.registers().look(alloc, history.chart(), read)
 }
 
-/// What a look at a document shows, or that there is none of its number.
-fn show_document<H: History>(
+/// What a look at a document or a bill shows, or that there is none of its number.
+fn show_numbered<H: History>(
     alloc: Global,
     history: &H,
     kind: NameKind,
     number: u32,
     read: &Read,
 ) -> Result<Body, AllocError>
-    ensures { IfOk result (λ b. b ≡ step.or_refused kind number (document_shown (H.plan history.now) (documents_of (H.plan history.now) (H.entries history.now)) read.now)) }
+    ensures { IfOk result (λ b. b ≡ step.or_refused kind number (register_shown (H.plan history.now) (documents_of (H.plan history.now) (H.entries history.now)) (registers_of (H.plan history.now) (H.entries history.now)).receivables read.now)) }
 {
     match look_at(alloc, history, read)? {
         Some(shown) => Ok(Body::Shown(shown)),
@@ -240,15 +275,19 @@ fn show<H: History>(alloc: Global, history: &H, read: &Read) -> Result<Option<Bo
     match *read {
         Read::Line { line, year } => Ok(Some(show_line(history, line, year))),
         Read::Requisition { requisition } => {
-            let body = show_document(alloc, history, NameKind::Requisition, requisition, read)?;
+            let body = show_numbered(alloc, history, NameKind::Requisition, requisition, read)?;
             Ok(Some(body))
         }
         Read::Order { order } => {
-            let body = show_document(alloc, history, NameKind::Order, order, read)?;
+            let body = show_numbered(alloc, history, NameKind::Order, order, read)?;
             Ok(Some(body))
         }
         Read::Voucher { voucher } => {
-            let body = show_document(alloc, history, NameKind::Voucher, voucher, read)?;
+            let body = show_numbered(alloc, history, NameKind::Voucher, voucher, read)?;
+            Ok(Some(body))
+        }
+        Read::Bill { bill } => {
+            let body = show_numbered(alloc, history, NameKind::Bill, bill, read)?;
             Ok(Some(body))
         }
         Read::Account {

@@ -5,7 +5,7 @@ ghost use Rattle.cf_base.specs.Calendar.{is_day};
 ghost use Rattle.cf_model.specs.Results.{bill_draws};
 ghost use Rattle.cf_model.specs.Receivables as spec;
 ghost use Rattle.cf_model.specs.Receivables.{no_receivables, bill_at, window_if};
-ghost use Rattle.cf_revenue.specs.ReceivablesShown.{bill_now_at, bill_shown};
+ghost use Rattle.cf_revenue.specs.ReceivablesShown.{bill_now_at, receivable_shown};
 ghost use Rattle.cf_revenue.specs.Steps.{ShowsBill};
 ghost use Rattle.cf_chart.specs.Plan.{source_at};
 
@@ -151,7 +151,7 @@ impl Revenue {
 
     /// What a look at a bill shows: `None` exactly where there is no such bill, and at other looks.
     pub fn look(&self, read: &Read) -> Option<Shown>
-        ensures { result ≡ bill_shown self.now.receivables read.now }
+        ensures { result ≡ receivable_shown self.now.receivables read.now }
     {
         match read {
             Read::Bill { bill } => self.look_bill(*bill),
@@ -160,7 +160,7 @@ impl Revenue {
     }
 
     fn look_bill(&self, number: u32) -> Option<Shown>
-        ensures { result ≡ bill_shown self.now.receivables (Read.Bill number) }
+        ensures { result ≡ receivable_shown self.now.receivables (Read.Bill number) }
     {
         match self.bill(number) {
             None => None,

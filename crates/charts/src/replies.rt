@@ -81,64 +81,88 @@ fn order(alloc: Global) -> Result<Shown, AllocError> {
     })
 }
 
-/// A voucher, a bill, an asset, and a bond before and after its last payment.
-fn papers() -> [Shown; 5] {
-    [
-        Shown::Voucher {
-            amount: 5,
-            state: VoucherState::Paid,
-            year: 2027,
-        },
-        Shown::Bill {
-            left: 5,
-            levy_year: 2027,
-            source: 1,
-        },
-        Shown::Asset {
-            cost: 12,
-            depreciation: 3,
-            state: AssetState::Held,
-        },
-        Shown::Bond {
-            accrued: -1,
-            next: None,
-            outstanding: 0,
-        },
-        Shown::Bond {
-            accrued: 1,
-            next: Some(Day {
-                year: 2027,
-                month: 1,
-                day: 28,
-            }),
-            outstanding: 8,
-        },
-    ]
+/// A requisition of two lines, and an order.
+fn show_items(rt: &impl Print, alloc: Global) -> io::Result<()> {
+    show_look(rt, alloc, requisition(alloc)?)?;
+    show_look(rt, alloc, order(alloc)?)
 }
 
-/// A line, leave, an account and the reconciliation.
-fn sums() -> [Shown; 4] {
-    [
-        Shown::Line(LineNumbers {
-            original: 1,
-            appropriated: 2,
-            held: 3,
-            encumbered: 4,
-            expended: 5,
-            room: -10,
-        }),
-        Shown::Leave { left: 6 },
-        Shown::Account { balance: -250000 },
-        Shown::Reconcile(ReconShown {
-            fund_balances: 1,
-            capital_assets: 2,
-            unavailable: 3,
-            bonds: -4,
-            accrued_interest: -5,
-            leave: -6,
-            net_position: -9,
-        }),
-    ]
+/// A voucher, a bill and an asset.
+fn show_papers(rt: &impl Print, alloc: Global) -> io::Result<()> {
+    let voucher = Shown::Voucher {
+        amount: 5,
+        state: VoucherState::Paid,
+        year: 2027,
+    };
+    show_look(rt, alloc, voucher)?;
+    let bill = Shown::Bill {
+        left: 5,
+        levy_year: 2027,
+        source: 1,
+    };
+    show_look(rt, alloc, bill)?;
+    let asset = Shown::Asset {
+        cost: 12,
+        depreciation: 3,
+        state: AssetState::Held,
+    };
+    show_look(rt, alloc, asset)
+}
+
+fn show_bond(
+    rt: &impl Print,
+    alloc: Global,
+    accrued: i128,
+    next: Option<Day>,
+    outstanding: u64,
+) -> io::Result<()> {
+    let bond = Shown::Bond {
+        accrued,
+        next,
+        outstanding,
+    };
+    show_look(rt, alloc, bond)
+}
+
+/// A bond after its last payment and before its next.
+fn show_bonds(rt: &impl Print, alloc: Global) -> io::Result<()> {
+    let next = Day {
+        year: 2027,
+        month: 1,
+        day: 28,
+    };
+    show_bond(rt, alloc, -1, None, 0)?;
+    show_bond(rt, alloc, 1, Some(next), 8)
+}
+
+/// A line, leave and an account.
+fn show_sums(rt: &impl Print, alloc: Global) -> io::Result<()> {
+    let line = Shown::Line(LineNumbers {
+        original: 1,
+        appropriated: 2,
+        held: 3,
+        encumbered: 4,
+        expended: 5,
+        room: -10,
+    });
+    show_look(rt, alloc, line)?;
+    show_look(rt, alloc, Shown::Leave { left: 6 })?;
+    show_look(rt, alloc, Shown::Account { balance: -250000 })
+}
+
+/// The reconciliation, and a report.
+fn show_statements(rt: &impl Print, alloc: Global) -> io::Result<()> {
+    let reconciliation = Shown::Reconcile(ReconShown {
+        fund_balances: 1,
+        capital_assets: 2,
+        unavailable: 3,
+        bonds: -4,
+        accrued_interest: -5,
+        leave: -6,
+        net_position: -9,
+    });
+    show_look(rt, alloc, reconciliation)?;
+    show_look(rt, alloc, report(alloc)?)
 }
 
 fn row(alloc: Global, label: &str, amounts: &[i128]) -> Result<Row, AllocError> {
@@ -163,13 +187,9 @@ pub fn show_replies(rt: &impl Print, alloc: Global) -> io::Result<()> {
     show_refusals(rt, alloc)?;
     show_results(rt, alloc)?;
     show_others(rt, alloc)?;
-    show_look(rt, alloc, requisition(alloc)?)?;
-    show_look(rt, alloc, order(alloc)?)?;
-    for shown in papers() {
-        show_look(rt, alloc, shown)?;
-    }
-    for shown in sums() {
-        show_look(rt, alloc, shown)?;
-    }
-    show_look(rt, alloc, report(alloc)?)
+    show_items(rt, alloc)?;
+    show_papers(rt, alloc)?;
+    show_bonds(rt, alloc)?;
+    show_sums(rt, alloc)?;
+    show_statements(rt, alloc)
 }

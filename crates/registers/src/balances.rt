@@ -43,7 +43,15 @@ const POSTS: [Post; 6] = [
     },
 ];
 
-/// The balance of an account in the ledger with the posts on the basis of funds.
+/// The ledger with the posts, on the basis of funds.
+fn filled(alloc: Global) -> Result<Ledger, AllocError> {
+    let mut ledger = Ledger::new(alloc);
+    ledger.reserve(Basis::Fund, &POSTS)?;
+    ledger.add(Basis::Fund, &POSTS);
+    Ok(ledger)
+}
+
+/// The balance of an account in the ledger with the posts.
 pub fn balance(
     alloc: Global,
     basis: Basis,
@@ -51,16 +59,12 @@ pub fn balance(
     fund: u16,
     account: u32,
 ) -> Result<i128, AllocError> {
-    let mut ledger = Ledger::new(alloc);
-    ledger.reserve(Basis::Fund, &POSTS)?;
-    ledger.add(Basis::Fund, &POSTS);
+    let ledger = filled(alloc)?;
     Ok(ledger.balance(basis, year, fund, account))
 }
 
 /// The total of fund balances, or net position, in the same ledger.
 pub fn total(alloc: Global, basis: Basis, year: u16) -> Result<i128, AllocError> {
-    let mut ledger = Ledger::new(alloc);
-    ledger.reserve(Basis::Fund, &POSTS)?;
-    ledger.add(Basis::Fund, &POSTS);
+    let ledger = filled(alloc)?;
     Ok(ledger.total(basis, year))
 }

@@ -158,6 +158,22 @@ fn show_state(rt: &impl Print, revenue: &Revenue, rule: Option<u8>) -> io::Resul
     )
 }
 
+/// Does something on a day, and prints what comes of it.
+fn show_taken(
+    rt: &impl Print,
+    chart: &Chart,
+    revenue: &mut Revenue,
+    on: Day,
+    act: &Act,
+) -> io::Result<()>
+    requires day { is_day on ≡ true }
+    requires form { (on : Date) → IsActInForm on act.now }
+    requires amounts { amount_refusal act.now ≡ None }
+{
+    let rule = take(chart, revenue, on, act)?;
+    show_state(rt, revenue, rule)
+}
+
 /// Does something on a day, by its number, and prints what comes of it.
 pub fn show_move(
     rt: &impl Print,
@@ -169,9 +185,6 @@ pub fn show_move(
 ) -> io::Result<()> {
     match Day::new(day) {
         None => println!(rt; "  no day"),
-        Some(on) => {
-            let rule = take(chart, revenue, on, &act_of(what, amount))?;
-            show_state(rt, revenue, rule)
-        }
+        Some(on) => show_taken(rt, chart, revenue, on, &act_of(what, amount)),
     }
 }

@@ -199,6 +199,22 @@ fn show_item(rt: &impl Print, orders: &Orders, rule: Option<u8>) -> io::Result<(
     println!(rt; "  rule {rule}, open {open}, year {year}")
 }
 
+/// Enters an act, and prints what comes of it.
+fn show_entered(
+    rt: &impl Print,
+    chart: &Chart,
+    orders: &mut Orders,
+    on: Day,
+    desk: u16,
+    act: &Act,
+) -> io::Result<()>
+    requires day { is_day on ≡ true }
+    requires act { IsPlain act.now }
+{
+    let rule = enter(chart, orders, on, desk, act)?;
+    show_item(rt, orders, rule)
+}
+
 /// Enters what a desk does, and prints what comes of it.
 pub fn show_deed(
     rt: &impl Print,
@@ -209,8 +225,7 @@ pub fn show_deed(
     deed: Deed,
 ) -> io::Result<()> {
     let act = act_of(alloc, deed)?;
-    let rule = enter(chart, orders, day_of(deed), desk, &act)?;
-    show_item(rt, orders, rule)
+    show_entered(rt, chart, orders, day_of(deed), desk, &act)
 }
 
 /// Rolls the year 2026, and prints what comes of it.

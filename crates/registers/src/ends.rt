@@ -55,19 +55,13 @@ pub fn show_source<R: Files + Print + AllocGlobal>(
     show_reads(rt, rt.alloc(), &mut source, size)
 }
 
-/// A reader of `line` and a newline, and a writer.
-fn show_std(rt: &impl Print, alloc: Global) -> io::Result<()> {
-    let mut source = StdSource::new(Cursor::new(b"line\n"));
-    show_reads(rt, alloc, &mut source, 8)?;
-    let mut sink = StdSink::new(Vec::new(alloc));
+fn show_writer<O: Sink>(rt: &impl Print, sink: &mut O) -> io::Result<()> {
     show_write(rt, sink.write(b"reply"))?;
     show_write(rt, sink.write(b""))
 }
 
-/// A source in memory of the bytes 7 and 8, and a sink that is given them.
-fn show_memory(rt: &impl Print, alloc: Global) -> io::Result<()> {
-    let mut source = MemSource::new(vec![in alloc; 7, 8]?);
-    let mut sink = MemSink::new(alloc);
+/// Reads the bytes 7 and 8, and writes what was read.
+fn show_copy(rt: &impl Print, source: &mut MemSource, sink: &mut MemSink) -> io::Result<()> {
     let mut buf = [0; 4];
     match source.read(&mut buf) {
         Ok(count) => println!(rt; "  read {count} bytes")?,
@@ -80,7 +74,15 @@ fn show_memory(rt: &impl Print, alloc: Global) -> io::Result<()> {
     Ok(())
 }
 
+/// A source in memory of the bytes 7 and 8, and a sink that is given them.
+fn show_memory(rt: &impl Print, alloc: Global) -> io::Result<()> {
+    let bytes = vec![in alloc; 7, 8]?;
+    show_copy(rt, &mut MemSource::new(bytes), &mut MemSink::new(alloc))
+}
+
+/// A reader of `line` and a newline, a writer, and the ends in memory.
 pub fn show_ends(rt: &impl Print, alloc: Global) -> io::Result<()> {
-    show_std(rt, alloc)?;
+    show_reads(rt, alloc, &mut StdSource::new(Cursor::new(b"line\n")), 8)?;
+    show_writer(rt, &mut StdSink::new(Vec::new(alloc)))?;
     show_memory(rt, alloc)
 }

@@ -1,5 +1,7 @@
 //! The posts of deeds.
 
+ghost use Rattle.cf_post.specs.Sizes.{IsPostable};
+
 use cf_post::deed::{Collection, Disposal};
 use cf_post::{Deed, Post, fund_posts, gov_posts};
 use std::alloc::Global;
@@ -16,7 +18,9 @@ fn show_posts(rt: &impl Print, basis: &str, posts: &[Post]) -> io::Result<()> {
 }
 
 /// Prints the posts of a deed on both bases.
-fn show_deed(rt: &impl Print, alloc: Global, deed: &Deed) -> io::Result<()> {
+fn show_deed(rt: &impl Print, alloc: Global, deed: &Deed) -> io::Result<()>
+    requires { IsPostable deed.now }
+{
     let posts = fund_posts(alloc, deed)?;
     show_posts(rt, "fund", posts.as_slice())?;
     let posts = gov_posts(alloc, deed)?;
