@@ -96,6 +96,7 @@ impl Journal {
             → AtEachMoment D.moment D.was_image disk.old disk.new (RecoversToEither chart history entry) }
 
         ensures reserved { OnErr result ((e : EntryOf) → Reserves self.old e → Reserves self.new e) }
+        ensures none { OnOk result ((e : EntryOf) → Reserves self.new e → ⊥) }
         ensures count { count_of self.new ≡ (if is_ok result then count_of self.old + 1 else count_of self.old) }
         ensures clear { OnOk result (in_doubt self.new ≡ false) }
         ensures cause { HasCause (D.faults disk.old) (D.faults disk.new) result }

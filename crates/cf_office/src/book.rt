@@ -1,11 +1,11 @@
 //! The office that answers by running numbers and look-ups.
 
-ghost use Rattle.std.specs.Prelude.{◌≡◌, ◌≤◌, ◌++◌, ◌∷◌, [], length, take, ℕ, IfOk, IfSome, OnOk, OnErr};
+ghost use Rattle.std.specs.Prelude.{◌≡◌, ◌++◌, ◌∷◌, [], IfOk, IfSome, OnOk, OnErr};
 ghost use Rattle.cf_calls.specs.declared.entry.Entry.{Entry};
-ghost use Rattle.cf_model.specs.LineNumbers.{HasRoom};
-ghost use Rattle.cf_model.specs.Step.{Adds, IsLegal};
 ghost use Rattle.cf_model.specs.Registers.{registers_of};
 ghost use Rattle.cf_model.specs.Results.{made_of};
+ghost use Rattle.cf_model.specs.State.{IsSoundState};
+ghost use Rattle.cf_model.specs.Step.{Adds};
 ghost use Rattle.cf_office.specs.BookState.{IsPrepared};
 
 use crate::history::History;
@@ -50,12 +50,11 @@ impl BookOffice {
         }
     }
 
-    /// The entries. At each place of the history no control line is overspent in any year.
+    /// The entries. They are a legal history: at each place of it no control line is overspent in any year and no
+    /// fund's cash is below zero, and each entry balances.
     pub fn entries(&self) -> &[Entry]
         ensures value { result.now ≡ self.now.entries }
-        ensures few { length self.now.entries ≤ 1048576 }
-        ensures legal { IsLegal self.now.plan self.now.entries }
-        ensures control { (n : ℕ) → HasRoom self.now.plan (take n self.now.entries) }
+        ensures sound { IsSoundState (record { plan = self.now.plan; entries = self.now.entries }) }
     {
         self.rest.entries()
     }

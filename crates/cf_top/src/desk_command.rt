@@ -1,10 +1,9 @@
 //! The run of `desk`.
 
-ghost use Rattle.std.specs.Prelude.{◌≡◌, [], ℕ, List, Option, Ok};
+ghost use Rattle.std.specs.Prelude.{◌≡◌, [], ℕ, List, Option, None, Ok};
 ghost use Rattle.std.specs.Io.KnownBytes.{Consumes};
 ghost use Rattle.cf_base.specs.Causes.{Rose};
 ghost use Rattle.cf_desk.specs.declared.ended.Ended.TheVariants as ended;
-ghost use Rattle.cf_book.specs.Openings.{IsOpened};
 ghost use Rattle.cf_top.specs.Runs.{DeskEnds, DeskKept, opened, status_of_ended, status_of_refused};
 ghost use Rattle.cf_top.specs.Devices.{device};
 ghost use Rattle.cf_top.specs.Words.{command_of};
@@ -50,8 +49,8 @@ fn keep_desk<I: Source, O: Sink, D: Disk + Drop>(
     input: &mut I,
     out: &mut O,
 ) -> (Ended, D)
-    requires { IsOpened D.tells D.is_image book.disk book.office book.journal }
-    ensures kept { DeskKept (device D.tells D.content D.is_image D.moment D.was_image D.faults) (opened book.office.plan book.office.entries (D.faults book.disk)) result.1
+    requires { book.doubt ≡ None }
+    ensures kept { DeskKept (device D.tells D.content D.is_image D.moment D.was_image D.faults) (opened book.plan book.entries (D.faults book.disk)) book.disk result.1
         (I.left input.old) (I.left input.new) (O.held out.old) (O.held out.new) result.0 }
     ensures silent { result.0 ≡ ended.NoMemory → Consumes (I.left input.old) (I.left input.new) [] × (O.held out.new ≡ O.held out.old) × (result.1 ≡ book.disk) }
     ensures read { result.0 ≡ ended.ReadFault → Rose (I.faults input.old) (I.faults input.new) }
@@ -60,11 +59,8 @@ fn keep_desk<I: Source, O: Sink, D: Disk + Drop>(
 {
     let mut clerk = Clerk { alloc, book };
     let how = run_lines(alloc, &mut clerk, input, out);
-    // The office says of its entries what the run hands on.
-    let _sound = clerk.book.office.entries();
     let Clerk { book, .. } = clerk;
-    let Book { disk, .. } = book;
-    (how, disk)
+    (how, book.close())
 }
 
 /// Opens the journal of the disk, and keeps a desk over it.
