@@ -2,7 +2,8 @@
 # What the items of a call cost, on the built program: microseconds of the processor a call of one item and of 32 items, all
 # on one control line or each on its own: direct vouchers, orders, vouchers on an order's items, and voids of both. Then how
 # long a desk takes to open a journal of 20,000 vouchers of 32 items, or as many as its argument says. The journal lies in
-# memory (/dev/shm), where a sync costs nothing. Prints a row a call, with the times of 32 items over those of one.
+# memory (/dev/shm), where a sync costs nothing. Prints a row a call, with the times of 32 items over those of one; where
+# calls are too few for the processor's clock, 0.
 top=$(cd "$(dirname "$0")/.." && pwd)
 . "$top/tests/program.sh"
 scratch=$(mktemp -d /dev/shm/items.XXXXXX) || exit 1
@@ -77,6 +78,9 @@ def opening():
     subprocess.run([PROGRAM, "desk"], stdin=subprocess.DEVNULL, check=True)
     return resource.getrusage(resource.RUSAGE_CHILDREN).ru_utime - before
 
+def over(cost, one):
+    return f"{cost / one if one else 0:.1f} times"
+
 def run(calls, count, apart):
     """Microseconds a call of each kind, with a void of each voucher at the end, and the seconds of opening before it."""
     desk = fresh_desk()
@@ -101,8 +105,8 @@ for calls, names in (([direct], ["a direct voucher", "its void"]), ([order, on_o
     shapes = [run(calls, count, apart) for count, apart in ((1, False), (ITEMS, False), (ITEMS, True))]
     for row, name in enumerate(names):
         one, same, apart = (costs[row] for costs, _ in shapes)
-        print(f"{name}: {one:.1f} us with 1 item, {same:.1f} us ({same / one:.1f} times) with {ITEMS} on one line, "
-              f"{apart:.1f} us ({apart / one:.1f} times) with {ITEMS} each on its own")
+        print(f"{name}: {one:.1f} us with 1 item, {same:.1f} us ({over(same, one)}) with {ITEMS} on one line, "
+              f"{apart:.1f} us ({over(apart, one)}) with {ITEMS} each on its own")
     opened = ", ".join(f"{seconds:.2f} s" for _, seconds in shapes)
     print(f"a journal of {CALLS * len(calls):,} such calls before the voids opens in {opened}")
 PY
