@@ -4,10 +4,10 @@
 #
 #     bench/gate.sh [NAME..]
 #
-# measures the named crates, or all, one after another at one job in a copy of the repository. The figures are kept in
-# the file that GATE_SECONDS names (or gate.seconds in the folder for temporary files), a line for each crate, so that crates can be measured on
-# different days; what follows from them is printed for all crates of that file. Measuring all takes about twice the
-# processor time of `rt ci`. A program's tests are its two runs. It isn't part of the gate.
+# measures the named crates, or all, one after another at one job in a copy of the repository. The figures are kept in the
+# file that GATE_SECONDS names, or gate.seconds in the folder for temporary files, a line for each crate, so that crates
+# can be measured on different days; what follows from them is printed for all crates of that file. Measuring all takes
+# about twice the processor time of `rt ci`. A program's tests are its two runs. It isn't part of the gate.
 top=$(cd "$(dirname "$0")/.." && pwd)
 exec python3 - "$top" "${GATE_SECONDS:-}" "$@" <<'PY'
 import heapq, os, resource, shutil, subprocess, sys, tempfile
