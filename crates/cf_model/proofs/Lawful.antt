@@ -37,7 +37,7 @@ use Rattle.cf_model.specs.Months.{number_of_day, year_at, months_to}
 use Rattle.cf_model.specs.Receivables.{Bill, bill_at, window_if, collected_year}
 use Rattle.cf_base.specs.Windows.{is_in_window, year_end}
 use Rattle.cf_model.specs.Recognition.{year_in}
-use Rattle.cf_model.specs.RegisterRules.{month_at, same_month, order_refusal, later_levy, levy_refusal, register_name_refusal, is_gone, voided_asset, not_held, disposed_asset, asset_refusal}
+use Rattle.cf_model.specs.RegisterRules.{month_at, same_month, order_refusal, later_levy, levy_refusal, register_name_refusal, unknown_dept, is_gone, voided_asset, not_held, disposed_asset, asset_refusal}
 use Rattle.cf_model.specs.Registers.{Registers, no_registers, registers_of, closed_after}
 use Rattle.cf_model.proofs.Allowed.{Allows}
 use Rattle.cf_model.proofs.Backed.{IsBacked, is_backed_by, agrees, is_void_state, backed_step}
@@ -270,8 +270,10 @@ pub record IsLawful (plan : Plan) (h : List Entry) : Type 0 where
 
 -- what is known of each chart
 pub record IsWhole (plan : Plan) : Type 0 where
+  pub from : 1971 ≤ plan.first_year
   pub calendar : HasCalendar plan
   pub functions : HasFunctions plan
+  pub few_functions : length plan.functions ≤ 64
 
 document_le : (plan : Plan) (on : Day) (a : Act) → document_year plan on a ≤ year_of_day plan on
 document_le plan on a = by_test (is_back a)
@@ -309,19 +311,19 @@ acquired plan h closed on drawn whole same (act.Voucher v) names others =
     all_new plan closed drawn.number on (document_year plan on (act.Voucher v)) drawn.second v.items whole.functions (known_items plan (registers_of plan h).documents v.items names)
     (document_le plan on (act.Voucher v)) same
 acquired plan h closed on drawn whole same (act.Asset (Donate d)) names others =
-    (new_one plan closed None on (year_of_day plan on) drawn.number d.dept d.object d.amount whole.functions (known others) (omega arith) same, tt)
+    (new_one plan closed None on (year_of_day plan on) drawn.number d.dept d.object d.amount whole.functions (known (or_else_none (unknown_dept plan d.dept) _ others).0) (omega arith) same, tt)
   where
     turned : (b : Bool) → not b ≡ false → b ≡ true
     turned true e = refl
     turned false e = cc
 
-    known : unknown_if (not (is_some (department_at plan d.dept))) kind.Dept d.dept ≡ None → is_some (department_at plan d.dept) ≡ true
+    known : unknown_dept plan d.dept ≡ None → is_some (department_at plan d.dept) ≡ true
     known e = turned (is_some (department_at plan d.dept)) (refuse_none (not (is_some (department_at plan d.dept))) (refusal.UnknownName kind.Dept d.dept) e)
 acquired plan h closed on drawn whole same (act.Asset (Dispose d)) names others = tt
 acquired plan h closed on drawn whole same _ names others = tt
 
 -- the months that are closed are named in order
-closes_next : (plan : Plan) (s : Registers) → HasCalendar plan → (a : Act) → order_refusal plan s a ≡ None → ClosesNext plan s a
+pub closes_next : (plan : Plan) (s : Registers) → HasCalendar plan → (a : Act) → order_refusal plan s a ≡ None → ClosesNext plan s a
 closes_next plan s c (act.Close (period.Month m)) e =
     by_parts (m.year == (month_at plan s.closed).year) (m.month == (month_at plan s.closed).month) (eqb_tells m.year (month_at plan s.closed).year) (eqb_tells m.month (month_at plan s.closed).month)
     (turned _ (refuse_none (not (same_month m (month_at plan s.closed))) (refusal.MonthOrder (month_at plan s.closed)) e))

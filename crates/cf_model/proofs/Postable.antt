@@ -1,22 +1,32 @@
--- The deeds of the acts that the office knows fit the posting table: only the close of a month makes deeds of sums.
-use Rattle.std.proofs.Common.{◌≡◌, ℕ, true, List, [], ◌∷◌, map, All, Option, Some, None}
-use Rattle.std.specs.List.{AllByRecursion}
+-- The deeds of each act fit the posting table: only the close of a month makes deeds of sums, over at most as many assets and bonds as entries allow.
+use Rattle.std.proofs.Common.{ℕ, ◌≤◌, ◌==◌, List, [], ◌∷◌, map, length, All, Option, Some, None, arith}
+use Rattle.std.specs.List.{filter, AllByRecursion}
 use Rattle.std.proofs.lemmas.List.Elements.{All-from_recursion}
 use Rattle.cf_base.specs.declared.calendar.Day.{Day}
 use Rattle.cf_calls.specs.declared.acts.Act.{Act}
 use Rattle.cf_calls.specs.declared.acts.Act.TheVariants.{Voucher, VoidVoucher, Pay, Bill, Collect, Receive, WriteOff, Asset, Issue, PayDue, Leave, Interfund, Close}
+use Rattle.cf_calls.specs.declared.acts.AssetAct.TheVariants.{Donate, Dispose}
 use Rattle.cf_calls.specs.declared.acts.FundMoveKind.{FundMoveKind}
 use Rattle.cf_calls.specs.declared.acts.FundMoveKind.TheVariants as move
+use Rattle.cf_calls.specs.declared.acts.LeaveAct.TheVariants.{Earn, Use, Mature}
+use Rattle.cf_calls.specs.declared.acts.Period.TheVariants as period
+use Rattle.cf_calls.specs.declared.entry.Entry.{Entry}
+use Rattle.cf_chart.specs.declared.rows.Function.{Function}
 use Rattle.cf_chart.specs.Plan.{Plan}
+use Rattle.cf_model.specs.Bonds.{Bond, Due, next_due}
 use Rattle.cf_model.specs.Calendar.{document_year, year_of_day}
-use Rattle.cf_model.specs.Deeds.{collect_deeds, deeds_of, fund_deed, pay_deed, pay_items, spent_item, write_off_deeds}
+use Rattle.cf_model.specs.Deeds.{bonds_deeds, close_deeds, collect_deeds, deeds_of, dispose_deed, due_deeds, function_charge, fund_deed, pay_deed, pay_items, spent_item, write_off_deeds}
 use Rattle.cf_model.specs.Documents.{Expenditure}
 use Rattle.cf_model.specs.Moves.{spent_by}
 use Rattle.cf_model.specs.Receivables as receivables
 use Rattle.cf_model.specs.Receivables.{bill_at}
-use Rattle.cf_model.specs.Registers.{Registers}
-use Rattle.cf_model.specs.Step.{is_built}
+use Rattle.cf_model.specs.Months.{year_at}
+use Rattle.cf_model.specs.Registers.{Registers, registers_of}
+use Rattle.cf_model.specs.Step.{IsLegal}
+use Rattle.cf_model.proofs.CloseBounds.{IsSmallBond, bonds_most, function_most}
+use Rattle.cf_model.proofs.Holdings.{AreHoldings, IsLowBond, are_held}
 use Rattle.cf_model.proofs.Tidy.{all_append, all_new}
+use Rattle.cf_model.proofs.Totals.{all_so}
 use Rattle.cf_post.specs.declared.deed.Deed.{Deed}
 use Rattle.cf_post.specs.declared.deed.Deed.TheVariants as deed
 use Rattle.cf_post.specs.declared.deed.FundsAmount.{FundsAmount}
@@ -35,29 +45,52 @@ between move.Transfer a = tt
 between move.Loan a = tt
 between move.Repay a = tt
 
-each : (plan : Plan) (s : Registers) (on : Day) (act : Act) → is_built plan act ≡ true → ArePostable (deeds_of plan s on act)
-each plan s on (Voucher v) built = all_new IsPostable (λ i. deed.Voucher (spent_item plan (document_year plan on (Voucher v)) i.account)) (λ i. tt) v.items
-each plan s on (VoidVoucher n) built = all_new IsPostable (λ x. deed.VoidVoucher (spent_item plan x.year x.account)) (λ x. tt) (spent_by n s.documents.expenditures)
-each plan s on (Pay p) built = payments (year_of_day plan on) s.documents.expenditures p.vouchers
-each plan s on (Bill b) built = (tt, tt)
-each plan s on (Collect c) built = by_bill (bill_at c.bill s.receivables.bills)
+dues_paid : (plan : Plan) (on : Day) (fund : ℕ) (bonds : List Bond) → ArePostable (bonds_deeds plan on fund bonds)
+dues_paid plan on fund [] = tt
+dues_paid plan on fund (b ∷ bonds) = all_append IsPostable (due_deeds plan on fund b (next_due b)) (bonds_deeds plan on fund bonds) (by_due (next_due b)) (dues_paid plan on fund bonds)
+  where
+    by_due : (o : Option Due) → ArePostable (due_deeds plan on fund b o)
+    by_due None = tt
+    by_due (Some p) = (tt, tt)
+
+abbrev charged_to : Plan → Registers → Function → Deed
+charged_to plan s f = deed.Depreciate (record { year = year_at plan s.closed; function = f.id; amount = function_charge s.closed s.assets f.id })
+
+charges : (plan : Plan) (s : Registers) (k : ℕ) → AreHoldings s k → k ≤ 1048576 → ArePostable (close_deeds plan s)
+charges plan s k are few =
+    all_append IsPostable (map (charged_to plan s) plan.functions) _
+    (all_new IsPostable (charged_to plan s) (λ f. omega (arith, function_most s.closed f.id 10000000000000 s.assets are.costs, are.few_assets, few)) plan.functions)
+    (omega (arith, bonds_most s.closed s.bonds (all_so IsLowBond IsSmallBond (λ b low. low.terms) s.bonds are.bonds), are.few_bonds, few), tt)
+
+each : (plan : Plan) (s : Registers) (k : ℕ) (on : Day) (act : Act) → AreHoldings s k → k ≤ 1048576 → ArePostable (deeds_of plan s on act)
+each plan s k on (Voucher v) are few = all_new IsPostable (λ i. deed.Voucher (spent_item plan (document_year plan on (Voucher v)) i.account)) (λ i. tt) v.items
+each plan s k on (VoidVoucher n) are few = all_new IsPostable (λ x. deed.VoidVoucher (spent_item plan x.year x.account)) (λ x. tt) (spent_by n s.documents.expenditures)
+each plan s k on (Pay p) are few = payments (year_of_day plan on) s.documents.expenditures p.vouchers
+each plan s k on (Bill b) are few = (tt, tt)
+each plan s k on (Collect c) are few = by_bill (bill_at c.bill s.receivables.bills)
   where
     by_bill : (o : Option receivables.Bill) → ArePostable (collect_deeds plan on c o)
     by_bill None = tt
     by_bill (Some b) = (tt, tt)
-each plan s on (Receive r) built = (tt, tt)
-each plan s on (WriteOff w) built = by_bill (bill_at w.bill s.receivables.bills)
+each plan s k on (Receive r) are few = (tt, tt)
+each plan s k on (WriteOff w) are few = by_bill (bill_at w.bill s.receivables.bills)
   where
     by_bill : (o : Option receivables.Bill) → ArePostable (write_off_deeds plan on w o)
     by_bill None = tt
     by_bill (Some b) = (tt, tt)
-each plan s on (Interfund m) built = (between m.what _, tt)
-each plan s on (Asset a) built = cc
-each plan s on (Issue i) built = cc
-each plan s on (PayDue p) built = cc
-each plan s on (Leave l) built = cc
-each plan s on (Close p) built = cc
-each plan s on _ built = tt
+each plan s k on (Interfund m) are few = (between m.what _, tt)
+each plan s k on (Asset (Donate d)) are few = (tt, tt)
+each plan s k on (Asset (Dispose d)) are few = all_new IsPostable (dispose_deed plan s.closed on d) (λ a. tt) (filter (λ a. a.number == d.asset) s.assets)
+each plan s k on (Issue i) are few = (tt, tt)
+each plan s k on (PayDue p) are few = dues_paid plan on p.fund (filter (λ b. b.number == p.bond) s.bonds)
+each plan s k on (Leave (Earn l)) are few = (tt, tt)
+each plan s k on (Leave (Use l)) are few = (tt, tt)
+each plan s k on (Leave (Mature l)) are few = (tt, tt)
+each plan s k on (Close (period.Month m)) are few = charges plan s k are few
+each plan s k on (Close (period.Year y)) are few = tt
+each plan s k on _ are few = tt
 
-pub postable : (plan : Plan) (s : Registers) (on : Day) (act : Act) → is_built plan act ≡ true → All IsPostable (deeds_of plan s on act)
-postable plan s on act built = All-from_recursion IsPostable (deeds_of plan s on act) (each plan s on act built)
+-- the deeds of any act over a legal history fit
+pub postable : (plan : Plan) (h : List Entry) (on : Day) (act : Act) → IsLegal plan h → length h ≤ 1048576 → All IsPostable (deeds_of plan (registers_of plan h) on act)
+postable plan h on act legal few =
+    All-from_recursion IsPostable (deeds_of plan (registers_of plan h) on act) (each plan (registers_of plan h) (length h) on act (are_held plan h legal) few)

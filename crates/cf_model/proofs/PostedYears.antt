@@ -6,6 +6,7 @@ use Rattle.cf_base.specs.declared.calendar.Day.{Day}
 use Rattle.cf_base.specs.Calendar.{is_day}
 use Rattle.cf_calls.specs.declared.acts.Act.{Act}
 use Rattle.cf_calls.specs.declared.acts.Act.TheVariants as act
+use Rattle.cf_calls.specs.declared.acts.Period.TheVariants as period
 use Rattle.cf_calls.specs.declared.entry.Entry.{Entry}
 use Rattle.cf_calls.specs.declared.read.Basis.{Basis}
 use Rattle.cf_calls.specs.Form.{IsActInForm}
@@ -18,9 +19,12 @@ use Rattle.cf_model.specs.Postings.{act_posts}
 use Rattle.cf_model.specs.Receivables.{Bill, bills_by}
 use Rattle.cf_model.specs.Registers.{Registers, registers_of, no_registers}
 use Rattle.cf_model.specs.Rules.{closed_refusal, period_refusal}
-use Rattle.cf_model.specs.Step.{Adds, IsLegal, is_built}
+use Rattle.cf_model.specs.RegisterRules.{order_refusal}
+use Rattle.cf_model.specs.Step.{Adds, IsLegal}
 use Rattle.cf_model.proofs.Accepted.{accepted}
-use Rattle.cf_model.proofs.BookYears.{HasYears, deeds_years}
+use Rattle.cf_model.proofs.BookYears.{HasYears, IsTimely, deeds_years, year_at_most}
+use Rattle.cf_model.proofs.Holdings.{are_timely}
+use Rattle.cf_model.proofs.Lawful.{IsWhole, closes_next}
 use Rattle.cf_model.proofs.Legal.{legal_induction}
 use Rattle.cf_model.proofs.Posted.{IsBookYear, AreBookYears, all_posts, deed_years}
 use Rattle.cf_model.proofs.Pushes.{documents_are, registers_push}
@@ -54,27 +58,31 @@ are_levied plan h legal = legal_induction plan (λ h. AreLevied (registers_of pl
 
 -- ---- each act's deeds
 
--- by the rules on months and years, and by the registers, each deed of an act that the office knows is of such years
-has_years : (plan : Plan) (h : List Entry) (on : Day) (a : Act) → is_built plan a ≡ true → 1971 ≤ plan.first_year → is_day on ≡ true → IsActInForm on a → closed_refusal plan h on a ≡ None →
-    AllByRecursion (IsSpent plan) (registers_of plan h).documents.expenditures → AreLevied (registers_of plan h).receivables.bills → HasYears plan (registers_of plan h) on a
-has_years plan h on (act.Voucher v) built from day form closed spent levied =
-    record { first = omega (arith, from, not_closed plan h (document_year plan on (act.Voucher v)) closed); last = omega (arith, document_within plan on (act.Voucher v) day) }
-has_years plan h on (act.VoidVoucher n) built from day form closed spent levied =
-    all_so (IsSpent plan) (λ (x : Expenditure). IsBookYear x.year) (λ x s. record { first = omega (arith, from, s.first); last = s.last }) (registers_of plan h).documents.expenditures spent
-has_years plan h on (act.Bill b) built from day form closed spent levied = record { first = form.from; last = omega (arith, form.to) }
-has_years plan h on (act.Collect c) built from day form closed spent levied = levied
-has_years plan h on (act.PayDue p) built from day form closed spent levied = cc
-has_years plan h on (act.Close p) built from day form closed spent levied = cc
-has_years plan h on _ built from day form closed spent levied = tt
+-- by the rules on months and years, and by the registers, each deed of an act is of such years
+has_years : (plan : Plan) (h : List Entry) (on : Day) (a : Act) → IsWhole plan → is_day on ≡ true → IsActInForm on a → closed_refusal plan h on a ≡ None → order_refusal plan (registers_of plan h) a ≡ None →
+    AllByRecursion (IsSpent plan) (registers_of plan h).documents.expenditures → AreLevied (registers_of plan h).receivables.bills → AllByRecursion (IsTimely plan) (registers_of plan h).bonds →
+    HasYears plan (registers_of plan h) on a
+has_years plan h on (act.Voucher v) whole day form closed order spent levied timely =
+    record { first = omega (arith, whole.from, not_closed plan h (document_year plan on (act.Voucher v)) closed); last = omega (arith, document_within plan on (act.Voucher v) day) }
+has_years plan h on (act.VoidVoucher n) whole day form closed order spent levied timely =
+    all_so (IsSpent plan) (λ (x : Expenditure). IsBookYear x.year) (λ x s. record { first = omega (arith, whole.from, s.first); last = s.last }) (registers_of plan h).documents.expenditures spent
+has_years plan h on (act.Bill b) whole day form closed order spent levied timely = record { first = form.from; last = omega (arith, form.to) }
+has_years plan h on (act.Collect c) whole day form closed order spent levied timely = levied
+has_years plan h on (act.PayDue p) whole day form closed order spent levied timely = (whole.from, timely)
+has_years plan h on (act.Close (period.Month m)) whole day form closed order spent levied timely =
+    let next = closes_next plan (registers_of plan h) whole.calendar (act.Close (period.Month m)) order in
+    (whole.from, year_at_most plan (registers_of plan h).closed whole.calendar (omega (arith, next.1, form.to, form.last)))
+has_years plan h on (act.Close (period.Year y)) whole day form closed order spent levied timely = tt
+has_years plan h on _ whole day form closed order spent levied timely = tt
 
 -- an accepted entry's posts are in the years of the books
-pub posts_years : (basis : Basis) (plan : Plan) (h : List Entry) (e : Entry) → 1971 ≤ plan.first_year → IsLegal plan h → Adds plan h e →
+pub posts_years : (basis : Basis) (plan : Plan) (h : List Entry) (e : Entry) → IsWhole plan → IsLegal plan h → Adds plan h e →
     All IsInYears (act_posts basis plan (registers_of plan h) e.change.on e.change.act)
-posts_years basis plan h e from legal adds =
+posts_years basis plan h e whole legal adds =
     let a = accepted plan h e adds in
     let s = registers_of plan h in
     let spent : AllByRecursion (IsSpent plan) s.documents.expenditures = subst (λ d. AllByRecursion (IsSpent plan) d.expenditures) (sym (documents_are plan h)) (are_spent plan h legal).each in
     All-from_recursion IsInYears (act_posts basis plan s e.change.on e.change.act)
     (all_posts IsInYears AreBookYears basis (deed_years basis) (deeds_of plan s e.change.on e.change.act)
-    (deeds_years plan s e.change.on e.change.act (day_in plan h e.change.on from adds.form.on a.period)
-    (has_years plan h e.change.on e.change.act a.built from adds.form.on adds.form.act a.closed spent (are_levied plan h legal))))
+    (deeds_years plan s e.change.on e.change.act (day_in plan h e.change.on whole.from adds.form.on a.period)
+    (has_years plan h e.change.on e.change.act whole adds.form.on adds.form.act a.closed a.order spent (are_levied plan h legal) (are_timely plan h whole.calendar legal))))

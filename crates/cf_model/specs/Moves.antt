@@ -1,9 +1,9 @@
--- What an act on documents moves of line numbers, item by item (own rule).
+-- What an act moves of line numbers, item by item (own rule).
 use Rattle.std.specs.Prelude.{ℕ, ◌+◌, ◌&&◌, if◌then◌else◌, ◌==◌, List, [], ◌∷◌, ◌++◌, Option, Some, None, map, ℤ, pos, ◌+ℤ◌, ◌-ℤ◌}
 use Rattle.std.specs.List.{filter}
 use Rattle.cf_base.specs.declared.calendar.Day.{Day}
 use Rattle.cf_calls.specs.declared.acts.Act.{Act}
-use Rattle.cf_calls.specs.declared.acts.Act.TheVariants.{Requisition, Withdraw, Order, ChangeOrder, CancelOrder, Voucher, VoidVoucher, Close}
+use Rattle.cf_calls.specs.declared.acts.Act.TheVariants.{Requisition, Withdraw, Order, ChangeOrder, CancelOrder, Voucher, VoidVoucher, PayDue, Leave, Close}
 use Rattle.cf_calls.specs.declared.items.AccountItem.{AccountItem}
 use Rattle.cf_calls.specs.declared.items.VoucherItem.{VoucherItem}
 use Rattle.cf_calls.specs.declared.items.Charge.{Charge}
@@ -13,6 +13,8 @@ use Rattle.cf_model.specs.Calendar.{document_year, rolls}
 use Rattle.cf_model.specs.OrderItems.{OrderItem, is_live, lapses, open_of, carried_of, is_named, item_named, item_step}
 use Rattle.cf_model.specs.Documents.{Hold, Expenditure, Documents, is_number}
 use Rattle.cf_calls.specs.declared.entry.Entry.{Entry}
+use Rattle.cf_model.specs.Registers.{Registers}
+use Rattle.cf_model.specs.Spendings.{Spending, spendings_by}
 use Rattle.cf_model.specs.LineNumbers.{counts, carried_sum, held_amount, expended_amount, added_by, removed_by}
 
 -- what one item moves of its account's line in a year
@@ -100,10 +102,16 @@ document_moves plan s number on (VoidVoucher n) =
     ++ map (reopen_move (item_step plan number (VoidVoucher n)) s.items) (spent_by n s.expenditures)
 document_moves plan s number on _ = []
 
--- the moves of an act: those of its documents, or those of the year that it rolls
-abbrev pub moves_of : Plan → Documents → ℕ → Day → Act → List Move
-moves_of plan s number on (Close p) = lapses_of plan (Close p) s.holds ++ roll_moves plan (Close p) s.items
-moves_of plan s number on act = document_moves plan s number on act
+-- what a debt payment or matured leave spends
+abbrev pub spending_move : Spending → Move
+spending_move x = record { account = x.account; year = x.year; held = pos 0; encumbered = pos 0; expended = pos x.account.amount }
+
+-- the moves of an act: those of its documents, of the year that it rolls, or of what it spends beside documents
+abbrev pub moves_of : Plan → Registers → ℕ → Day → Act → List Move
+moves_of plan s number on (Close p) = lapses_of plan (Close p) s.documents.holds ++ roll_moves plan (Close p) s.documents.items
+moves_of plan s number on (PayDue d) = map spending_move (spendings_by plan s on (PayDue d))
+moves_of plan s number on (Leave l) = map spending_move (spendings_by plan s on (Leave l))
+moves_of plan s number on act = document_moves plan s.documents number on act
 
 -- what moves make of one number of a line and year
 abbrev pub moved_sum : (Move → ℤ) → Plan → ℕ → ℕ → List Move → ℤ
@@ -118,8 +126,8 @@ asks_of_moves plan line year moves = moved_sum (λ m. (m.held +ℤ m.encumbered)
 abbrev pub carried_by : Plan → Documents → ℕ → ℕ → Act → ℕ
 carried_by plan s line year act = carried_sum plan line year (carried_of plan act s.items)
 
--- what an entry asks of a line and year, over these documents
-abbrev pub asked_of : Plan → Documents → Entry → ℕ → ℕ → ℤ
+-- what an entry asks of a line and year, over the registers before it
+abbrev pub asked_of : Plan → Registers → Entry → ℕ → ℕ → ℤ
 asked_of plan s e line year =
-    (pos (removed_by line year e.change.act) -ℤ pos (added_by line year e.change.act + carried_by plan s line year e.change.act))
+    (pos (removed_by line year e.change.act) -ℤ pos (added_by line year e.change.act + carried_by plan s.documents line year e.change.act))
     +ℤ asks_of_moves plan line year (moves_of plan s e.drawn.number e.change.on e.change.act)
