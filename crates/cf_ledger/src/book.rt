@@ -1,6 +1,6 @@
 //! The posts of one basis, and the running numbers that stand for them.
 
-ghost use Rattle.std.specs.Prelude.{◌≡◌, ◌<◌, ◌^◌, ◌++◌, ◌∷◌, [], true, OnOk, if◌then◌else◌, pos};
+ghost use Rattle.std.specs.Prelude.{◌≡◌, ◌-◌, ◌<◌, ◌^◌, ◌++◌, ◌∷◌, ◌-ℤ◌, [], true, OnOk, if◌then◌else◌, pos};
 ghost use Rattle.std.specs.List.{All};
 ghost use Rattle.cf_ledger.specs.Books.{has_place, HasPlaces, KeepsPlaces};
 ghost use Rattle.cf_ledger.specs.Posts.{balance, total, sizes, is_in_total, IsInYears};
@@ -8,7 +8,7 @@ ghost use Rattle.cf_ledger.specs.Posts.{balance, total, sizes, is_in_total, IsIn
 use crate::history::History;
 use crate::places::{Place, raise_at, reserve_at, sum_at};
 use crate::post::Post;
-use crate::years::{YEARS, no_cells, raise, sum_through};
+use crate::years::{YEARS, amount_in, no_cells, raise, sum_through};
 use std::alloc::{AllocError, Global};
 use std::collections::BTreeMap;
 use std::marker::Model;
@@ -128,5 +128,12 @@ impl Book {
         ensures { result ≡ total self.now.posts year }
     {
         sum_through(&self.totals, year)
+    }
+
+    /// By how much the total changed in a year.
+    pub fn change(&self, year: u16) -> i128
+        ensures { result ≡ total self.now.posts year -ℤ total self.now.posts (year - 1) }
+    {
+        amount_in(&self.totals, year)
     }
 }

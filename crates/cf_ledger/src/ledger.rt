@@ -1,6 +1,6 @@
 //! The ledger of both bases.
 
-ghost use Rattle.std.specs.Prelude.{◌≡◌, ◌<◌, ◌^◌, ◌++◌, [], OnOk};
+ghost use Rattle.std.specs.Prelude.{◌≡◌, ◌-◌, ◌<◌, ◌^◌, ◌++◌, ◌-ℤ◌, [], OnOk};
 ghost use Rattle.std.specs.List.{All};
 ghost use Rattle.cf_calls.specs.declared.read.Basis.{Basis as OnBasis};
 ghost use Rattle.cf_ledger.specs.Books.{posts_of, other, AreReserved, KeepsReserved};
@@ -87,6 +87,17 @@ impl Ledger {
         match basis {
             Basis::Fund => self.fund.total(year),
             Basis::Gov => self.gov.total(year),
+        }
+    }
+
+    /// By how much fund balances, or net position, changed in a fiscal year, in cents. It takes no memory, and no longer
+    /// with more posts or for an earlier year.
+    pub fn change(&self, basis: Basis, year: u16) -> i128
+        ensures { result ≡ total (posts_of self.now basis) year -ℤ total (posts_of self.now basis) (year - 1) }
+    {
+        match basis {
+            Basis::Fund => self.fund.change(year),
+            Basis::Gov => self.gov.change(year),
         }
     }
 }

@@ -1,8 +1,8 @@
 //! Rows of a cell for each fiscal year from 1970 to 2200.
 
-ghost use Rattle.std.specs.Prelude.{◌≡◌, ◌≤◌, ◌-◌, ℕ, length, take, IfOk, FitsSigned};
+ghost use Rattle.std.specs.Prelude.{◌≡◌, ◌<◌, ◌≤◌, ◌-◌, ℕ, length, take, pos, IfOk, FitsSigned};
 ghost use Rattle.std.specs.Int.{w128};
-ghost use Rattle.cf_ledger.specs.Years.{no_cells, sum_of, sum_through, raised, CanRaise};
+ghost use Rattle.cf_ledger.specs.Years.{no_cells, cell_of, sum_of, sum_through, raised, CanRaise};
 
 use std::alloc::{AllocError, Global};
 
@@ -42,6 +42,20 @@ pub fn sum_through(cells: &[i128], year: u16) -> i128
         sum += *cell;
     }
     sum
+}
+
+/// The cell of a year; zero before the first year and after the last.
+pub fn amount_in(cells: &[i128], year: u16) -> i128
+    ensures before { year < 1970 → result ≡ pos 0 }
+    ensures value { 1970 ≤ year → result ≡ cell_of cells.now year }
+{
+    if year < FIRST {
+        return 0;
+    }
+    match cells.get(usize::from(year - FIRST)) {
+        None => 0,
+        Some(cell) => *cell,
+    }
 }
 
 /// Adds an amount to the cell of a year.

@@ -3,6 +3,7 @@
 ghost use Rattle.std.specs.Prelude.{◌≡◌, ◌≤◌, ◌-ℤ◌, pos, true, option_map, MatchOption, None, length};
 ghost use Rattle.cf_base.specs.Calendar.{is_day};
 ghost use Rattle.cf_model.specs.Results.{bill_draws};
+ghost use Rattle.cf_model.specs.Changes.{deferred_in};
 ghost use Rattle.cf_model.specs.Receivables as spec;
 ghost use Rattle.cf_model.specs.Receivables.{no_receivables, bill_at, window_if};
 ghost use Rattle.cf_revenue.specs.ReceivablesShown.{bill_now_at, receivable_shown};
@@ -12,7 +13,7 @@ ghost use Rattle.cf_chart.specs.Plan.{source_at};
 use crate::pairs::{FundPair, amount_in};
 use crate::recognition::revenue_year;
 use crate::rows::{BillRow, LoanRow, SettlementRow};
-use crate::years::{YEARS, total_through};
+use crate::years::{YEARS, amount_in as amount_of_year, total_through};
 use cf_base::Day;
 use cf_calls::{Act, Drawn, Read, Shown};
 use cf_chart::Chart;
@@ -135,6 +136,17 @@ impl Revenue {
     {
         let billed = total_through(&self.billed, year);
         let settled = total_through(&self.settled, year);
+        difference(billed, settled)
+    }
+
+    /// The change of unavailable revenue in a fiscal year, in cents: the bills of that levy year, less what was collected
+    /// and written off in it. It reads as much for an earlier year.
+    pub fn unavailable_change(&self, year: u16) -> i128
+        requires { 1 ≤ year }
+        ensures { result ≡ deferred_in year self.now.receivables }
+    {
+        let billed = amount_of_year(&self.billed, year);
+        let settled = amount_of_year(&self.settled, year);
         difference(billed, settled)
     }
 
