@@ -3,7 +3,7 @@
 ghost use Rattle.std.specs.Prelude.{◌≡◌, ◌<◌, ◌≤◌, ◌+◌, ℕ, Bool, true, false, length, OnOk, IfSome, IfNone, set, get_or};
 ghost use Rattle.std.specs.List.{All, list_all, list_any};
 ghost use Rattle.cf_calls.specs.Form.{is_distinct};
-ghost use Rattle.cf_budget.specs.Tables.{row_plus, has_row, AreHeld, KeepsRows, SameRows};
+ghost use Rattle.cf_budget.specs.Tables.{row_plus, has_line, has_row, AreHeld, KeepsRows, SameRows, SameStripes};
 ghost use Rattle.cf_budget.specs.declared.changes.LineChange.{LineChange as Change};
 ghost use Rattle.cf_budget.specs.Changes.{changes_at, same_place, added, IsPlaceOf, Adds, Applies, CanApply};
 
@@ -35,8 +35,10 @@ impl Default for LineChange {
 
 /// Reserves the lines and years of changes. No number changes.
 pub fn reserve(lines: &mut Lines, changes: &[LineChange]) -> Result<(), AllocError>
+    requires there { All (λ c. has_line lines.old c.line.number ≡ true) changes.now }
     ensures rows { OnOk result (All (λ c. has_row lines.new c.line.number c.year ≡ true) changes.now) }
     ensures same { SameRows lines.old lines.new }
+    ensures stripes { SameStripes lines.old lines.new }
 {
     for change in changes {
         lines.reserve(change.line, change.year)?;
@@ -49,6 +51,7 @@ pub fn apply(lines: &mut Lines, changes: &[LineChange])
     requires { CanApply lines.old changes.now }
     ensures applied { Applies lines.old lines.new changes.now }
     ensures rows { KeepsRows lines.old lines.new }
+    ensures stripes { SameStripes lines.old lines.new }
 {
     for change in changes {
         lines.change(change.line, change.year, &change.by);
