@@ -1,0 +1,81 @@
+-- What each act makes of assets, as the step of all registers has it.
+use Rattle.std.proofs.Common.{◌≡◌, ℕ, zero, suc, ◌≤◌, Bool, true, false, ◌==◌, not, ◌&&◌, nat_le, List, [], ◌∷◌, ◌++◌, map, Option, Some, None, refl, sym, subst, ap, ◌∙◌, arith}
+use Rattle.std.proofs.lemmas.Grind.{common_steps}
+use Rattle.std.proofs.lemmas.List.{map-id, append-nil}
+use Rattle.std.specs.List.{filter}
+use Rattle.cf_assets.specs.Register.{Register, IsOf}
+use Rattle.cf_assets.specs.Steps.{AreMost}
+use Rattle.cf_base.specs.declared.calendar.Day.{Day}
+use Rattle.cf_calls.specs.declared.acts.Act.{Act}
+use Rattle.cf_calls.specs.declared.acts.Act.TheVariants as act
+use Rattle.cf_calls.specs.declared.acts.AssetAct.{AssetAct}
+use Rattle.cf_calls.specs.declared.acts.AssetAct.TheVariants.{Donate, Dispose}
+use Rattle.cf_calls.specs.declared.acts.Disposal.{Disposal}
+use Rattle.cf_calls.specs.declared.acts.Donation.{Donation}
+use Rattle.cf_calls.specs.declared.acts.NewVoucher.{NewVoucher}
+use Rattle.cf_calls.specs.declared.acts.Period.{Period}
+use Rattle.cf_calls.specs.declared.entry.Drawn.{Drawn}
+use Rattle.cf_calls.specs.declared.items.VoucherItem.{VoucherItem}
+use Rattle.cf_calls.specs.declared.refusal.Refusal.{Refusal}
+use Rattle.cf_calls.specs.declared.refusal.Refusal.TheVariants as refusal
+use Rattle.cf_chart.specs.Plan.{Plan}
+use Rattle.cf_model.specs.Assets.{Asset, asset_step, assets_by}
+use Rattle.cf_model.specs.Documents.{is_number}
+use Rattle.cf_model.specs.RegisterRules.{voided_asset, disposed_asset, asset_refusal}
+use Rattle.cf_model.specs.Registers.{Registers, no_registers}
+use Rattle.cf_model.specs.Rules.{amount, bad_amount, first_refusal, refuse_if, or_else}
+
+-- registers with these assets
+with_assets : Register → Registers
+with_assets r = record no_registers { assets = r.assets; closed = r.closed }
+
+pub void_allowed : (r : Register) (on : Day) (a : Act) (n : ℕ) → a ≡ act.VoidVoucher n → ((s : Registers) → IsOf s r → asset_refusal s on a ≡ None) → first_refusal (voided_asset r.closed) (filter (λ x. is_number x.voucher n) r.assets) ≡ None
+unfolding with_assets
+void_allowed r on a n is none = subst (λ b. asset_refusal (with_assets r) on b ≡ None) is (none (with_assets r) (record { assets = refl; closed = refl }))
+
+pub dispose_allowed : (r : Register) (on : Day) (a : AssetAct) (d : Disposal) → a ≡ Dispose d → ((s : Registers) → IsOf s r → asset_refusal s on (act.Asset a) ≡ None) → first_refusal (disposed_asset on) (filter (λ x. x.number == d.asset) r.assets) ≡ None
+unfolding with_assets
+dispose_allowed r on a d is none = subst (λ b. asset_refusal (with_assets r) on (act.Asset b) ≡ None) is (none (with_assets r) (record { assets = refl; closed = refl }))
+
+-- an act that only adds assets
+pub adds_only : (plan : Plan) (closed : ℕ) (on : Day) (a : Act) (drawn : Drawn) (assets added : List Asset) → map (asset_step plan closed on a) assets ≡ assets → added ≡ assets_by plan on a drawn →
+    assets ++ added ≡ map (asset_step plan closed on a) assets ++ assets_by plan on a drawn
+adds_only plan closed on a drawn assets added same is = λ i. sym same i ++ is i
+
+pub voucher_step : (plan : Plan) (closed : ℕ) (on : Day) (a : Act) (v : NewVoucher) (assets : List Asset) → a ≡ act.Voucher v → map (asset_step plan closed on a) assets ≡ assets
+voucher_step plan closed on a v assets is = ap (λ b. map (asset_step plan closed on b) assets) is ∙ map-id assets
+
+pub gift_step : (plan : Plan) (closed : ℕ) (on : Day) (a : AssetAct) (d : Donation) (assets : List Asset) → a ≡ Donate d → map (asset_step plan closed on (act.Asset a)) assets ≡ assets
+gift_step plan closed on a d assets is = ap (λ b. map (asset_step plan closed on (act.Asset b)) assets) is ∙ map-id assets
+
+-- an act of another register
+pub quiet : (plan : Plan) (closed : ℕ) (on : Day) (a : Act) (drawn : Drawn) (assets : List Asset) → ((x : NewVoucher) → a ≡ act.Voucher x → ⊥) → ((n : ℕ) → a ≡ act.VoidVoucher n → ⊥) → ((x : AssetAct) → a ≡ act.Asset x → ⊥) →
+    assets ≡ map (asset_step plan closed on a) assets ++ assets_by plan on a drawn
+quiet plan closed on (act.Voucher v) drawn assets voucher void asset = absurd (voucher v refl)
+quiet plan closed on (act.VoidVoucher n) drawn assets voucher void asset = absurd (void n refl)
+quiet plan closed on (act.Asset x) drawn assets voucher void asset = absurd (asset x refl)
+quiet plan closed on _ drawn assets voucher void asset = sym (append-nil (map (λ x. x) assets) ∙ map-id assets)
+
+pub close_step : (plan : Plan) (closed : ℕ) (on : Day) (a : Act) (p : Period) (drawn : Drawn) (assets : List Asset) → a ≡ act.Close p → assets ≡ map (asset_step plan closed on a) assets ++ assets_by plan on a drawn
+close_step plan closed on a p drawn assets is = sym (ap (λ b. map (asset_step plan closed on b) assets ++ assets_by plan on b drawn) is ∙ append-nil (map (λ x. x) assets) ∙ map-id assets)
+
+-- ---- amounts
+
+in_range : (n : ℕ) → bad_amount (amount n) ≡ None → n ≤ 10000000000000
+in_range n e = most n (refused (nat_le 1 n && nat_le n 10000000000000) e)
+  where
+    refused : (b : Bool) → refuse_if (not b) (refusal.AmountRange n) ≡ None → b ≡ true
+    refused true e = refl
+    refused false e = cc
+
+    most : (n : ℕ) → (nat_le 1 n && nat_le n 10000000000000) ≡ true → n ≤ 10000000000000
+    most n e = grind (arith, common_steps)
+
+first_two : (r other : Option Refusal) → or_else r other ≡ None → (r ≡ None) × (other ≡ None)
+first_two None other e = (refl, e)
+first_two (Some r) other e = cc
+
+pub items_most : (items : List VoucherItem) → first_refusal bad_amount (map (λ i. amount i.account.amount) items) ≡ None → AreMost items
+items_most [] e k d l = absurd (omega arith)
+items_most (i ∷ items) e zero d l = in_range i.account.amount ((first_two (bad_amount (amount i.account.amount)) (first_refusal bad_amount (map (λ j. amount j.account.amount) items)) e).0)
+items_most (i ∷ items) e (suc k) d l = items_most items ((first_two (bad_amount (amount i.account.amount)) (first_refusal bad_amount (map (λ j. amount j.account.amount) items)) e).1) k d (omega arith)

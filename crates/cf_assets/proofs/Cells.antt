@@ -1,0 +1,94 @@
+-- The sums by fiscal year, and by closed month.
+use Rattle.std.proofs.Common.{◌≡◌, ◌⊎◌, inl, inr, ℕ, zero, suc, ◌+◌, ◌-◌, ◌*◌, ◌<◌, ◌≤◌, Bool, true, false, ◌==◌, List, [], ◌∷◌, ◌++◌, length, set, get_or, sum_by, sym, ap, ◌∙◌, arith}
+use Rattle.std.proofs.lemmas.Bool.Decides.{eqb_tells}
+use Rattle.std.proofs.lemmas.List.{length-set, length-replicate, get_or-replicate, get_or-set_same, get_or-set_other}
+use Rattle.std.proofs.lemmas.List.Sums.{sum_by-cons}
+use Rattle.cf_assets.specs.Years.{AreYears, cell_of, with_cell, no_years}
+use Rattle.cf_model.specs.Assets.{Asset}
+
+-- a year's cell, as a place of the list
+pub year_is : (of : ℕ → ℕ) (cells : List ℕ) (year : ℕ) → AreYears of cells → 1970 ≤ year → year ≤ 2200 → cell_of cells year ≡ of year
+year_is of cells year are from to =
+    let back : (year - 1970) + 1970 ≡ year = omega (arith, from) in are.are (year - 1970) (omega (arith, from, to)) ∙ ap of back
+
+-- the same amounts
+pub years_same : (F G : ℕ → ℕ) (cells : List ℕ) → AreYears F cells → ((year : ℕ) → G year ≡ F year) → AreYears G cells
+years_same F G cells are same = record { count = are.count; are = λ n l. are.are n l ∙ sym (same (n + 1970)) }
+
+-- one year has another amount
+pub years_set : (F G : ℕ → ℕ) (cells : List ℕ) (at amount : ℕ) → AreYears F cells → 1970 ≤ at → at ≤ 2200 → G at ≡ amount → ((year : ℕ) → (year ≡ at → ⊥) → G year ≡ F year) →
+    AreYears G (with_cell cells at amount)
+years_set F G cells at amount are from to here others = record {
+  count = length-set cells (at - 1970) amount ∙ are.count;
+  are = λ n l. by_place n l (n + 1970 == at) (eqb_tells (n + 1970) at);
+}
+  where
+    by_place : (n : ℕ) → n < 231 → (b : Bool) → ((b ≡ true) × (n + 1970 ≡ at)) ⊎ ((b ≡ false) × (n + 1970 ≡ at → ⊥)) → get_or (set cells (at - 1970) amount) n 0 ≡ G (n + 1970)
+    by_place n l b (inl h) =
+        let place : at - 1970 ≡ n = omega (arith, h.1) in
+        ap (λ k. get_or (set cells k amount) n 0) place ∙ get_or-set_same cells n amount 0 (omega (arith, l, are.count)) ∙ sym here ∙ ap G (sym h.1)
+    by_place n l b (inr h) =
+        get_or-set_other cells (at - 1970) n amount 0 (λ same. h.1 (omega (arith, same, from))) ∙ are.are n l ∙ sym (others (n + 1970) h.1)
+
+-- ---- sums
+
+pub sum_push : {A : Type 0} (f : A → ℕ) (xs : List A) (y : A) → sum_by f (xs ++ y ∷ []) ≡ sum_by f xs + f y
+sum_push f [] y = sum_by-cons f y [] ∙ omega arith
+sum_push f (x ∷ xs) y = omega (arith, sum_by-cons f x (xs ++ y ∷ []), sum_by-cons f x xs, sum_push f xs y)
+
+-- one element is written
+pub sum_set : {A : Type 0} (f : A → ℕ) (xs : List A) (k : ℕ) (y d : A) → k < length xs → sum_by f (set xs k y) + f (get_or xs k d) ≡ sum_by f xs + f y
+sum_set f [] k y d l = absurd (omega arith)
+sum_set f (x ∷ xs) zero y d l = omega (arith, sum_by-cons f x xs, sum_by-cons f y xs)
+sum_set f (x ∷ xs) (suc k) y d l = omega (arith, sum_by-cons f x xs, sum_by-cons f x (set xs k y), sum_set f xs k y d (omega arith))
+
+pub sum_small : {A : Type 0} (f : A → ℕ) (xs : List A) → ((k : ℕ) (d : A) → k < length xs → f (get_or xs k d) ≤ 10000000000000) → sum_by f xs ≤ length xs * 10000000000000
+sum_small f [] all = omega arith
+sum_small f (x ∷ xs) all = omega (arith, sum_by-cons f x xs, all zero x (omega arith), sum_small f xs (λ k d l. all (suc k) d (omega arith)))
+
+-- ---- the sums of the years, after an asset more
+
+pub push_adds : (f : ℕ → Asset → ℕ) (xs : List Asset) (a : Asset) (cells : List ℕ) (at amount : ℕ) → AreYears (λ y. sum_by (f y) xs) cells → 1970 ≤ at → at ≤ 2200 → f at a ≡ amount → ((y : ℕ) → (y ≡ at → ⊥) → f y a ≡ 0) →
+    AreYears (λ y. sum_by (f y) (xs ++ a ∷ [])) (with_cell cells at (cell_of cells at + amount))
+push_adds f xs a cells at amount are from to here others =
+    years_set (λ y. sum_by (f y) xs) (λ y. sum_by (f y) (xs ++ a ∷ [])) cells at (cell_of cells at + amount) are from to
+    (omega (arith, sum_push (f at) xs a, year_is (λ y. sum_by (f y) xs) cells at are from to, here)) (λ y apart. omega (arith, sum_push (f y) xs a, others y apart))
+
+pub push_same : (f : ℕ → Asset → ℕ) (xs : List Asset) (a : Asset) (cells : List ℕ) → AreYears (λ y. sum_by (f y) xs) cells → ((y : ℕ) → f y a ≡ 0) → AreYears (λ y. sum_by (f y) (xs ++ a ∷ [])) cells
+push_same f xs a cells are none = years_same (λ y. sum_by (f y) xs) (λ y. sum_by (f y) (xs ++ a ∷ [])) cells are (λ y. omega (arith, sum_push (f y) xs a, none y))
+
+-- ---- .. and after one is in another stage
+
+pub set_same : (f : ℕ → Asset → ℕ) (xs : List Asset) (k : ℕ) (a d : Asset) (cells : List ℕ) → k < length xs → AreYears (λ y. sum_by (f y) xs) cells → ((y : ℕ) → f y a ≡ f y (get_or xs k d)) →
+    AreYears (λ y. sum_by (f y) (set xs k a)) cells
+set_same f xs k a d cells l are same = years_same (λ y. sum_by (f y) xs) (λ y. sum_by (f y) (set xs k a)) cells are (λ y. omega (arith, sum_set (f y) xs k a d l, same y))
+
+pub set_adds : (f : ℕ → Asset → ℕ) (xs : List Asset) (k : ℕ) (a d : Asset) (cells : List ℕ) (at amount : ℕ) → k < length xs → AreYears (λ y. sum_by (f y) xs) cells → 1970 ≤ at → at ≤ 2200 →
+    f at a ≡ f at (get_or xs k d) + amount → ((y : ℕ) → (y ≡ at → ⊥) → f y a ≡ f y (get_or xs k d)) → AreYears (λ y. sum_by (f y) (set xs k a)) (with_cell cells at (cell_of cells at + amount))
+set_adds f xs k a d cells at amount l are from to here others =
+    years_set (λ y. sum_by (f y) xs) (λ y. sum_by (f y) (set xs k a)) cells at (cell_of cells at + amount) are from to
+    (omega (arith, sum_set (f at) xs k a d l, year_is (λ y. sum_by (f y) xs) cells at are from to, here)) (λ y apart. omega (arith, sum_set (f y) xs k a d l, others y apart))
+
+pub set_takes : (f : ℕ → Asset → ℕ) (xs : List Asset) (k : ℕ) (a d : Asset) (cells : List ℕ) (at amount : ℕ) → k < length xs → AreYears (λ y. sum_by (f y) xs) cells → 1970 ≤ at → at ≤ 2200 →
+    f at a + amount ≡ f at (get_or xs k d) → ((y : ℕ) → (y ≡ at → ⊥) → f y a ≡ f y (get_or xs k d)) → AreYears (λ y. sum_by (f y) (set xs k a)) (with_cell cells at (cell_of cells at - amount))
+set_takes f xs k a d cells at amount l are from to here others =
+    years_set (λ y. sum_by (f y) xs) (λ y. sum_by (f y) (set xs k a)) cells at (cell_of cells at - amount) are from to
+    (omega (arith, sum_set (f at) xs k a d l, year_is (λ y. sum_by (f y) xs) cells at are from to, here)) (λ y apart. omega (arith, sum_set (f y) xs k a d l, others y apart))
+
+-- what an asset adds to a year is there
+pub enough_there : (f : ℕ → Asset → ℕ) (xs : List Asset) (k : ℕ) (d : Asset) (cells : List ℕ) (at amount : ℕ) → k < length xs → AreYears (λ y. sum_by (f y) xs) cells → 1970 ≤ at → at ≤ 2200 →
+    f at (get_or xs k d) ≡ amount → amount ≤ cell_of cells at
+enough_there f xs k d cells at amount l are from to is = omega (arith, sum_set (f at) xs k d d l, year_is (λ y. sum_by (f y) xs) cells at are from to, is, within (f at) xs k d l)
+  where
+    within : (g : Asset → ℕ) (ys : List Asset) (k : ℕ) (d : Asset) → k < length ys → g (get_or ys k d) ≤ sum_by g ys
+    within g [] k d l = absurd (omega arith)
+    within g (y ∷ ys) zero d l = omega (arith, sum_by-cons g y ys)
+    within g (y ∷ ys) (suc k) d l = omega (arith, sum_by-cons g y ys, within g ys k d (omega arith))
+
+-- a cell has room for one amount more
+pub cell_small : (f : ℕ → Asset → ℕ) (xs : List Asset) (cells : List ℕ) (at amount : ℕ) → AreYears (λ y. sum_by (f y) xs) cells → 1970 ≤ at → at ≤ 2200 → length xs ≤ 33554432 → amount ≤ 10000000000000 →
+    ((k : ℕ) (d : Asset) → k < length xs → f at (get_or xs k d) ≤ 10000000000000) → cell_of cells at + amount < 340282366920938463463374607431768211456
+cell_small f xs cells at amount are from to few most all = omega (arith, year_is (λ y. sum_by (f y) xs) cells at are from to, sum_small (f at) xs all)
+
+pub none_years : (F : ℕ → ℕ) → ((year : ℕ) → F year ≡ 0) → AreYears F no_years
+none_years F none = record { count = length-replicate {A = ℕ} 231 0; are = λ n l. get_or-replicate {A = ℕ} 231 n 0 0 l ∙ sym (none (n + 1970)) }

@@ -1,0 +1,9 @@
+pub mod Charging
+pub mod Charged
+pub mod InService
+pub mod Cells
+pub mod Finding
+pub mod Keeping
+pub mod Netting
+pub mod Standing
+pub mod Applying

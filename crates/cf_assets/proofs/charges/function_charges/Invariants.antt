@@ -1,0 +1,10 @@
+use Rattle.std.proofs.Common.{◌≡◌, ◌≤◌, ◌<◌, ◌*◌, ℕ, length, get_or, take, sum_by}
+use Rattle.cf_chart.specs.declared.rows.Function.{Function}
+use Rattle.cf_assets.proofs.Charged.{at_place, part_of}
+use Rattle.cf_assets.proofs.charges.function_charges.Given as goal
+
+abbrev pub invariant-loop-at : goal.invariant-loop-at
+invariant-loop-at l = record {
+  sums : (k : ℕ) (d : Function) → k < length l.functions → get_or l.sums k 0 ≡ sum_by (at_place (part_of l.closed (get_or l.functions k d).id) l.rows) (take l.at-index l.serving);
+  small : (k : ℕ) → get_or l.sums k 0 ≤ l.at-index * 10000000000000;
+}

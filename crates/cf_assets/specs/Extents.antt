@@ -1,0 +1,26 @@
+-- Where the assets of vouchers stand: those of each voucher one after another, in the order of their numbers.
+use Rattle.std.specs.Prelude.{◌≡◌, ℕ, zero, suc, ◌<◌, ◌≤◌, Bool, ◌&&◌, nat_le, nat_lt, List, length, slice_index_or}
+use Rattle.cf_assets.specs.declared.rows.Extent.{Extent}
+use Rattle.cf_model.specs.Assets.{Asset}
+use Rattle.cf_model.specs.Documents.{is_number}
+
+abbrev pub no_extent : Extent
+no_extent = record { first = 0; end = 0 }
+
+-- the extent of a number, and an empty one where there is no such voucher
+abbrev pub extent_at : List Extent → ℕ → Extent
+extent_at extents zero = no_extent
+extent_at extents (suc n) = slice_index_or extents n no_extent
+
+-- the places from first up to end, and no others
+abbrev pub is_within : Extent → ℕ → Bool
+is_within e k = nat_le e.first k && nat_lt k e.end
+
+-- the assets of a voucher are those from first up to end
+pub record IsExtent (n : ℕ) (assets : List Asset) (e : Extent) : Type 0 where
+  pub ordered : e.first ≤ e.end
+  pub within : e.end ≤ length assets
+  pub are : (k : ℕ) (d : Asset) → k < length assets → is_number (slice_index_or assets k d).voucher n ≡ is_within e k
+
+abbrev pub AreExtents : List Extent → List Asset → Type 0
+AreExtents extents assets = (n : ℕ) → IsExtent n assets (extent_at extents n)

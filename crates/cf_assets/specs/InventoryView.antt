@@ -1,0 +1,31 @@
+-- What the fields stand for.
+use Rattle.std.specs.Prelude.{◌≡◌, ℕ, ◌+◌, ◌-◌, ◌<◌, ◌≤◌, min, List, length, map, slice_index_or, sum_by}
+use Rattle.std.specs.Vec.{vec_capacity}
+use Rattle.cf_assets.specs.declared.inventory.Inventory.TheInside.{Inside}
+use Rattle.cf_assets.specs.Inventory.{Inventory}
+use Rattle.cf_assets.specs.Rows.{view_asset, AreRows}
+use Rattle.cf_assets.specs.Serving.{ServeAll}
+use Rattle.cf_model.specs.Assets.{Asset, depreciation}
+use Rattle.cf_assets.specs.Years.{AreYears, bought_in, given_in, book_in}
+
+abbrev pub inventory_of : Inside → Inventory
+inventory_of a = record {
+  assets = map view_asset a.rows.items;
+  closed = length a.worn.items;
+  room = min (vec_capacity a.rows - length a.rows.items) (vec_capacity a.serving - length a.serving.items);
+  months = vec_capacity a.worn - length a.worn.items;
+}
+
+-- the number after so many closed months is the depreciation of all assets over them
+abbrev pub AreWorn : List Asset → List ℕ → Type 0
+AreWorn assets worn = (n : ℕ) → n < length worn → slice_index_or worn n 0 ≡ sum_by (depreciation (n + 1)) assets
+
+pub record IsSound (a : Inside) : Type 0 where
+  pub few : length a.rows.items ≤ 33554432
+  pub months : length a.worn.items ≤ 1048576
+  pub rows : AreRows (length a.worn.items) a.rows.items
+  pub serving : ServeAll (length a.worn.items) a.rows.items a.serving.items
+  pub worn : AreWorn (map view_asset a.rows.items) a.worn.items
+  pub outlay : AreYears (λ year. sum_by (bought_in year) (map view_asset a.rows.items)) a.outlay
+  pub donated : AreYears (λ year. sum_by (given_in year) (map view_asset a.rows.items)) a.donated
+  pub disposals : AreYears (λ year. sum_by (book_in (length a.worn.items) year) (map view_asset a.rows.items)) a.disposals

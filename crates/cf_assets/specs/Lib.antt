@@ -1,0 +1,12 @@
+pub mod Changes
+pub mod Charges
+pub mod Extents
+pub mod Inventory
+pub mod InventoryView
+pub mod Readers
+pub mod Register
+pub mod RegisterView
+pub mod Rows
+pub mod Serving
+pub mod Steps
+pub mod Years

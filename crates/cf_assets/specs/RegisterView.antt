@@ -1,0 +1,27 @@
+-- What the register's fields stand for.
+use Rattle.std.specs.Prelude.{◌-◌, ◌*◌, ◌≤◌, length}
+use Rattle.std.specs.Vec.{vec_capacity}
+use Rattle.cf_assets.specs.declared.assets.Assets.TheInside.{Inside}
+use Rattle.cf_assets.specs.Extents.{AreExtents}
+use Rattle.cf_assets.specs.Register.{Register}
+
+abbrev pub register_of : Inside → Register
+register_of a = record {
+  assets = a.inventory.assets;
+  closed = a.inventory.closed;
+  vouchers = length a.vouchers.items;
+  acts = a.acts;
+  room = record {
+    assets = a.inventory.room;
+    vouchers = vec_capacity a.vouchers - length a.vouchers.items;
+    months = a.inventory.months;
+  };
+}
+
+-- each act adds at most one voucher of at most 32 assets, or one month
+pub record IsSound (a : Inside) : Type 0 where
+  pub acts : a.acts ≤ 1048576
+  pub few : length a.inventory.assets ≤ 32 * a.acts
+  pub closed : a.inventory.closed ≤ a.acts
+  pub vouchers : length a.vouchers.items ≤ a.acts
+  pub extents : AreExtents a.vouchers.items a.inventory.assets

@@ -1,0 +1,100 @@
+//! How the register takes in an act.
+
+ghost use Rattle.std.specs.Prelude.{◌≡◌, ◌<◌, ◌≤◌, ◌+◌, ◌++◌, None, true, map, OnOk};
+ghost use Rattle.cf_assets.specs.Register.{HasRoomFor, HasRoomForAsset, HasRoomForClose, IsNext, IsNextAsset, IsOf, IsTimely};
+ghost use Rattle.cf_base.specs.Calendar.{is_day};
+ghost use Rattle.cf_calls.specs.Form.{IsActInForm};
+ghost use Rattle.cf_calls.specs.declared.acts.Act.TheVariants as act;
+ghost use Rattle.cf_model.specs.Assets.{asset_step, assets_by};
+ghost use Rattle.cf_model.specs.Documents.{draws_voucher};
+ghost use Rattle.cf_model.specs.Months.{number_of_day};
+ghost use Rattle.cf_model.specs.RegisterRules.{asset_refusal};
+ghost use Rattle.cf_model.specs.Registers.{Registers, closed_after};
+ghost use Rattle.cf_model.specs.Rules.{amount_refusal};
+
+use crate::assets::Assets;
+use cf_base::Day;
+use cf_calls::acts::{AssetAct, Period};
+use cf_calls::{Act, Drawn};
+use cf_chart::Chart;
+use std::alloc::AllocError;
+
+impl Assets {
+    /// Takes all the memory that `apply` needs for an act. No asset changes, whatever the answer.
+    pub fn reserve(&mut self, act: &Act) -> Result<(), AllocError>
+        ensures ok { OnOk result (HasRoomFor act.now self.new.room) }
+        ensures assets { self.new.assets ≡ self.old.assets }
+        ensures closed { self.new.closed ≡ self.old.closed }
+        ensures vouchers { self.new.vouchers ≡ self.old.vouchers }
+        ensures acts { self.new.acts ≡ self.old.acts }
+    {
+        match act {
+            Act::Voucher(invoice) => {
+                self.vouchers.reserve(1)?;
+                self.inventory.reserve(invoice.items.as_slice().len())
+            }
+            Act::Asset(AssetAct::Donate(_)) => self.inventory.reserve(1),
+            Act::Close(Period::Month(_)) => self.inventory.reserve_month(),
+            _ => Ok(()),
+        }
+    }
+
+    /// Takes in an act that the rules allow and that drew these numbers. It takes no memory, as that was reserved.
+    /// Another act than the register's own is only counted.
+    pub fn apply(&mut self, chart: &Chart, on: Day, act: &Act, drawn: Drawn)
+        requires reserved { HasRoomFor act.now self.old.room }
+        requires day { is_day on ≡ true }
+        requires form { IsActInForm on act.now }
+        requires amounts { amount_refusal act.now ≡ None }
+        requires allowed { (s : Registers) → IsOf s self.old → asset_refusal s on act.now ≡ None }
+        requires drawn { IsNext act.now drawn self.old }
+        requires timely { IsTimely chart.now self.old.closed on act.now }
+        requires few { self.old.acts < 1048576 }
+        ensures assets { self.new.assets ≡ map (asset_step chart.now self.old.closed on act.now) self.old.assets ++ assets_by chart.now on act.now drawn }
+        ensures closed { self.new.closed ≡ closed_after act.now self.old.closed }
+        ensures vouchers { self.new.vouchers ≡ self.old.vouchers + draws_voucher act.now }
+        ensures acts { self.new.acts ≡ self.old.acts + 1 }
+    {
+        match act {
+            Act::Voucher(invoice) => self.enter_voucher(chart, on, invoice, drawn),
+            Act::VoidVoucher(voucher) => self.void_voucher(*voucher),
+            Act::Asset(what) => self.take_asset(chart, on, what, drawn),
+            Act::Close(period) => self.close(period),
+            _ => self.count_act(),
+        }
+    }
+
+    fn take_asset(&mut self, chart: &Chart, on: Day, what: &AssetAct, drawn: Drawn)
+        requires reserved { HasRoomForAsset what.now self.old.room }
+        requires day { is_day on ≡ true }
+        requires amounts { amount_refusal (act.Asset what.now) ≡ None }
+        requires allowed { (s : Registers) → IsOf s self.old → asset_refusal s on (act.Asset what.now) ≡ None }
+        requires drawn { IsNextAsset what.now drawn self.old }
+        requires early { self.old.closed ≤ number_of_day chart.now on }
+        requires few { self.old.acts < 1048576 }
+        ensures assets { self.new.assets ≡ map (asset_step chart.now self.old.closed on (act.Asset what.now)) self.old.assets ++ assets_by chart.now on (act.Asset what.now) drawn }
+        ensures closed { self.new.closed ≡ self.old.closed }
+        ensures vouchers { self.new.vouchers ≡ self.old.vouchers }
+        ensures acts { self.new.acts ≡ self.old.acts + 1 }
+    {
+        match what {
+            AssetAct::Donate(gift) => self.accept_gift(chart, on, gift, drawn.number),
+            AssetAct::Dispose(disposal) => self.dispose(chart, on, disposal.asset),
+        }
+    }
+
+    /// Closes a month; the close of a year leaves assets as they are.
+    fn close(&mut self, period: &Period)
+        requires reserved { HasRoomForClose period.now self.old.room }
+        requires few { self.old.acts < 1048576 }
+        ensures assets { self.new.assets ≡ self.old.assets }
+        ensures closed { self.new.closed ≡ closed_after (act.Close period.now) self.old.closed }
+        ensures vouchers { self.new.vouchers ≡ self.old.vouchers }
+        ensures acts { self.new.acts ≡ self.old.acts + 1 }
+    {
+        match period {
+            Period::Month(_) => self.close_month(),
+            Period::Year(_) => self.count_act(),
+        }
+    }
+}

@@ -1,0 +1,183 @@
+//! The register of capital assets.
+
+ghost use Rattle.std.specs.Prelude.{◌≡◌, ◌≤◌, ◌+◌, ℕ, [], length, slice_index_or, option_to_list, ◌==◌};
+ghost use Rattle.std.specs.List.{filter};
+ghost use Rattle.cf_assets.specs.Readers.{asset_now_at, look_shown};
+ghost use Rattle.cf_assets.specs.Rows.{view_stage};
+ghost use Rattle.cf_model.specs.AssetsShown as shown;
+ghost use Rattle.cf_assets.specs.Charges.{AreCharges};
+ghost use Rattle.cf_assets.specs.Extents.{extent_at};
+ghost use Rattle.cf_assets.specs.Register.{asset_draws};
+ghost use Rattle.cf_model.specs.RegisterRules.{asset_at};
+
+use crate::charges::{MOST_FUNCTIONS, depreciation_of};
+use crate::inventory::Inventory;
+use crate::rows::{Extent, StageNow};
+use cf_calls::acts::AssetAct;
+use cf_calls::shown::AssetState;
+use cf_calls::{Act, Drawn, Read, Shown};
+use cf_chart::Chart;
+use std::alloc::Global;
+use std::marker::Model;
+
+/// Capital assets with their depreciation. Assets have the numbers 1, 2, 3 ..; the assets of each voucher stand one
+/// after another, and the sums by fiscal year are kept as they run.
+#[derive(Drop)]
+pub struct Assets {
+    pub(crate) inventory: Inventory,
+    /// The assets of each voucher, by its number from 1.
+    pub(crate) vouchers: Vec<Extent>,
+    pub(crate) acts: u32,
+}
+
+impl Model for Assets {
+    ghost use Rattle.cf_assets.specs.Register.{Register};
+
+    ghost Value = { Register };
+
+    ghost use Rattle.cf_assets.specs.RegisterView.{register_of, IsSound};
+
+    ghost view = { register_of };
+
+    ghost invariant = { IsSound };
+}
+
+/// An asset as it stands.
+#[derive(Clone, Copy)]
+pub struct AssetNow {
+    /// In cents.
+    pub cost: u64,
+    /// The accumulated depreciation, in cents; nothing for a void asset.
+    pub depreciation: u64,
+    /// The function of the department that acquired it.
+    pub function: u16,
+}
+
+impl Assets {
+    /// A register with no assets and no closed month. It takes no memory.
+    pub fn new(alloc: Global) -> Assets
+        ensures assets { result.assets ≡ [] }
+        ensures closed { result.closed ≡ 0 }
+        ensures vouchers { result.vouchers ≡ 0 }
+        ensures acts { result.acts ≡ 0 }
+    {
+        Assets {
+            inventory: Inventory::new(alloc),
+            vouchers: Vec::new(alloc),
+            acts: 0,
+        }
+    }
+
+    /// How many acts were applied.
+    pub fn acts(&self) -> u32
+        ensures value { result ≡ self.now.acts }
+        ensures most { result ≤ 1048576 }
+    {
+        self.acts
+    }
+
+    /// How many months are closed.
+    pub fn closed(&self) -> u32
+        ensures value { result ≡ self.now.closed }
+        ensures most { result ≤ 1048576 }
+    {
+        self.inventory.closed()
+    }
+
+    /// The number of the next asset, from 1.
+    pub fn next_asset(&self) -> u32
+        ensures value { result ≡ length self.now.assets + 1 }
+        ensures most { result ≤ 33554433 }
+    {
+        self.inventory.count() + 1
+    }
+
+    /// The numbers that an act draws of assets: a gift its own, and a voucher that of its first asset, or of the next
+    /// one where it has none.
+    pub fn draws(&self, act: &Act) -> Drawn
+        ensures { result ≡ asset_draws self.now.assets act.now }
+    {
+        let next = self.next_asset();
+        match act {
+            Act::Voucher(_) => Drawn {
+                number: 0,
+                second: next,
+            },
+            Act::Asset(AssetAct::Donate(_)) => Drawn {
+                number: next,
+                second: 0,
+            },
+            _ => Drawn {
+                number: 0,
+                second: 0,
+            },
+        }
+    }
+
+    /// An asset as it stands: `None` exactly where there is no asset of this number.
+    pub fn asset(&self, number: u32) -> Option<AssetNow>
+        ensures value { result ≡ asset_now_at self.now.closed number self.now.assets }
+        ensures alone { filter (λ a. a.number == number) self.now.assets ≡ option_to_list (asset_at number self.now.assets) }
+    {
+        match self.inventory.find(number) {
+            None => None,
+            Some(row) => Some(AssetNow {
+                cost: row.cost,
+                depreciation: depreciation_of(&row, self.inventory.closed()),
+                function: row.function,
+            }),
+        }
+    }
+
+    /// What a look at an asset shows: `None` exactly where there is no such asset, and at other looks.
+    pub fn look(&self, read: &Read) -> Option<Shown>
+        ensures { result ≡ look_shown self.now.closed self.now.assets read.now }
+    {
+        match read {
+            Read::Asset { asset } => self.look_asset(*asset),
+            _ => None,
+        }
+    }
+
+    fn look_asset(&self, number: u32) -> Option<Shown>
+        ensures { result ≡ shown.asset_shown number self.now.closed self.now.assets }
+    {
+        match self.inventory.find(number) {
+            None => None,
+            Some(row) => Some(Shown::Asset {
+                cost: row.cost,
+                depreciation: depreciation_of(&row, self.inventory.closed()),
+                state: state_of(row.stage),
+            }),
+        }
+    }
+
+    /// The depreciation that the close of the next month charges to each function, in cents, by the function's place
+    /// in the chart's table.
+    pub fn month_charges(&self, chart: &Chart) -> [u128; MOST_FUNCTIONS]
+        ensures charges { AreCharges self.now.closed self.now.assets chart.now.functions result }
+        ensures most { (k : ℕ) → slice_index_or result k 0 ≤ 335544320000000000000 }
+    {
+        self.inventory.month_charges(chart.functions())
+    }
+}
+
+fn state_of(stage: StageNow) -> AssetState
+    ensures { result ≡ shown.state_of (view_stage stage) }
+{
+    match stage {
+        StageNow::Held => AssetState::Held,
+        StageNow::Void => AssetState::Void,
+        StageNow::Disposed { .. } => AssetState::Disposed,
+    }
+}
+
+/// Where the assets of a voucher stand; an empty extent where there is no such voucher.
+pub fn extent_in(extents: &Vec<Extent>, number: u32) -> Extent
+    ensures { result ≡ extent_at extents.now.items number }
+{
+    if number == 0 || number as usize > extents.len() {
+        return Extent { first: 0, end: 0 };
+    }
+    extents[number as usize - 1]
+}

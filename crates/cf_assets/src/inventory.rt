@@ -1,0 +1,235 @@
+//! Capital assets by number, with their sums by fiscal year.
+
+ghost use Rattle.std.specs.Prelude.{◌≡◌, ◌≤◌, ◌<◌, ◌+◌, ◌∷◌, ◌++◌, ℕ, [], None, true, is_some, length, slice_index_or, OnOk, IfSome, option_map, option_to_list, ◌==◌, vec_len};
+ghost use Rattle.std.specs.List.{filter};
+ghost use Rattle.std.specs.Vec.{vec_capacity};
+ghost use Rattle.cf_chart.specs.Rising.{is_rising};
+ghost use Rattle.cf_assets.specs.Charges.{AreCharges};
+ghost use Rattle.cf_assets.specs.Inventory.{AreNumbered, StagesOne, worn_at};
+ghost use Rattle.cf_assets.specs.Rows.{view_asset, IsRow};
+ghost use Rattle.cf_assets.specs.Inventory as spec;
+ghost use Rattle.cf_model.specs.Assets.{Asset, held, void, disposed, depreciation};
+ghost use Rattle.cf_model.specs.RegisterRules.{asset_at};
+
+use crate::charges::{MOST_FUNCTIONS, depreciation_of, function_charges, total_charge};
+use crate::rows::{AssetRow, StageNow};
+use crate::serving::{enlist, retire};
+use crate::years::{YEARS, lower, no_years, raise};
+use cf_chart::Function;
+use std::alloc::{AllocError, Global};
+use std::marker::Model;
+
+/// Assets by number, from 1. What all of them were depreciated by is kept after each closed month, and what was
+/// bought, given and disposed of by fiscal year, so that nothing goes over all assets again.
+#[derive(Drop)]
+pub struct Inventory {
+    pub(crate) rows: Vec<AssetRow>,
+    /// The places of the assets that may still be charged.
+    pub(crate) serving: Vec<u32>,
+    /// The depreciation of all assets after one closed month, after two, and so on, in cents.
+    pub(crate) worn: Vec<u128>,
+    /// The cost of what vouchers bought, in cents, by fiscal year.
+    pub(crate) outlay: [u128; YEARS],
+    pub(crate) donated: [u128; YEARS],
+    /// The book value of what was disposed of.
+    pub(crate) disposals: [u128; YEARS],
+}
+
+impl Model for Inventory {
+    ghost use Rattle.cf_assets.specs.Inventory as inventory;
+
+    ghost Value = { inventory.Inventory };
+
+    ghost use Rattle.cf_assets.specs.InventoryView.{inventory_of, IsSound};
+
+    ghost view = { inventory_of };
+
+    ghost invariant = { IsSound };
+}
+
+impl Inventory {
+    /// No assets, and no closed month. It takes no memory.
+    pub fn new(alloc: Global) -> Inventory
+        ensures assets { result.assets ≡ [] }
+        ensures closed { result.closed ≡ 0 }
+    {
+        Inventory {
+            rows: Vec::new(alloc),
+            serving: Vec::new(alloc),
+            worn: Vec::new(alloc),
+            outlay: no_years(),
+            donated: no_years(),
+            disposals: no_years(),
+        }
+    }
+
+    /// How many assets there are.
+    pub fn count(&self) -> u32
+        ensures value { result ≡ length self.now.assets }
+        ensures most { result ≤ 33554432 }
+        ensures numbered { AreNumbered self.now.assets }
+    {
+        self.rows.len() as u32
+    }
+
+    /// How many months are closed.
+    pub fn closed(&self) -> u32
+        ensures value { result ≡ self.now.closed }
+        ensures most { result ≤ 1048576 }
+    {
+        self.worn.len() as u32
+    }
+
+    /// The asset at a place, from 0.
+    pub fn row(&self, at: usize) -> AssetRow
+        requires { at < length self.now.assets }
+        ensures is { (d : Asset) → view_asset result ≡ slice_index_or self.now.assets at d }
+        ensures row { IsRow self.now.closed at result }
+    {
+        self.rows[at]
+    }
+
+    /// The asset of a number.
+    pub fn find(&self, number: u32) -> Option<AssetRow>
+        ensures value { option_map view_asset result ≡ asset_at number self.now.assets }
+        ensures alone { filter (λ a. a.number == number) self.now.assets ≡ option_to_list (asset_at number self.now.assets) }
+        ensures small { IfSome result (λ r. r.cost ≤ 10000000000000) }
+    {
+        if number == 0 || number as usize > self.rows.len() {
+            return None;
+        }
+        Some(self.rows[number as usize - 1])
+    }
+
+    /// Takes memory for so many assets more.
+    pub fn reserve(&mut self, count: usize) -> Result<(), AllocError>
+        ensures ok { OnOk result (count ≤ self.new.room) }
+        ensures assets { self.new.assets ≡ self.old.assets }
+        ensures closed { self.new.closed ≡ self.old.closed }
+    {
+        self.rows.reserve(count)?;
+        self.serving.reserve(count)
+    }
+
+    /// Takes memory for the close of a month.
+    pub fn reserve_month(&mut self) -> Result<(), AllocError>
+        ensures ok { OnOk result (1 ≤ self.new.months) }
+        ensures assets { self.new.assets ≡ self.old.assets }
+        ensures closed { self.new.closed ≡ self.old.closed }
+    {
+        self.worn.reserve(1)
+    }
+
+    /// Enters an asset that a voucher bought. It takes no memory.
+    pub fn buy(&mut self, row: AssetRow)
+        requires voucher { is_some row.voucher ≡ true }
+        requires new { spec.IsNew row self.old }
+        requires room { 1 ≤ self.old.room }
+        requires few { length self.old.assets < 33554432 }
+        ensures assets { self.new.assets ≡ self.old.assets ++ view_asset row ∷ [] }
+        ensures closed { self.new.closed ≡ self.old.closed }
+        ensures room { self.old.room ≤ self.new.room + 1 }
+    {
+        let at = self.rows.len() as u32;
+        raise(&mut self.outlay, row.year, row.cost);
+        enlist(&mut self.serving, at, &row);
+        push_within(&mut self.rows, row);
+    }
+
+    /// Enters an asset that was given. It takes no memory.
+    pub fn accept_gift(&mut self, row: AssetRow)
+        requires gift { row.voucher ≡ None }
+        requires new { spec.IsNew row self.old }
+        requires room { 1 ≤ self.old.room }
+        requires few { length self.old.assets < 33554432 }
+        ensures assets { self.new.assets ≡ self.old.assets ++ view_asset row ∷ [] }
+        ensures closed { self.new.closed ≡ self.old.closed }
+    {
+        let at = self.rows.len() as u32;
+        raise(&mut self.donated, row.year, row.cost);
+        enlist(&mut self.serving, at, &row);
+        push_within(&mut self.rows, row);
+    }
+
+    /// Voids an asset that a voucher bought, and that nothing was charged for.
+    pub fn void_at(&mut self, at: usize)
+        requires within { at < length self.old.assets }
+        requires fresh { spec.IsFreshAt at self.old }
+        ensures assets { StagesOne at void self.old.assets self.new.assets }
+        ensures closed { self.new.closed ≡ self.old.closed }
+    {
+        let row = self.rows[at];
+        lower(&mut self.outlay, row.year, row.cost);
+        self.rows[at] = staged(row, StageNow::Void);
+    }
+
+    /// Disposes of an asset that is held, in a fiscal year.
+    pub fn dispose_at(&mut self, at: usize, year: u16)
+        requires within { at < length self.old.assets }
+        requires held { spec.IsHeldAt at self.old }
+        requires from { 1970 ≤ year }
+        requires to { year ≤ 2200 }
+        ensures assets { StagesOne at (disposed year self.old.closed) self.old.assets self.new.assets }
+        ensures closed { self.new.closed ≡ self.old.closed }
+    {
+        let row = self.rows[at];
+        let closed = self.worn.len() as u32;
+        let book_value = row.cost - depreciation_of(&row, closed);
+        raise(&mut self.disposals, year, book_value);
+        self.rows[at] = staged(row, StageNow::Disposed { year, closed });
+    }
+
+    /// Closes a month: each asset in service is charged. It takes no memory.
+    pub fn close(&mut self)
+        requires few { self.old.closed < 1048576 }
+        requires room { 1 ≤ self.old.months }
+        ensures assets { self.new.assets ≡ self.old.assets }
+        ensures closed { self.new.closed ≡ self.old.closed + 1 }
+    {
+        let closed = self.worn.len() as u32;
+        let before = worn_after(&self.worn, closed);
+        let charge = total_charge(&self.rows, &self.serving, closed);
+        push_within(&mut self.worn, before + charge);
+        retire(&mut self.serving, &self.rows, closed + 1);
+    }
+
+    /// What the close of the next month charges to each function, by its place in the chart's table.
+    pub fn month_charges(&self, functions: &[Function]) -> [u128; MOST_FUNCTIONS]
+        requires few { length functions.now ≤ 64 }
+        requires rising { is_rising (λ f. f.id) functions.now ≡ true }
+        ensures charges { AreCharges self.now.closed self.now.assets functions.now result }
+        ensures most { (k : ℕ) → slice_index_or result k 0 ≤ 335544320000000000000 }
+    {
+        let closed = self.worn.len() as u32;
+        function_charges(&self.rows, &self.serving, closed, functions)
+    }
+}
+
+/// What all assets were depreciated by after so many closed months.
+pub fn worn_after(worn: &Vec<u128>, months: u32) -> u128
+    requires { months ≤ length worn.now.items }
+    ensures { result ≡ worn_at worn.now.items months }
+{
+    if months == 0 {
+        return 0;
+    }
+    worn[months as usize - 1]
+}
+
+fn staged(row: AssetRow, stage: StageNow) -> AssetRow
+    ensures { result ≡ record row { stage = stage } }
+{
+    let mut row = row;
+    row.stage = stage;
+    row
+}
+
+/// Appends within the room that was reserved.
+pub fn push_within<T: Drop>(rows: &mut Vec<T>, row: T)
+    requires { vec_len rows.old < vec_capacity rows.old }
+    ensures items { rows.new.items ≡ rows.old.items ++ row ∷ [] }
+    ensures len { vec_len rows.new ≡ vec_len rows.old + 1 }
+    ensures room { vec_capacity rows.old ≤ vec_capacity rows.new }
+{
+    let _ = rows.push(row);
+}

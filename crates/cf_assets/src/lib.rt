@@ -1,0 +1,19 @@
+//! The register of capital assets and their depreciation.
+#![tactic(auto)]
+
+mod apply;
+mod assets;
+mod calendar;
+mod changes;
+mod charges;
+mod inventory;
+mod rows;
+mod rules;
+mod serving;
+mod steps;
+mod sums;
+mod years;
+
+pub use assets::{AssetNow, Assets};
+pub use changes::AssetChanges;
+pub use charges::{MOST_FUNCTIONS, depreciated};

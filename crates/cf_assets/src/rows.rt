@@ -1,0 +1,39 @@
+//! What the register keeps of assets, and of the vouchers that bought them.
+
+use cf_base::Day;
+
+/// The stage of an asset.
+#[derive(Clone, Copy)]
+pub enum StageNow {
+    Held,
+    /// With its voucher.
+    Void,
+    /// Disposed of in a fiscal year, when so many months were closed.
+    Disposed { year: u16, closed: u32 },
+}
+
+/// A capital asset. Assets stand by number, from 1.
+#[derive(Clone, Copy)]
+pub struct AssetRow {
+    /// In cents.
+    pub cost: u64,
+    pub number: u32,
+    /// The voucher that bought it; a gift has none.
+    pub voucher: Option<u32>,
+    pub function: u16,
+    /// In months; land has 0.
+    pub life: u16,
+    pub on: Day,
+    /// The fiscal year of its acquisition.
+    pub year: u16,
+    /// The month from which it serves, counted from the chart's first.
+    pub service: u16,
+    pub stage: StageNow,
+}
+
+/// Where the assets of a voucher stand: from `first` up to `end`.
+#[derive(Clone, Copy)]
+pub struct Extent {
+    pub first: u32,
+    pub end: u32,
+}

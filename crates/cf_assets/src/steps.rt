@@ -1,0 +1,286 @@
+//! What each act makes of assets.
+
+ghost use Rattle.std.specs.Prelude.{◌≡◌, ◌≤◌, ◌<◌, ◌+◌, ◌-◌, ◌∷◌, ◌++◌, ◌==◌, [], ℕ, Some, None, true, if◌then◌else◌, length, map, is_some};
+ghost use Rattle.std.specs.List.{filter};
+ghost use Rattle.cf_assets.specs.Register.{HasRoomForVoucher, IsNextVoucher};
+ghost use Rattle.cf_assets.specs.Steps.{AreMost, IsTitled, CanVoid, voids, disposes};
+ghost use Rattle.cf_assets.specs.Extents.{AreExtents};
+ghost use Rattle.cf_assets.specs.Rows.{view_asset};
+ghost use Rattle.cf_assets.specs.Inventory.{StagesOne};
+ghost use Rattle.cf_base.specs.Calendar.{is_day};
+ghost use Rattle.cf_model.specs.Assets as spec;
+ghost use Rattle.cf_model.specs.Assets.{void, new_asset, bought, life_if};
+ghost use Rattle.cf_model.specs.Calendar.{year_of_day};
+ghost use Rattle.cf_model.specs.Charted.{function_of, is_capital};
+ghost use Rattle.cf_model.specs.Documents.{is_number};
+ghost use Rattle.cf_model.specs.Months.{number_of_day};
+ghost use Rattle.cf_model.specs.RegisterRules as rules;
+ghost use Rattle.cf_model.specs.Rules.{first_refusal};
+ghost use Rattle.cf_chart.specs.Plan.{object_at};
+
+use crate::assets::{Assets, extent_in};
+use crate::calendar::{month_number, year_of};
+use crate::inventory::{Inventory, push_within};
+use crate::rows::{AssetRow, Extent, StageNow};
+use cf_base::Day;
+use cf_calls::Drawn;
+use cf_calls::acts::{Donation, NewVoucher};
+use cf_calls::items::VoucherItem;
+use cf_chart::{Chart, ObjectKind};
+
+/// How an asset is acquired: by which voucher, for which day and fiscal year, and from which month it serves.
+#[derive(Clone, Copy)]
+pub struct Title {
+    pub voucher: Option<u32>,
+    pub on: Day,
+    pub year: u16,
+    pub service: u16,
+}
+
+impl Assets {
+    /// Counts an act that is none of the register's own.
+    pub(crate) fn count_act(&mut self)
+        requires few { self.old.acts < 1048576 }
+        ensures assets { self.new.assets ≡ self.old.assets }
+        ensures closed { self.new.closed ≡ self.old.closed }
+        ensures vouchers { self.new.vouchers ≡ self.old.vouchers }
+        ensures acts { self.new.acts ≡ self.old.acts + 1 }
+    {
+        self.acts += 1;
+    }
+
+    /// Enters a voucher: each item on a capital object is an asset.
+    pub(crate) fn enter_voucher(
+        &mut self,
+        chart: &Chart,
+        on: Day,
+        invoice: &NewVoucher,
+        drawn: Drawn,
+    )
+        requires reserved { HasRoomForVoucher (length invoice.now.items) self.old.room }
+        requires day { is_day on ≡ true }
+        requires items { length invoice.now.items ≤ 32 }
+        requires amounts { AreMost invoice.now.items }
+        requires drawn { IsNextVoucher drawn self.old }
+        requires early { self.old.closed ≤ number_of_day chart.now on }
+        requires year { chart.now.first_year + (if invoice.now.back then 1 else 0) ≤ year_of_day chart.now on }
+        requires few { self.old.acts < 1048576 }
+        ensures assets { self.new.assets ≡ self.old.assets ++ bought chart.now drawn.number on (if invoice.now.back then year_of_day chart.now on - 1 else year_of_day chart.now on) drawn.second invoice.now.items }
+        ensures closed { self.new.closed ≡ self.old.closed }
+        ensures vouchers { self.new.vouchers ≡ self.old.vouchers + 1 }
+        ensures acts { self.new.acts ≡ self.old.acts + 1 }
+    {
+        let day_year = year_of(chart, on);
+        // so the year before that of the day is kept too
+        let _first_year = chart.first_year();
+        let title = Title {
+            voucher: Some(drawn.number),
+            on,
+            year: if invoice.back { day_year - 1 } else { day_year },
+            service: month_number(chart, on),
+        };
+        let first = self.inventory.count();
+        buy_all(&mut self.inventory, chart, title, invoice.items.as_slice());
+        let end = self.inventory.count();
+        push_within(&mut self.vouchers, Extent { first, end });
+        self.acts += 1;
+    }
+
+    /// Voids the assets of a voucher.
+    pub(crate) fn void_voucher(&mut self, voucher: u32)
+        requires allowed { first_refusal (rules.voided_asset self.old.closed) (filter (λ a. is_number a.voucher voucher) self.old.assets) ≡ None }
+        requires few { self.old.acts < 1048576 }
+        ensures assets { self.new.assets ≡ map (voids voucher) self.old.assets }
+        ensures closed { self.new.closed ≡ self.old.closed }
+        ensures vouchers { self.new.vouchers ≡ self.old.vouchers }
+        ensures acts { self.new.acts ≡ self.old.acts + 1 }
+    {
+        void_all(&mut self.inventory, &self.vouchers, voucher);
+        self.acts += 1;
+    }
+
+    /// Enters an asset that is given.
+    pub(crate) fn accept_gift(&mut self, chart: &Chart, on: Day, gift: &Donation, number: u32)
+        requires room { 1 ≤ self.old.room.assets }
+        requires day { is_day on ≡ true }
+        requires amount { gift.now.amount ≤ 10000000000000 }
+        requires number { number ≡ length self.old.assets + 1 }
+        requires early { self.old.closed ≤ number_of_day chart.now on }
+        requires few { self.old.acts < 1048576 }
+        ensures assets { self.new.assets ≡ self.old.assets ++ new_asset chart.now None on (year_of_day chart.now on) number gift.now.dept gift.now.object gift.now.amount ∷ [] }
+        ensures closed { self.new.closed ≡ self.old.closed }
+        ensures vouchers { self.new.vouchers ≡ self.old.vouchers }
+        ensures acts { self.new.acts ≡ self.old.acts + 1 }
+    {
+        let title = Title {
+            voucher: None,
+            on,
+            year: year_of(chart, on),
+            service: month_number(chart, on),
+        };
+        let row = new_row(chart, title, number, gift.dept, gift.object, gift.amount);
+        self.inventory.accept_gift(row);
+        self.acts += 1;
+    }
+
+    /// Disposes of an asset.
+    pub(crate) fn dispose(&mut self, chart: &Chart, on: Day, number: u32)
+        requires day { is_day on ≡ true }
+        requires allowed { first_refusal (rules.disposed_asset on) (filter (λ a. a.number == number) self.old.assets) ≡ None }
+        requires few { self.old.acts < 1048576 }
+        ensures assets { self.new.assets ≡ map (disposes number (year_of_day chart.now on) self.old.closed) self.old.assets }
+        ensures closed { self.new.closed ≡ self.old.closed }
+        ensures vouchers { self.new.vouchers ≡ self.old.vouchers }
+        ensures acts { self.new.acts ≡ self.old.acts + 1 }
+    {
+        dispose_of(&mut self.inventory, chart, on, number);
+        self.acts += 1;
+    }
+
+    /// Closes the next month.
+    pub(crate) fn close_month(&mut self)
+        requires room { 1 ≤ self.old.room.months }
+        requires few { self.old.acts < 1048576 }
+        ensures assets { self.new.assets ≡ self.old.assets }
+        ensures closed { self.new.closed ≡ self.old.closed + 1 }
+        ensures vouchers { self.new.vouchers ≡ self.old.vouchers }
+        ensures acts { self.new.acts ≡ self.old.acts + 1 }
+    {
+        self.inventory.close();
+        self.acts += 1;
+    }
+}
+
+/// The life of an asset on an object, in months: 0 where the object isn't capital.
+fn life_on(chart: &Chart, object: u16) -> u16
+    ensures { result ≡ life_if (object_at chart.now object) }
+{
+    match chart.object(object) {
+        None => 0,
+        Some(object) => life_of_kind(object.kind),
+    }
+}
+
+fn life_of_kind(kind: ObjectKind) -> u16
+    ensures { result ≡ spec.life_of_kind kind }
+{
+    match kind {
+        ObjectKind::Capital { life } => life,
+        ObjectKind::Current | ObjectKind::Principal | ObjectKind::Interest => 0,
+    }
+}
+
+fn is_asset(chart: &Chart, object: u16) -> bool
+    ensures { result ≡ is_capital (object_at chart.now object) }
+{
+    match chart.object(object) {
+        None => false,
+        Some(object) => match object.kind {
+            ObjectKind::Capital { .. } => true,
+            ObjectKind::Current | ObjectKind::Principal | ObjectKind::Interest => false,
+        },
+    }
+}
+
+fn function_on(chart: &Chart, dept: u16) -> u16
+    ensures { result ≡ function_of chart.now dept }
+{
+    match chart.dept(dept) {
+        None => 0,
+        Some(department) => department.function,
+    }
+}
+
+fn new_row(chart: &Chart, title: Title, number: u32, dept: u16, object: u16, cost: u64) -> AssetRow
+    requires { IsTitled chart.now title }
+    ensures is { view_asset result ≡ new_asset chart.now title.voucher title.on title.year number dept object cost }
+    ensures stage { result.stage ≡ StageNow.Held }
+    ensures year { result.year ≡ title.year }
+    ensures service { result.service ≡ title.service }
+    ensures voucher { result.voucher ≡ title.voucher }
+    ensures number { result.number ≡ number }
+    ensures cost { result.cost ≡ cost }
+{
+    AssetRow {
+        cost,
+        number,
+        voucher: title.voucher,
+        function: function_on(chart, dept),
+        life: life_on(chart, object),
+        on: title.on,
+        year: title.year,
+        service: title.service,
+        stage: StageNow::Held,
+    }
+}
+
+/// Enters an asset for each item of a voucher on a capital object.
+fn buy_all(inventory: &mut Inventory, chart: &Chart, title: Title, items: &[VoucherItem])
+    requires titled { IsTitled chart.now title }
+    requires voucher { is_some title.voucher ≡ true }
+    requires from { 1970 ≤ title.year }
+    requires to { title.year ≤ 2200 }
+    requires early { inventory.old.closed ≤ title.service }
+    requires amounts { AreMost items.now }
+    requires room { length items.now ≤ inventory.old.room }
+    requires few { length inventory.old.assets + length items.now ≤ 33554432 }
+    ensures assets { (n : ℕ) → title.voucher ≡ Some n → inventory.new.assets ≡ inventory.old.assets ++ bought chart.now n title.on title.year (length inventory.old.assets + 1) items.now }
+    ensures closed { inventory.new.closed ≡ inventory.old.closed }
+    ensures most { length inventory.new.assets ≤ length inventory.old.assets + length items.now }
+{
+    for item in items {
+        let account = item.account;
+        if is_asset(chart, account.object) {
+            let number = inventory.count() + 1;
+            let row = new_row(
+                chart,
+                title,
+                number,
+                account.dept,
+                account.object,
+                account.amount,
+            );
+            inventory.buy(row);
+        }
+    }
+}
+
+/// Voids the assets of a voucher.
+fn void_all(inventory: &mut Inventory, vouchers: &Vec<Extent>, voucher: u32)
+    requires extents { AreExtents vouchers.now.items inventory.old.assets }
+    requires allowed { first_refusal (rules.voided_asset inventory.old.closed) (filter (λ a. is_number a.voucher voucher) inventory.old.assets) ≡ None }
+    ensures assets { inventory.new.assets ≡ map (voids voucher) inventory.old.assets }
+    ensures closed { inventory.new.closed ≡ inventory.old.closed }
+{
+    let extent = extent_in(vouchers, voucher);
+    for at in extent.first as usize..extent.end as usize {
+        void_one(inventory, at);
+    }
+}
+
+/// Voids an asset of a voucher; one that is void already stays so.
+fn void_one(inventory: &mut Inventory, at: usize)
+    requires within { at < length inventory.old.assets }
+    requires allowed { CanVoid at inventory.old }
+    ensures assets { StagesOne at void inventory.old.assets inventory.new.assets }
+    ensures closed { inventory.new.closed ≡ inventory.old.closed }
+{
+    match inventory.row(at).stage {
+        StageNow::Held => inventory.void_at(at),
+        StageNow::Void | StageNow::Disposed { .. } => (),
+    }
+}
+
+/// Disposes of the asset of a number, in the fiscal year of the day.
+fn dispose_of(inventory: &mut Inventory, chart: &Chart, on: Day, number: u32)
+    requires day { is_day on ≡ true }
+    requires allowed { first_refusal (rules.disposed_asset on) (filter (λ a. a.number == number) inventory.old.assets) ≡ None }
+    ensures assets { inventory.new.assets ≡ map (disposes number (year_of_day chart.now on) inventory.old.closed) inventory.old.assets }
+    ensures closed { inventory.new.closed ≡ inventory.old.closed }
+{
+    let year = year_of(chart, on);
+    let count = inventory.count();
+    if 1 <= number && number <= count {
+        inventory.dispose_at(number as usize - 1, year);
+    }
+}

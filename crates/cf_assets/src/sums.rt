@@ -1,0 +1,66 @@
+//! The sums of assets by fiscal year and by closed month.
+
+ghost use Rattle.std.specs.Prelude.{◌≡◌, ◌≤◌, ◌+◌, ◌-◌, sum_by};
+ghost use Rattle.cf_assets.specs.Inventory.{AreKept};
+ghost use Rattle.cf_assets.specs.Years.{bought_in, given_in, book_in, sum_to};
+ghost use Rattle.cf_model.specs.Assets.{depreciation};
+
+use crate::inventory::{Inventory, worn_after};
+use crate::years::{amount_in, total_through};
+
+/// What a fiscal year has, in cents.
+#[derive(Clone, Copy)]
+pub struct YearSums {
+    pub bought: u128,
+    pub given: u128,
+    /// The book value of what was disposed of.
+    pub gone: u128,
+}
+
+impl Inventory {
+    /// What all assets were depreciated by over the first so many months, which are closed, in cents.
+    pub fn worn_to(&self, months: u32) -> u128
+        requires { months ≤ self.now.closed }
+        ensures value { result ≡ sum_by (depreciation months) self.now.assets }
+        ensures most { result ≤ 335544320000000000000 }
+    {
+        worn_after(&self.worn, months)
+    }
+
+    /// What a fiscal year has.
+    pub fn year_sums(&self, year: u16) -> YearSums
+        requires from { 1970 ≤ year }
+        requires to { year ≤ 2200 }
+        ensures bought { result.bought ≡ sum_by (bought_in year) self.now.assets }
+        ensures given { result.given ≡ sum_by (given_in year) self.now.assets }
+        ensures gone { result.gone ≡ sum_by (book_in self.now.closed year) self.now.assets }
+        ensures most_bought { result.bought ≤ 335544320000000000000 }
+        ensures most_given { result.given ≤ 335544320000000000000 }
+        ensures most_gone { result.gone ≤ 335544320000000000000 }
+    {
+        YearSums {
+            bought: amount_in(&self.outlay, year),
+            given: amount_in(&self.donated, year),
+            gone: amount_in(&self.disposals, year),
+        }
+    }
+
+    /// The cost of what was bought and given in the fiscal years up to a year, in cents.
+    pub fn acquired_through(&self, year: u16) -> u128
+        requires { year ≤ 2200 }
+        ensures value { result ≡ sum_to (λ y. sum_by (bought_in y) self.now.assets) (year - 1969) + sum_to (λ y. sum_by (given_in y) self.now.assets) (year - 1969) }
+        ensures most { result ≤ 155021475840000000000000 }
+        ensures first { AreKept self.now.assets }
+    {
+        total_through(&self.outlay, year) + total_through(&self.donated, year)
+    }
+
+    /// The book value of what was disposed of in the fiscal years up to a year, in cents.
+    pub fn gone_through(&self, year: u16) -> u128
+        requires { year ≤ 2200 }
+        ensures value { result ≡ sum_to (λ y. sum_by (book_in self.now.closed y) self.now.assets) (year - 1969) }
+        ensures most { result ≤ 77510737920000000000000 }
+    {
+        total_through(&self.disposals, year)
+    }
+}
