@@ -1,0 +1,15 @@
+pub mod AccountFacts
+pub mod Earning
+pub mod Entering
+pub mod Finding
+pub mod Lasting
+pub mod Leaving
+pub mod Lists
+pub mod Paying
+pub mod Payments
+pub mod Refusing
+pub mod Running
+pub mod RunningSums
+pub mod Schedules
+pub mod Stepping
+pub mod YearSums

@@ -1,0 +1,8 @@
+pub mod Accounts
+pub mod Charges
+pub mod DebtNow
+pub mod Register
+pub mod RegisterView
+pub mod Rows
+pub mod Steps
+pub mod Years

@@ -1,0 +1,101 @@
+-- What the register's fields stand for.
+use Rattle.std.specs.Prelude.{◌≡◌, ℕ, ◌-◌, ◌*◌, ◌/◌, ◌<◌, ◌≤◌, min, if◌then◌else◌, Bool, nat_lt, nat_le, List, length, map, get_or, sum, sum_by, pos, ◌-ℤ◌}
+use Rattle.std.specs.List.{filter}
+use Rattle.std.specs.Vec.{vec_capacity}
+use Rattle.cf_debt.specs.declared.debt.Debt.TheInside.{Inside}
+use Rattle.cf_debt.specs.declared.rows.BondRow.{BondRow}
+use Rattle.cf_debt.specs.Accounts.{Accounts, accounts_of, left_in}
+use Rattle.cf_debt.specs.Register.{Register}
+use Rattle.cf_debt.specs.Rows.{AreSmallDues, IsRow, view_bonds, view_leave, view_payments}
+use Rattle.cf_debt.specs.Years.{sum_of, sum_through}
+use Rattle.cf_model.specs.Bonds.{Bond, Due, coupon, earned, paid_dues}
+use Rattle.cf_model.specs.Leave.{LeaveChange, leave_left, leave_through}
+
+abbrev pub register_of : Inside → Register
+register_of a = record {
+  debts = record {
+    bonds = view_bonds (view_payments a.payments.items) a.bonds.items;
+    leave = map view_leave a.leave.items;
+    closed = a.closed;
+  };
+  acts = a.acts;
+  room = record {
+    bonds = vec_capacity a.bonds - length a.bonds.items;
+    live = vec_capacity a.live - length a.live.items;
+    payments = vec_capacity a.payments - length a.payments.items;
+    leave = vec_capacity a.leave - length a.leave.items;
+    accounts = accounts_of a.left.entries;
+  };
+}
+
+abbrev pub AreRows : ℕ → List Due → List BondRow → Type 0
+AreRows closed all rows = (k : ℕ) (d : BondRow) → k < length rows → IsRow closed all k (get_or rows k d)
+
+-- the numbers of the bonds of which a payment is due in a month that isn't closed
+abbrev pub is_live : ℕ → BondRow → Bool
+is_live closed r = nat_le closed r.last
+
+abbrev pub live_of : ℕ → List BondRow → List ℕ
+live_of closed rows = map (λ r. r.number) (filter (is_live closed) rows)
+
+-- ---- running sums: of so many fiscal years of the chart, or through a fiscal year
+
+-- what is issued
+abbrev pub AreIssued : List Bond → List ℕ → Type 0
+AreIssued bonds cells = (year : ℕ) → sum_through year cells ≡ sum_by (λ b. if nat_le b.year year then b.amount else 0) bonds
+
+-- what was paid of payments that were due in so many years
+abbrev pub paid_in : ℕ → (Bond → Due → ℕ) → Bond → ℕ
+paid_in n f b = sum_by (λ p. if nat_lt (p.month / 12) n then f b p else 0) (paid_dues b)
+
+abbrev pub principal_of : Bond → Due → ℕ
+principal_of b p = p.principal
+
+abbrev pub ArePaid : (Bond → Due → ℕ) → List Bond → List ℕ → Type 0
+ArePaid f bonds cells = (n : ℕ) → sum_of n cells ≡ sum_by (paid_in n f) bonds
+
+-- the interest charged in so many years
+abbrev pub AreCharged : ℕ → List Bond → List ℕ → Type 0
+AreCharged closed bonds cells = (n : ℕ) → sum_of n cells ≡ sum_by (earned (min closed (12 * n))) bonds
+
+-- leave, as it was earned and as it was used or paid
+abbrev pub AreLeave : List LeaveChange → List ℕ → List ℕ → Type 0
+AreLeave leave earned taken = (year : ℕ) → pos (sum_through year earned) -ℤ pos (sum_through year taken) ≡ leave_through year leave
+
+abbrev pub AreLeft : List LeaveChange → Accounts → Type 0
+AreLeft leave table = (fund dept : ℕ) → pos (left_in table fund dept) ≡ leave_left fund dept leave
+
+-- each act adds at most 10^13 cents to what is issued, paid, earned or taken, and a close at most 2 * 10^13 a bond to the interest
+pub record IsSmall (a : Inside) : Type 0 where
+  pub acts : a.acts ≤ 1048576
+  pub bonds : length a.bonds.items ≤ a.acts
+  pub closed : a.closed ≤ 2760
+  pub issued : sum a.issued ≤ 10000000000000 * a.acts
+  pub repaid : sum a.repaid ≤ 10000000000000 * a.acts
+  pub coupons : sum a.coupons ≤ 10000000000000 * a.acts
+  pub charged : sum a.charged ≤ 20971520000000000000 * a.acts
+  pub earned : sum a.earned ≤ 10000000000000 * a.acts
+  pub taken : sum a.taken ≤ 10000000000000 * a.acts
+  pub left : (fund dept : ℕ) → left_in a.left.entries fund dept ≤ 10000000000000 * a.acts
+
+-- bonds, their payments, and the list of those that are live
+pub record HasBonds (closed : ℕ) (all : List Due) (rows : List BondRow) (live : List ℕ) : Type 0 where
+  pub sizes : AreSmallDues all
+  pub each : AreRows closed all rows
+  pub lasting : live ≡ live_of closed rows
+
+pub record HasSums (closed : ℕ) (bonds : List Bond) (issued repaid coupons charged : List ℕ) : Type 0 where
+  pub issues : AreIssued bonds issued
+  pub principals : ArePaid principal_of bonds repaid
+  pub interests : ArePaid coupon bonds coupons
+  pub charges : AreCharged closed bonds charged
+
+pub record HasLeave (leave : List LeaveChange) (table : Accounts) (earned taken : List ℕ) : Type 0 where
+  pub left : AreLeft leave table
+  pub years : AreLeave leave earned taken
+
+pub record IsSound (a : Inside) : Type 0 where
+  pub small : IsSmall a
+  pub bonds : HasBonds a.closed (view_payments a.payments.items) a.bonds.items a.live.items
+  pub sums : HasSums a.closed (view_bonds (view_payments a.payments.items) a.bonds.items) a.issued a.repaid a.coupons a.charged
+  pub leave : HasLeave (map view_leave a.leave.items) a.left.entries a.earned a.taken

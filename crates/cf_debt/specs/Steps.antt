@@ -1,0 +1,52 @@
+-- What the register's parts promise, and what they ask.
+use Rattle.std.specs.Prelude.{◌≡◌, ℕ, ◌+◌, ◌*◌, ◌<◌, ◌==◌, List, [], ◌∷◌, length, get_or, Some, option_map, IfSome, is_some, true}
+use Rattle.std.specs.List.{filter}
+use Rattle.cf_base.specs.declared.calendar.Day.{Day}
+use Rattle.cf_calls.specs.declared.acts.BondIssue.{BondIssue}
+use Rattle.cf_chart.specs.Plan.{Plan}
+use Rattle.cf_debt.specs.declared.debt.BondNow.{BondNow}
+use Rattle.cf_debt.specs.declared.rows.BondRow.{BondRow}
+use Rattle.cf_debt.specs.Register.{Debts}
+use Rattle.cf_debt.specs.Rows.{IsBond, IsSmallDue, view_bond, view_payment}
+use Rattle.cf_model.specs.Bonds.{Bond, Due, next_due}
+use Rattle.cf_model.specs.Calendar.{year_of_day}
+use Rattle.cf_model.specs.Months.{number_of_day}
+use Rattle.cf_model.specs.Results.{bond_at}
+
+-- a row tells its bond, and its next payment
+pub record ShowsBond (n : ℕ) (d : Debts) (x : BondNow) : Type 0 where
+  pub all : List Due
+  pub is : bond_at n d.bonds ≡ Some (view_bond all x.row)
+  pub alone : filter (λ b. b.number == n) d.bonds ≡ view_bond all x.row ∷ []
+  pub bond : IsBond all x.row
+  pub next : option_map view_payment x.next ≡ next_due (view_bond all x.row)
+  pub small : IfSome x.next (λ p. IsSmallDue (view_payment p))
+
+-- a bond is there, and has something left to pay
+pub record CanPay (n : ℕ) (d : Debts) : Type 0 where
+  pub bond : Bond
+  pub is : bond_at n d.bonds ≡ Some bond
+  pub left : is_some (next_due bond) ≡ true
+
+-- a new bond, whose payments begin at a place
+abbrev pub bond_row : Plan → Day → ℕ → BondIssue → ℕ → BondRow
+bond_row plan on number i start = record {
+  number = number;
+  fund = i.fund;
+  amount = i.amount;
+  year = year_of_day plan on;
+  month = number_of_day plan on;
+  terms = record { every = i.every; day = on.day; rate_bp = i.rate_bp };
+  start = start;
+  count = length i.principals;
+  last = number_of_day plan on + i.every * length i.principals;
+  paid = 0;
+}
+
+-- bonds have the numbers 1, 2, 3 ..
+abbrev pub AreNumbered : List BondRow → Type 0
+AreNumbered rows = (k : ℕ) (d : BondRow) → k < length rows → (get_or rows k d).number ≡ k + 1
+
+-- a row of which one payment more is paid
+abbrev pub paid_row : BondRow → BondRow
+paid_row r = record r { paid = r.paid + 1 }

@@ -1,0 +1,136 @@
+//! How the register takes in an act.
+
+ghost use Rattle.std.specs.Prelude.{◌≡◌, ◌<◌, ◌+◌, ◌++◌, None, true, length, OnOk};
+ghost use Rattle.cf_base.specs.Calendar.{is_day};
+ghost use Rattle.cf_calls.specs.Form.{IsActInForm, IsPeriodForm};
+ghost use Rattle.cf_calls.specs.declared.acts.Act.TheVariants as act;
+ghost use Rattle.cf_debt.specs.Register.{HasRoomFor, HasRoomForLeave, HasRoomToChange, HasRoomToIssue, IsEarlyIssue, IsThere, debt_draws, debts_of, entry_for, registers_with};
+ghost use Rattle.cf_model.specs.Leave.{leave_by};
+ghost use Rattle.cf_model.specs.RegisterRules.{debt_refusal, leave_refusal, order_refusal, unpaid_refusal};
+ghost use Rattle.cf_model.specs.Registers.{closed_after, registers_step};
+ghost use Rattle.cf_model.specs.Rules.{amount_refusal};
+
+use crate::accounts::{LeaveKey, reserve_in};
+use crate::debt::Debt;
+use crate::months::year_of;
+use crate::rows::LeaveRow;
+use cf_base::Day;
+use cf_calls::acts::{BondIssue, LeaveAct, Period};
+use cf_calls::{Act, Drawn};
+use cf_chart::Chart;
+use std::alloc::AllocError;
+
+impl Debt {
+    /// Takes all the memory that `apply` needs for an act. No bond and no leave changes, whatever the answer.
+    pub fn reserve(&mut self, act: &Act) -> Result<(), AllocError>
+        ensures ok { OnOk result (HasRoomFor act.now self.new) }
+        ensures debts { self.new.debts ≡ self.old.debts }
+        ensures acts { self.new.acts ≡ self.old.acts }
+    {
+        match act {
+            Act::Issue(issue) => self.reserve_bond(issue),
+            Act::Leave(leave) => match leave {
+                LeaveAct::Earn(part) => self.reserve_leave(part.fund, part.dept),
+                LeaveAct::Use(part) => self.reserve_leave(part.fund, part.dept),
+                LeaveAct::Mature(part) => self.reserve_leave(part.fund, part.dept),
+            },
+            _ => Ok(()),
+        }
+    }
+
+    fn reserve_bond(&mut self, issue: &BondIssue) -> Result<(), AllocError>
+        ensures ok { OnOk result (HasRoomToIssue (length issue.now.principals) self.new) }
+        ensures debts { self.new.debts ≡ self.old.debts }
+        ensures acts { self.new.acts ≡ self.old.acts }
+    {
+        self.payments.reserve(issue.principals.as_slice().len())?;
+        self.live.reserve(1)?;
+        self.bonds.reserve(1)
+    }
+
+    fn reserve_leave(&mut self, fund: u16, dept: u16) -> Result<(), AllocError>
+        ensures ok { OnOk result (HasRoomForLeave fund dept self.new) }
+        ensures debts { self.new.debts ≡ self.old.debts }
+        ensures acts { self.new.acts ≡ self.old.acts }
+    {
+        self.leave.reserve(1)?;
+        reserve_in(&mut self.left, LeaveKey { fund, dept })
+    }
+
+    /// Takes in an act that the rules allow, and gives the numbers that it draws. It takes no memory, as that was
+    /// reserved. Another act than the register's own is only counted.
+    pub fn apply(&mut self, chart: &Chart, on: Day, desk: u16, act: &Act) -> Drawn
+        requires reserved { HasRoomFor act.now self.old }
+        requires day { is_day on ≡ true }
+        requires form { IsActInForm on act.now }
+        requires amounts { amount_refusal act.now ≡ None }
+        requires there { IsThere self.old.debts.bonds act.now }
+        requires early { IsEarlyIssue chart.now self.old.debts on act.now }
+        requires allowed { debt_refusal chart.now (registers_with self.old.debts) on act.now ≡ None }
+        requires few { self.old.acts < 1048576 }
+        ensures drawn { result ≡ debt_draws self.old.debts.bonds act.now }
+        ensures debts { self.new.debts ≡ debts_of (registers_step chart.now (registers_with self.old.debts) (entry_for desk on act.now result)) }
+        ensures acts { self.new.acts ≡ self.old.acts + 1 }
+    {
+        let drawn = self.draws(act);
+        match act {
+            Act::Issue(issue) => self.enter_bond(chart, on, drawn.number, issue),
+            Act::PayDue(payment) => self.pay(payment),
+            Act::Leave(leave) => self.change_leave(chart, on, leave),
+            Act::Close(period) => self.close(chart, period),
+            _ => self.count_act(),
+        }
+        drawn
+    }
+
+    fn close(&mut self, chart: &Chart, period: &Period)
+        requires form { IsPeriodForm period.now }
+        requires next { order_refusal chart.now (registers_with self.old.debts) (act.Close period.now) ≡ None }
+        requires paid { unpaid_refusal chart.now (registers_with self.old.debts) (act.Close period.now) ≡ None }
+        requires few { self.old.acts < 1048576 }
+        ensures debts { self.new.debts ≡ record self.old.debts { closed = closed_after (act.Close period.now) self.old.debts.closed } }
+        ensures acts { self.new.acts ≡ self.old.acts + 1 }
+    {
+        match period {
+            Period::Month(month) => self.close_month(chart, *month),
+            Period::Year(_) => self.count_act(),
+        }
+    }
+
+    fn change_leave(&mut self, chart: &Chart, on: Day, leave: &LeaveAct)
+        requires reserved { HasRoomToChange leave.now self.old }
+        requires day { is_day on ≡ true }
+        requires amounts { amount_refusal (act.Leave leave.now) ≡ None }
+        requires allowed { leave_refusal (registers_with self.old.debts) (act.Leave leave.now) ≡ None }
+        requires few { self.old.acts < 1048576 }
+        ensures debts { self.new.debts ≡ record self.old.debts {
+          leave = self.old.debts.leave ++ leave_by chart.now on (act.Leave leave.now);
+        } }
+        ensures acts { self.new.acts ≡ self.old.acts + 1 }
+    {
+        let year = year_of(chart, on);
+        match leave {
+            LeaveAct::Earn(part) => self.earn(LeaveRow {
+                fund: part.fund,
+                dept: part.dept,
+                year,
+                amount: part.amount,
+                is_earned: true,
+            }),
+            LeaveAct::Use(part) => self.take(LeaveRow {
+                fund: part.fund,
+                dept: part.dept,
+                year,
+                amount: part.amount,
+                is_earned: false,
+            }),
+            LeaveAct::Mature(part) => self.take(LeaveRow {
+                fund: part.fund,
+                dept: part.dept,
+                year,
+                amount: part.amount,
+                is_earned: false,
+            }),
+        }
+    }
+}

@@ -1,0 +1,18 @@
+//! The register of bonds and of leave.
+#![tactic(auto)]
+
+mod accounts;
+mod apply;
+mod debt;
+mod interest;
+mod look;
+mod months;
+mod rows;
+mod rules;
+mod schedule;
+mod steps;
+mod sums;
+mod years;
+
+pub use debt::{Debt, Due};
+pub use sums::DebtChanges;

@@ -1,0 +1,207 @@
+//! What each act makes of bonds and leave.
+
+ghost use Rattle.std.specs.Prelude.{◌≡◌, ◌≤◌, ◌<◌, ◌+◌, ◌∷◌, ◌++◌, ℕ, [], length, None, true, false, map, slice_index_or, slice_set};
+ghost use Rattle.std.specs.Vec.{vec_capacity};
+ghost use Rattle.cf_base.specs.Calendar.{is_day};
+ghost use Rattle.cf_calls.specs.Form.{IsCallMonth, IsIssueForm};
+ghost use Rattle.cf_calls.specs.declared.acts.Act.TheVariants as act;
+ghost use Rattle.cf_debt.specs.Register.{HasRoomToIssue, HasRoomForLeave, unpaid_of};
+ghost use Rattle.cf_debt.specs.RegisterView.{live_of};
+ghost use Rattle.cf_debt.specs.Rows.{view_leave};
+ghost use Rattle.cf_debt.specs.Steps.{AreNumbered, CanPay, bond_row, paid_row};
+ghost use Rattle.cf_debt.specs.declared.rows.BondRow.{BondRow as Row};
+ghost use Rattle.cf_model.specs.Bonds.{bond_step, bonds_by};
+ghost use Rattle.cf_model.specs.Leave.{leave_of};
+ghost use Rattle.cf_model.specs.Months.{number_of_day};
+ghost use Rattle.cf_model.specs.RegisterRules.{month_at};
+ghost use Rattle.cf_model.specs.Rules.{first_refusal};
+
+use crate::accounts::{LeaveKey, amount_in, put_in};
+use crate::debt::{Debt, interest_of};
+use crate::interest::coupon;
+use crate::months::{number_of, number_of_month, year_of};
+use crate::rows::{BondRow, LeaveRow, Terms};
+use crate::schedule::{add_schedule, push_within};
+use crate::years::add_at;
+use cf_base::{Day, Month};
+use cf_calls::acts::{BondIssue, DebtPayment};
+use cf_chart::Chart;
+
+impl Debt {
+    /// Counts an act that is none of the register's own.
+    pub(crate) fn count_act(&mut self)
+        requires few { self.old.acts < 1048576 }
+        ensures debts { self.new.debts ≡ self.old.debts }
+        ensures acts { self.new.acts ≡ self.old.acts + 1 }
+    {
+        self.acts += 1;
+    }
+
+    /// Enters a bond with its payments.
+    pub(crate) fn enter_bond(&mut self, chart: &Chart, on: Day, number: u32, issue: &BondIssue)
+        requires day { is_day on ≡ true }
+        requires form { IsIssueForm on issue.now }
+        requires number { number ≡ length self.old.debts.bonds + 1 }
+        requires amount { issue.now.amount ≤ 10000000000000 }
+        requires early { self.old.debts.closed ≤ number_of_day chart.now on }
+        requires room { HasRoomToIssue (length issue.now.principals) self.old }
+        requires few { self.old.acts < 1048576 }
+        ensures debts { self.new.debts ≡ record self.old.debts {
+          bonds = self.old.debts.bonds ++ bonds_by chart.now on (act.Issue issue.now) (record { number = number; second = 0 });
+        } }
+        ensures acts { self.new.acts ≡ self.old.acts + 1 }
+    {
+        let row = new_bond(chart, on, number, issue, self.payments.len());
+        let principals = issue.principals.as_slice();
+        add_schedule(
+            &mut self.payments,
+            issue.every,
+            row.month,
+            row.amount,
+            principals,
+        );
+        push_within(&mut self.bonds, row);
+        push_within(&mut self.live, number);
+        add_at(&mut self.issued, row.year - 1970, u128::from(row.amount));
+        self.acts += 1;
+    }
+
+    /// Pays the next payment of a bond.
+    pub(crate) fn pay(&mut self, debt_payment: &DebtPayment)
+        requires left { CanPay debt_payment.now.bond self.old.debts }
+        requires few { self.old.acts < 1048576 }
+        ensures debts { self.new.debts ≡ record self.old.debts {
+          bonds = map (bond_step (act.PayDue debt_payment.now)) self.old.debts.bonds;
+        } }
+        ensures acts { self.new.acts ≡ self.old.acts + 1 }
+    {
+        let _ = &self.bonds;
+        let place = debt_payment.bond as usize - 1;
+        let row = self.bonds[place];
+        let payment = self.payments[row.start + usize::from(row.paid)];
+        let interest = coupon(row.terms, &payment);
+        let year = payment.month / 12;
+        add_at(&mut self.repaid, year, u128::from(payment.principal));
+        add_at(&mut self.coupons, year, u128::from(interest));
+        count_payment(&mut self.bonds, place);
+        self.acts += 1;
+    }
+
+    /// Closes the next month: charges its interest.
+    pub(crate) fn close_month(&mut self, chart: &Chart, month: Month)
+        requires form { IsCallMonth month }
+        requires next { month ≡ month_at chart.now self.old.debts.closed }
+        requires paid { first_refusal (unpaid_of chart.now self.old.debts.closed) self.old.debts.bonds ≡ None }
+        requires few { self.old.acts < 1048576 }
+        ensures debts { self.new.debts ≡ record self.old.debts { closed = self.old.debts.closed + 1 } }
+        ensures acts { self.new.acts ≡ self.old.acts + 1 }
+    {
+        let number = number_of_month(chart, month);
+        let interest = interest_of(&self.payments, &self.bonds, &self.live, self.closed);
+        add_at(&mut self.charged, number / 12, interest);
+        keep_live(&mut self.live, &self.bonds, number + 1);
+        self.closed = number + 1;
+        self.acts += 1;
+    }
+
+    /// Takes in leave that was earned.
+    pub(crate) fn earn(&mut self, row: LeaveRow)
+        requires earned { row.is_earned ≡ true }
+        requires from { 1970 ≤ row.year }
+        requires to { row.year ≤ 2200 }
+        requires amount { row.amount ≤ 10000000000000 }
+        requires room { HasRoomForLeave row.fund row.dept self.old }
+        requires few { self.old.acts < 1048576 }
+        ensures debts { self.new.debts ≡ record self.old.debts { leave = self.old.debts.leave ++ view_leave row ∷ [] } }
+        ensures acts { self.new.acts ≡ self.old.acts + 1 }
+    {
+        let key = LeaveKey {
+            fund: row.fund,
+            dept: row.dept,
+        };
+        let left = amount_in(&self.left, key) + row.amount;
+        put_in(&mut self.left, key, left);
+        add_at(&mut self.earned, row.year - 1970, u128::from(row.amount));
+        push_within(&mut self.leave, row);
+        self.acts += 1;
+    }
+
+    /// Takes in leave that was used or paid.
+    pub(crate) fn take(&mut self, row: LeaveRow)
+        requires taken { row.is_earned ≡ false }
+        requires from { 1970 ≤ row.year }
+        requires to { row.year ≤ 2200 }
+        requires left { row.amount ≤ leave_of row.fund row.dept self.old.debts.leave }
+        requires amount { row.amount ≤ 10000000000000 }
+        requires room { HasRoomForLeave row.fund row.dept self.old }
+        requires few { self.old.acts < 1048576 }
+        ensures debts { self.new.debts ≡ record self.old.debts { leave = self.old.debts.leave ++ view_leave row ∷ [] } }
+        ensures acts { self.new.acts ≡ self.old.acts + 1 }
+    {
+        let key = LeaveKey {
+            fund: row.fund,
+            dept: row.dept,
+        };
+        let left = amount_in(&self.left, key) - row.amount;
+        put_in(&mut self.left, key, left);
+        add_at(&mut self.taken, row.year - 1970, u128::from(row.amount));
+        push_within(&mut self.leave, row);
+        self.acts += 1;
+    }
+}
+
+/// The row of a new bond, whose payments begin at a place.
+fn new_bond(chart: &Chart, on: Day, number: u32, issue: &BondIssue, start: usize) -> BondRow
+    requires day { is_day on ≡ true }
+    requires form { IsIssueForm on issue.now }
+    ensures row { result ≡ bond_row chart.now on number issue.now start }
+    ensures last { result.last ≤ 2759 }
+{
+    let month = number_of(chart, on);
+    let count = issue.principals.as_slice().len() as u16;
+    BondRow {
+        number,
+        fund: issue.fund,
+        amount: issue.amount,
+        year: year_of(chart, on),
+        month,
+        terms: Terms {
+            every: issue.every,
+            day: on.day,
+            rate_bp: issue.rate_bp,
+        },
+        start,
+        count,
+        last: month + issue.every * count,
+        paid: 0,
+    }
+}
+
+/// Counts a payment of the bond at a place.
+fn count_payment(bonds: &mut Vec<BondRow>, place: usize)
+    requires within { place < length bonds.old.items }
+    requires fits { (d : Row) → (slice_index_or bonds.old.items place d).paid < 65535 }
+    ensures { (d : Row) → bonds.new.items ≡ slice_set bonds.old.items place (paid_row (slice_index_or bonds.old.items place d)) }
+{
+    let mut row = bonds[place];
+    row.paid += 1;
+    bonds[place] = row;
+}
+
+/// Leaves the numbers of the bonds whose last payment is due in none of the first so many months.
+fn keep_live(live: &mut Vec<u32>, bonds: &[BondRow], closed: u16)
+    requires from { (was : ℕ) × (was ≤ closed) × (live.old.items ≡ live_of was bonds.now) }
+    requires numbered { AreNumbered bonds.now }
+    ensures items { live.new.items ≡ live_of closed bonds.now }
+    ensures room { vec_capacity live.new ≡ vec_capacity live.old }
+{
+    let mut kept = 0;
+    for k in 0..live.len() {
+        let number = live[k];
+        if closed <= bonds[number as usize - 1].last {
+            live[kept] = number;
+            kept += 1;
+        }
+    }
+    live.truncate(kept);
+}

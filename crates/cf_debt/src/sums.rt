@@ -1,0 +1,80 @@
+//! Sums by fiscal year, for the reconciliation (GASB Statement 34).
+
+ghost use Rattle.std.specs.Prelude.{◌≡◌, ◌≤◌, ◌<◌, ◌^◌, ◌-ℤ◌, pos, unsigned_abs};
+ghost use Rattle.cf_debt.specs.Register.{registers_with, debt_changes};
+ghost use Rattle.cf_model.specs.Items as items;
+
+use crate::debt::Debt;
+use crate::months::years_to;
+use crate::years::total_of;
+use cf_chart::Chart;
+
+/// What bonds add to the change of a fiscal year, in cents.
+#[derive(Clone, Copy)]
+pub struct DebtChanges {
+    /// Of bonds issued in the year: below zero.
+    pub proceeds: i128,
+    /// The principal of paid payments that were due in the year.
+    pub principal_paid: i128,
+}
+
+impl Debt {
+    /// Bonds payable through a fiscal year up to 2200, in cents: what was issued, less the principal paid of payments
+    /// that were due.
+    pub fn principal_left(&self, chart: &Chart, year: u16) -> i128
+        requires { year ≤ 2200 }
+        ensures value { result ≡ items.bonds chart.now year (registers_with self.now.debts) }
+        ensures small { unsigned_abs result < 2 ^ 100 }
+    {
+        let issued = total_of(&self.issued, year.saturating_sub(1969));
+        let repaid = total_of(&self.repaid, years_to(chart, year));
+        difference(issued, repaid)
+    }
+
+    /// Accrued interest through a fiscal year up to 2200, in cents: what was charged for its closed months, less the
+    /// coupons paid of payments that were due. It may be below zero.
+    pub fn accrued(&self, chart: &Chart, year: u16) -> i128
+        requires { year ≤ 2200 }
+        ensures value { result ≡ items.accrued chart.now year (registers_with self.now.debts) }
+        ensures small { unsigned_abs result < 2 ^ 100 }
+    {
+        let charged = total_of(&self.charged, years_to(chart, year));
+        let coupons = total_of(&self.coupons, years_to(chart, year));
+        difference(charged, coupons)
+    }
+
+    /// Compensated absences through a fiscal year, in cents (GASB Statement 101).
+    pub fn leave_left(&self, year: u16) -> i128
+        ensures value { result ≡ items.absences year (registers_with self.now.debts) }
+        ensures small { unsigned_abs result < 2 ^ 100 }
+    {
+        let earned = total_of(&self.earned, year.saturating_sub(1969));
+        let taken = total_of(&self.taken, year.saturating_sub(1969));
+        difference(earned, taken)
+    }
+
+    /// What bonds add to the change of a fiscal year from 1971 to 2200.
+    pub fn year_changes(&self, chart: &Chart, year: u16) -> DebtChanges
+        requires from { 1971 ≤ year }
+        requires to { year ≤ 2200 }
+        ensures { result ≡ debt_changes chart.now year (registers_with self.now.debts) }
+    {
+        let issued = total_of(&self.issued, year - 1969);
+        let issued_before = total_of(&self.issued, year - 1970);
+        let repaid = total_of(&self.repaid, years_to(chart, year));
+        let repaid_before = total_of(&self.repaid, years_to(chart, year).saturating_sub(1));
+        DebtChanges {
+            proceeds: difference(issued_before, issued),
+            principal_paid: difference(repaid, repaid_before),
+        }
+    }
+}
+
+pub(crate) fn difference(a: u128, b: u128) -> i128
+    requires from { a < 2 ^ 100 }
+    requires to { b < 2 ^ 100 }
+    ensures value { result ≡ pos a -ℤ pos b }
+    ensures small { unsigned_abs result < 2 ^ 100 }
+{
+    a as i128 - b as i128
+}
