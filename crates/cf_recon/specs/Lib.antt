@@ -1,0 +1,3 @@
+pub mod ChangeItems
+pub mod Registers
+pub mod Rows
