@@ -7,20 +7,24 @@ use Rattle.cf_model.specs.Step.{Adds, IsLegal}
 use Rattle.cf_model.proofs.Accepted.{accepted_fits}
 use Rattle.cf_model.proofs.Balanced.{each_balances}
 use Rattle.cf_model.proofs.CashKept.{cash_at_each}
+use Rattle.cf_model.proofs.Lawful.{IsWhole}
 use Rattle.cf_model.proofs.Legal.{legal_push}
+use Rattle.cf_model.proofs.LegalReconciled.{changes_at_each, reconciles_at_each}
 use Rattle.cf_model.proofs.Room.{room_always}
 
-pub legal_sound : (plan : Plan) (h : List Entry) → IsLegal plan h → length h ≤ 1048576 → IsSoundState (record { plan = plan; entries = h })
-legal_sound plan h legal few = record {
+pub legal_sound : (plan : Plan) (h : List Entry) → IsWhole plan → IsLegal plan h → length h ≤ 1048576 → IsSoundState (record { plan = plan; entries = h })
+legal_sound plan h whole legal few = record {
   legal = legal;
   few = few;
   control = λ n. room_always plan h legal n;
   cash = cash_at_each plan h legal;
   balanced = each_balances plan h;
+  reconciles = reconciles_at_each plan h whole legal;
+  changes = changes_at_each plan h whole legal;
 }
 
 -- with an entry more that the step adds
-pub sound_push : (plan : Plan) (h : List Entry) (e : Entry) → IsLegal plan h → Adds plan h e → IsSoundState (record { plan = plan; entries = h ++ e ∷ [] })
-sound_push plan h e legal adds =
+pub sound_push : (plan : Plan) (h : List Entry) (e : Entry) → IsWhole plan → IsLegal plan h → Adds plan h e → IsSoundState (record { plan = plan; entries = h ++ e ∷ [] })
+sound_push plan h e whole legal adds =
     let one : length (h ++ e ∷ []) ≡ length h + 1 = length-append h (e ∷ []) in
-    legal_sound plan (h ++ e ∷ []) (legal_push plan h e legal adds) (omega (arith, one, accepted_fits plan h e adds))
+    legal_sound plan (h ++ e ∷ []) whole (legal_push plan h e legal adds) (omega (arith, one, accepted_fits plan h e adds))

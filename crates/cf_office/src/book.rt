@@ -1,12 +1,15 @@
 //! The office that answers by running numbers and look-ups.
 
-ghost use Rattle.std.specs.Prelude.{◌≡◌, ◌++◌, ◌∷◌, [], IfOk, IfSome, OnOk, OnErr};
+ghost use Rattle.std.specs.Prelude.{ℕ, true, ◌≡◌, ◌++◌, ◌∷◌, [], IfOk, IfSome, OnOk, OnErr};
+ghost use Rattle.cf_budget.specs.Tables.{has_line};
 ghost use Rattle.cf_calls.specs.declared.entry.Entry.{Entry};
+ghost use Rattle.cf_model.proofs.Lawful.{IsWhole};
 ghost use Rattle.cf_model.specs.Registers.{registers_of};
 ghost use Rattle.cf_model.specs.Results.{made_of};
 ghost use Rattle.cf_model.specs.State.{IsSoundState};
 ghost use Rattle.cf_model.specs.Step.{Adds};
 ghost use Rattle.cf_office.specs.BookState.{IsPrepared};
+ghost use Rattle.cf_office.specs.Moved.{AreTablesOf};
 
 use crate::history::History;
 use crate::prepared::{Prepared, apply_lines, apply_rest, reserve};
@@ -14,6 +17,7 @@ use crate::registers::Registers;
 use crate::rest::Rest;
 use cf_base::Day;
 use cf_budget::Lines;
+use cf_calls::shown::ReconShown;
 use cf_calls::{Basis, Change, Entry, LineNumbers, Made};
 use cf_chart::{Chart, LineId};
 use std::alloc::{AllocError, Global};
@@ -50,10 +54,11 @@ impl BookOffice {
         }
     }
 
-    /// The entries. They are a legal history: at each place of it no control line is overspent in any year and no
-    /// fund's cash is below zero, and each entry balances.
+    /// The entries. They are a legal history: at each place of it no control line is overspent in any year, no fund's
+    /// cash is below zero, and fund balances reconcile with net position, and each entry balances.
     pub fn entries(&self) -> &[Entry]
         ensures value { result.now ≡ self.now.entries }
+        ensures whole { IsWhole self.now.plan }
         ensures sound { IsSoundState (record { plan = self.now.plan; entries = self.now.entries }) }
     {
         self.rest.entries()
@@ -91,12 +96,25 @@ impl BookOffice {
         let prepared = self.reserve(entry)?;
         Ok(self.apply(prepared))
     }
+
+    /// The line numbers, which are there for every line, and the rest.
+    pub fn into_parts(self) -> (Lines, Rest)
+        ensures plan { result.1.plan ≡ self.plan }
+        ensures entries { result.1.entries ≡ self.entries }
+        ensures tables { AreTablesOf self.plan self.entries result.0 }
+        ensures whole { (line : ℕ) → has_line result.0 line ≡ true }
+    {
+        let BookOffice { lines, rest } = self;
+        (lines, rest)
+    }
 }
 
 impl History for BookOffice {
     ghost plan = { λ s. s.plan };
 
     ghost entries = { λ s. s.entries };
+
+    ghost lends = { λ _ _. true };
 
     fn chart(&self) -> &Chart {
         self.rest.chart()
@@ -136,6 +154,10 @@ impl History for BookOffice {
 
     fn balance(&self, basis: Basis, year: u16, fund: u16, account: u32) -> i128 {
         self.rest.balance(basis, year, fund, account)
+    }
+
+    fn recon(&self, year: u16) -> ReconShown {
+        self.rest.recon(year)
     }
 
     fn numbers(&self, line: u16, year: u16) -> LineNumbers {

@@ -12,9 +12,10 @@ ghost use Rattle.cf_model.specs.Registers.{registers_of};
 ghost use Rattle.cf_model.specs.Results as results;
 ghost use Rattle.cf_model.specs.Step as step;
 ghost use Rattle.cf_office.specs.Least.{is_before as spec_is_before, lesser as spec_lesser, least_from, excess_by, refusal_in};
+ghost use Rattle.cf_office.specs.Lines.{LendsTouched};
 ghost use Rattle.cf_office.specs.Moved.{act_moves, asks_of, is_inside, AreSmallSums, IsCleared};
 
-use crate::history::{History, orders_of};
+use crate::history::History;
 use crate::moves::merged_moves;
 use cf_base::Day;
 use cf_budget::{LineChange, Row};
@@ -74,6 +75,7 @@ fn lesser(first: Option<Excess>, second: Option<Excess>) -> Option<Excess>
 /// What a change asks too much of its line and year.
 fn change_excess<H: History>(history: &H, change: &LineChange) -> Option<Excess>
     requires inside { is_inside (H.plan history.now) change.now.line.number change.now.year ≡ true }
+    requires lent { H.lends history.now change.now.line.number ≡ true }
     requires small { AreSmallSums change.now.by }
     ensures { result ≡ excess_by (λ line year. numbers.room (H.plan history.now) line year (H.entries history.now)) change.now }
 {
@@ -91,6 +93,7 @@ fn change_excess<H: History>(history: &H, change: &LineChange) -> Option<Excess>
 /// The least line, and its least year, of which one of these changes asks too much.
 fn least_excess<H: History>(history: &H, changes: &[LineChange]) -> Option<Excess>
     requires inside { list_all (λ c. is_inside (H.plan history.now) c.line.number c.year) changes.now ≡ true }
+    requires lent { All (λ c. H.lends history.now c.line.number ≡ true) changes.now }
     requires small { All (λ c. AreSmallSums c.by) changes.now }
     ensures { result ≡ least_from (excess_by (λ line year. numbers.room (H.plan history.now) line year (H.entries history.now))) None changes.now }
 {
@@ -103,12 +106,13 @@ fn least_excess<H: History>(history: &H, changes: &[LineChange]) -> Option<Exces
 
 /// Too much is asked by an act's moves: the least line.
 fn moves_rule<H: History>(history: &H, on: Day, act: &Act) -> Option<Refusal>
-    requires { IsCleared (H.plan history.now) (documents_of (H.plan history.now) (H.entries history.now)) on act.now }
+    requires lent { LendsTouched (H.plan history.now) (H.lends history.now) act.now }
+    requires cleared { IsCleared (H.plan history.now) (registers_of (H.plan history.now) (H.entries history.now)) on act.now }
     ensures { result ≡ spec.first_below
-        (λ line. spec.first_below (λ year. spec.overspends line (asks_of_moves (H.plan history.now) line year (act_moves (H.plan history.now) (documents_of (H.plan history.now) (H.entries history.now)) on act.now)) (numbers.room (H.plan history.now) line year (H.entries history.now))) 2201)
+        (λ line. spec.first_below (λ year. spec.overspends line (asks_of_moves (H.plan history.now) line year (act_moves (H.plan history.now) (registers_of (H.plan history.now) (H.entries history.now)) on act.now)) (numbers.room (H.plan history.now) line year (H.entries history.now))) 2201)
         (length (H.plan history.now).lines) }
 {
-    let changes = merged_moves(history.chart(), orders_of(history), on, act);
+    let changes = merged_moves(history.chart(), history.registers(), on, act);
     refusal_of(least_excess(history, changes.as_slice()))
 }
 
@@ -121,9 +125,9 @@ fn refusal_of(excess: Option<Excess>) -> Option<Refusal>
     }
 }
 
-/// More is asked of a control line than it has room for (GASB Codification 1700: budgetary control), of the
-/// changes that the office knows.
+/// More is asked of a control line than it has room for (GASB Codification 1700: budgetary control).
 pub fn exceed_rule<H: History>(history: &H, change: &Change) -> Option<Refusal>
+    requires lent { LendsTouched (H.plan history.now) (H.lends history.now) change.now.act }
     requires legal { step.IsLegal (H.plan history.now) (H.entries history.now) }
     requires form { IsChangeInForm change.now }
     requires built { step.is_built (H.plan history.now) change.now.act ≡ true }
@@ -137,12 +141,15 @@ pub fn exceed_rule<H: History>(history: &H, change: &Change) -> Option<Refusal>
     if let Some(transfer) = change.act.line_transfer() {
         return transfer_rule(history, transfer);
     }
+    // So that the proof knows the chart's calendar.
+    let _whole = history.chart();
     moves_rule(history, change.on, &change.act)
 }
 
 fn amendment_rule<H: History>(history: &H, amendment: &Amendment) -> Option<Refusal>
     requires line { amendment.now.line < length (H.plan history.now).lines }
     requires year { amendment.now.year < 2201 }
+    requires lent { H.lends history.now amendment.now.line ≡ true }
     ensures { result ≡ spec.overspends amendment.now.line (pos (numbers.fall_of amendment.now.by))
         (numbers.room (H.plan history.now) amendment.now.line amendment.now.year (H.entries history.now)) }
 {
@@ -154,6 +161,7 @@ fn amendment_rule<H: History>(history: &H, amendment: &Amendment) -> Option<Refu
 fn transfer_rule<H: History>(history: &H, transfer: &LineTransfer) -> Option<Refusal>
     requires line { transfer.now.from < length (H.plan history.now).lines }
     requires year { transfer.now.year < 2201 }
+    requires lent { H.lends history.now transfer.now.from ≡ true }
     ensures { result ≡ spec.overspends transfer.now.from (pos transfer.now.amount)
         (numbers.room (H.plan history.now) transfer.now.from transfer.now.year (H.entries history.now)) }
 {

@@ -1,34 +1,27 @@
 //! The verdict on a change, and the answer of a look: the rules in their order, over any history.
 
-ghost use Rattle.std.specs.Prelude.{◌≡◌, ◌<◌, true, None, IfOk};
+ghost use Rattle.std.specs.Prelude.{◌≡◌, ◌<◌, true, None, Some, IfOk};
+ghost use Rattle.cf_base.specs.Calendar.{is_day};
 ghost use Rattle.cf_calls.specs.Form.{IsChangeInForm, IsReadInForm};
 ghost use Rattle.cf_model.specs.Documents.{documents_of};
-ghost use Rattle.cf_base.specs.Calendar.{is_day};
-ghost use Rattle.cf_model.specs.DocumentRules.{document_refusal};
-ghost use Rattle.cf_office.specs.RegistersState.{register_shown};
-ghost use Rattle.cf_model.specs.Rules as rules;
-ghost use Rattle.cf_model.specs.Results as results;
-ghost use Rattle.cf_model.specs.Step as step;
-ghost use Rattle.cf_model.specs.ReceivableRules.{receivable_refusal};
-ghost use Rattle.cf_model.specs.Receivables.{bill_at};
+ghost use Rattle.cf_office.specs.Lines.{LendsTouched, LendsRead};
+ghost use Rattle.cf_model.specs.RegisterRules.{register_name_refusal};
 ghost use Rattle.cf_model.specs.Registers.{registers_of};
-ghost use Rattle.cf_model.proofs.Entered.{made_known as spec_made_known};
+ghost use Rattle.cf_model.specs.Rules as rules;
+ghost use Rattle.cf_model.specs.Step as step;
+ghost use Rattle.cf_office.specs.RegistersState.{register_rules, register_shown};
 
 use crate::cash::cash_rule;
 use crate::exceeds::exceed_rule;
-use crate::history::{History, orders_of};
-use crate::names::{name_rule, register_name_rule};
+use crate::history::{History, debt_of, orders_of};
+use crate::names::name_rule;
+use crate::register_names::{leave_fault, register_name_rule};
 use crate::registers::Registers;
 use crate::rules::{
-    adopted_rule, ahead_rule, amount_rule, closed_rule, desk_rule, full_rule, is_built, levy_rule,
-    or, period_rule, role_rule, unadopted_rule, year_rule,
+    adopted_rule, ahead_rule, amount_rule, closed_rule, closing_rule, desk_rule, full_rule,
+    is_built, levy_rule, or, payment_rule, period_rule, role_rule, unadopted_rule, year_rule,
 };
-use cf_base::Day;
-use cf_calls::{
-    Act, Body, Change, Drawn, Entry, Look, Made, NameKind, Read, Refusal, Shown, Verdict,
-};
-use cf_chart::Chart;
-use cf_revenue::Revenue;
+use cf_calls::{Body, Change, Look, NameKind, Read, Refusal, Shown, Verdict};
 use std::alloc::{AllocError, Global};
 
 /// The rules before a repeat: an unknown desk, and a caller that has seen more than the history has.
@@ -43,7 +36,6 @@ fn first_rules<H: History>(history: &H, change: &Change) -> Option<Refusal>
 
 /// The rules of the desk's role, the history's length, amounts and names.
 fn call_rules<H: History>(history: &H, change: &Change) -> Option<Refusal>
-    requires { step.is_built (H.plan history.now) change.now.act ≡ true }
     ensures first { result ≡ rules.first_of (step.call_rules (H.plan history.now) (H.entries history.now) change.now) }
 {
     let chart = history.chart();
@@ -54,7 +46,7 @@ fn call_rules<H: History>(history: &H, change: &Change) -> Option<Refusal>
     if let Some(refusal) = full_rule(history.len()) {
         return Some(refusal);
     }
-    if let Some(refusal) = amount_rule(chart, act) {
+    if let Some(refusal) = amount_rule(act) {
         return Some(refusal);
     }
     if let Some(refusal) = name_rule(chart, orders_of(history), act) {
@@ -74,6 +66,9 @@ fn period_rules<H: History>(history: &H, change: &Change) -> Option<Refusal>
     if let Some(refusal) = year_rule(history, change.on, &change.act) {
         return Some(refusal);
     }
+    if let Some(refusal) = closing_rule(history, change.on, &change.act) {
+        return Some(refusal);
+    }
     if let Some(refusal) = levy_rule(history, change.on, &change.act) {
         return Some(refusal);
     }
@@ -83,27 +78,31 @@ fn period_rules<H: History>(history: &H, change: &Change) -> Option<Refusal>
     if let Some(refusal) = adopted_rule(history, &change.act) {
         return Some(refusal);
     }
-    or(unadopted_rule(history, change.on, &change.act), None)
+    if let Some(refusal) = unadopted_rule(history, change.on, &change.act) {
+        return Some(refusal);
+    }
+    or(payment_rule(history, &change.act), None)
 }
 
 /// The first broken rule of the registers.
 fn register_rule<H: History>(history: &H, change: &Change) -> Option<Refusal>
     requires { is_day change.now.on ≡ true }
-    ensures { result ≡ rules.or_else
-        (document_refusal (H.plan history.now) (documents_of (H.plan history.now) (H.entries history.now)) change.now.on change.now.desk change.now.act)
-        (receivable_refusal (registers_of (H.plan history.now) (H.entries history.now)).receivables change.now.act) }
+    ensures { result ≡ rules.first_of (register_rules (H.plan history.now) (registers_of (H.plan history.now) (H.entries history.now)) change.now.on change.now.desk change.now.act) }
 {
     history
         .registers()
         .check(history.chart(), change.on, change.desk, &change.act)
 }
 
-/// The rules on the states of documents, on what is left of bills and loans, of room, and of cash.
+/// The rules on the states of documents, on what is left of bills and loans, on assets, debt, leave and the order of
+/// months, of room, and of cash.
 #[tactic(auto, using(cf_model::proofs::First::rule_lists))]
 fn last_rules<H: History>(history: &H, change: &Change) -> Option<Refusal>
+    requires lent { LendsTouched (H.plan history.now) (H.lends history.now) change.now.act }
     requires form { IsChangeInForm change.now }
     requires built { step.is_built (H.plan history.now) change.now.act ≡ true }
     requires names { rules.name_refusal (H.plan history.now) (documents_of (H.plan history.now) (H.entries history.now)) change.now.act ≡ None }
+    requires register_names { register_name_refusal (H.plan history.now) (registers_of (H.plan history.now) (H.entries history.now)) change.now.act ≡ None }
     ensures { result ≡ rules.first_of (step.last_rules (H.plan history.now) (H.entries history.now) change.now) }
 {
     // So that the proof knows that the history is legal.
@@ -120,6 +119,7 @@ fn last_rules<H: History>(history: &H, change: &Change) -> Option<Refusal>
 /// The rules after a repeat, the least broken one first.
 #[tactic(auto, using(cf_model::proofs::First::rule_lists))]
 fn later_rules<H: History>(history: &H, change: &Change) -> Option<Refusal>
+    requires lent { LendsTouched (H.plan history.now) (H.lends history.now) change.now.act }
     requires form { IsChangeInForm change.now }
     requires built { step.is_built (H.plan history.now) change.now.act ≡ true }
     ensures { result ≡ rules.first_of (step.later_rules (H.plan history.now) (H.entries history.now) change.now) }
@@ -145,17 +145,19 @@ fn judge_known<H: History>(history: &H, change: &Change, was: u64) -> Verdict
 }
 
 fn judge_new<H: History>(history: &H, change: &Change) -> Verdict
+    requires lent { LendsTouched (H.plan history.now) (H.lends history.now) change.now.act }
     requires form { IsChangeInForm change.now }
     requires built { step.is_built (H.plan history.now) change.now.act ≡ true }
     ensures { result ≡ step.verdict_new (H.plan history.now) (H.entries history.now) change.now None }
 {
     match later_rules(history, change) {
         Some(refusal) => Verdict::Refuse(refusal),
-        None => Verdict::Accept(history.registers().draws(history.chart(), &change.act)),
+        None => Verdict::Accept(history.registers().draws(&change.act)),
     }
 }
 
 fn judge_built<H: History>(history: &H, change: &Change) -> Verdict
+    requires lent { LendsTouched (H.plan history.now) (H.lends history.now) change.now.act }
     requires form { IsChangeInForm change.now }
     requires built { step.is_built (H.plan history.now) change.now.act ≡ true }
     ensures { result ≡ step.verdict_after (H.plan history.now) (H.entries history.now) change.now
@@ -174,7 +176,8 @@ fn judge_built<H: History>(history: &H, change: &Change) -> Verdict
 /// repeats an earlier call, the least broken rule with its values, or that the office doesn't know the change
 /// yet. It takes no memory.
 pub fn judge<H: History>(history: &H, change: &Change) -> Verdict
-    requires { IsChangeInForm change.now }
+    requires form { IsChangeInForm change.now }
+    requires lent { LendsTouched (H.plan history.now) (H.lends history.now) change.now.act }
     ensures { result ≡ step.verdict_of (H.plan history.now) (H.entries history.now) change.now }
 {
     if is_built(history.chart(), &change.act) {
@@ -184,55 +187,10 @@ pub fn judge<H: History>(history: &H, change: &Change) -> Verdict
     }
 }
 
-/// What an accepted entry made, over the registers before it.
-pub(crate) fn made_of(chart: &Chart, registers: &Registers, entry: &Entry) -> Made
-    requires built { step.is_built chart.now entry.now.change.act ≡ true }
-    requires day { is_day entry.now.change.on ≡ true }
-    ensures { result ≡ results.made_of chart.now registers.now.registers entry.now }
-{
-    let change = &entry.change;
-    made_known(
-        chart,
-        registers.revenue(),
-        change.on,
-        entry.drawn,
-        &change.act,
-    )
-}
-
-/// The fiscal year that a collection on a bill is revenue of.
-fn made_year(chart: &Chart, revenue: &Revenue, on: Day, bill: u32) -> Made
-    requires { is_day on ≡ true }
-    ensures { result ≡ results.made_year chart.now on (bill_at bill revenue.now.receivables.bills) }
-{
-    match revenue.collected_year(chart, on, bill) {
-        Some(year) => Made::Year { year },
-        None => Made::Nothing,
-    }
-}
-
-fn made_known(chart: &Chart, revenue: &Revenue, on: Day, drawn: Drawn, act: &Act) -> Made
-    requires { is_day on ≡ true }
-    ensures { result ≡ spec_made_known chart.now revenue.now.receivables on drawn act.now }
-{
-    let number = drawn.number;
-    match act {
-        Act::Bill(_) => Made::Bill { number },
-        Act::Collect(part) => made_year(chart, revenue, on, part.bill),
-        Act::Requisition(_) => Made::Requisition { number },
-        Act::Order(_) => Made::Order { number },
-        Act::Voucher(_) => Made::Voucher {
-            number,
-            first_asset: drawn.second,
-            assets: 0,
-        },
-        _ => Made::Nothing,
-    }
-}
-
 /// The numbers of a line and year, or that there is no such line.
 fn show_line<H: History>(history: &H, line: u16, year: u16) -> Body
-    requires { year < 2201 }
+    requires year { year < 2201 }
+    requires lent { H.lends history.now line ≡ true }
     ensures { result ≡ step.line_shown (H.plan history.now) (H.entries history.now) line year }
 {
     match history.chart().line(line) {
@@ -246,7 +204,7 @@ fn show_line<H: History>(history: &H, line: u16, year: u16) -> Body
 
 /// What a look at a document or a bill shows, if there is one of its number.
 fn look_at<H: History>(alloc: Global, history: &H, read: &Read) -> Result<Option<Shown>, AllocError>
-    ensures { IfOk result (λ s. s ≡ register_shown (H.plan history.now) (documents_of (H.plan history.now) (H.entries history.now)) (registers_of (H.plan history.now) (H.entries history.now)).receivables read.now) }
+    ensures { IfOk result (λ s. s ≡ register_shown (H.plan history.now) (registers_of (H.plan history.now) (H.entries history.now)) read.now) }
 {
     history.registers().look(alloc, history.chart(), read)
 }
@@ -259,7 +217,7 @@ fn show_numbered<H: History>(
     number: u32,
     read: &Read,
 ) -> Result<Body, AllocError>
-    ensures { IfOk result (λ b. b ≡ step.or_refused kind number (register_shown (H.plan history.now) (documents_of (H.plan history.now) (H.entries history.now)) (registers_of (H.plan history.now) (H.entries history.now)).receivables read.now)) }
+    ensures { IfOk result (λ b. b ≡ step.or_refused kind number (register_shown (H.plan history.now) (registers_of (H.plan history.now) (H.entries history.now)) read.now)) }
 {
     match look_at(alloc, history, read)? {
         Some(shown) => Ok(Body::Shown(shown)),
@@ -267,9 +225,22 @@ fn show_numbered<H: History>(
     }
 }
 
+/// The leave of a fund's department that is left, or that there is no such fund or department.
+fn show_leave<H: History>(history: &H, fund: u16, dept: u16) -> Body
+    ensures { Some result ≡ step.shown_of (H.plan history.now) (H.entries history.now) (Read.Leave fund dept) }
+{
+    match leave_fault(history.chart(), fund, dept) {
+        Some(refusal) => Body::Refused(refusal),
+        None => Body::Shown(Shown::Leave {
+            left: debt_of(history).leave_of(fund, dept),
+        }),
+    }
+}
+
 /// What a look shows, but for what its caller has seen.
 fn show<H: History>(alloc: Global, history: &H, read: &Read) -> Result<Option<Body>, AllocError>
-    requires { IsReadInForm read.now }
+    requires form { IsReadInForm read.now }
+    requires lent { LendsRead (H.lends history.now) read.now }
     ensures { IfOk result (λ b. b ≡ step.shown_of (H.plan history.now) (H.entries history.now) read.now) }
 {
     match *read {
@@ -290,6 +261,15 @@ fn show<H: History>(alloc: Global, history: &H, read: &Read) -> Result<Option<Bo
             let body = show_numbered(alloc, history, NameKind::Bill, bill, read)?;
             Ok(Some(body))
         }
+        Read::Asset { asset } => {
+            let body = show_numbered(alloc, history, NameKind::Asset, asset, read)?;
+            Ok(Some(body))
+        }
+        Read::Bond { bond } => {
+            let body = show_numbered(alloc, history, NameKind::Bond, bond, read)?;
+            Ok(Some(body))
+        }
+        Read::Leave { fund, dept } => Ok(Some(show_leave(history, fund, dept))),
         Read::Account {
             basis,
             year,
@@ -298,6 +278,10 @@ fn show<H: History>(alloc: Global, history: &H, read: &Read) -> Result<Option<Bo
         } => {
             let balance = history.balance(basis, year, fund, account);
             Ok(Some(Body::Shown(Shown::Account { balance })))
+        }
+        Read::Reconcile { year } => {
+            let recon = history.recon(year);
+            Ok(Some(Body::Shown(Shown::Reconcile(recon))))
         }
         _ => Ok(None),
     }
@@ -311,7 +295,8 @@ pub fn answer<H: History>(
     history: &H,
     look: &Look,
 ) -> Result<Option<Body>, AllocError>
-    requires { IsReadInForm look.now.read }
+    requires form { IsReadInForm look.now.read }
+    requires lent { LendsRead (H.lends history.now) look.now.read }
     ensures { IfOk result (λ b. b ≡ step.look_body (H.plan history.now) (H.entries history.now) look.now) }
 {
     let body = show(alloc, history, &look.read)?;
