@@ -2,6 +2,7 @@
 #![tactic(auto)]
 
 mod clerk;
+mod cut;
 mod script;
 mod stage;
 

@@ -8,7 +8,7 @@
 //! | `repeat N TEXT` | adds it so many times |
 //! | `answer WORD` | how calls in form are answered from here on: `accepted`, `refused`, `disk`, `memory` |
 //! | `fail N`, `limit N` | the next link's read N, from 0, fails; it takes N bytes |
-//! | `play`, `play N ..`, `play each` | serves the link in one piece, and again in pieces of N bytes, or of every number of bytes up to its length; prints what it was answered, and where that differs by the pieces |
+//! | `play`, `play N ..`, `play each` | serves the link in one piece, and again in pieces of N bytes, and as N bytes and then all the rest; with `each` so for every number of bytes up to its length; prints what it was answered, and where that differs by the pieces |
 //! | `count` | serves the link, each request by one fixed answer, and prints how it ended and how many bytes it took |
 //! | `link N` | lets the link be the next one of the door, in pieces of N bytes |
 //! | `door LINKS N` | serves so many links of the door, whose call N of `next` fails, from 1 |
@@ -96,11 +96,16 @@ fn is_same(one: &Played, other: &Played) -> bool {
         && one.asked == other.asked
 }
 
-/// Serves the link in pieces, and prints what differs.
+/// Serves the link in pieces, and as a first piece and the rest, and prints what differs.
 fn compare(rt: &impl Print, stage: &Stage, whole: &Played, piece: usize) -> io::Result<()> {
     let played = stage.serve(piece)?;
     if !is_same(whole, &played) {
         println!(rt; "! in pieces of {piece}")?;
+        print_played(rt, stage.alloc, &played)?;
+    }
+    let played = stage.serve_cut(piece)?;
+    if !is_same(whole, &played) {
+        println!(rt; "! as {piece} bytes and the rest")?;
         print_played(rt, stage.alloc, &played)?;
     }
     Ok(())

@@ -1,6 +1,7 @@
 //! What a script has set up, and one run over it.
 
 use crate::clerk::{Clerk, FixedAnswer, Verdict};
+use crate::cut::CutLink;
 use cf_http::{DoorEnd, LinkEnd, serve_door, serve_link};
 use cf_links::{Coming, MemDoor, MemLink};
 use std::alloc::{AllocError, Global};
@@ -55,13 +56,29 @@ impl Stage {
         }
     }
 
+    /// A link that gives the text in pieces of at most so many bytes.
+    fn link(&self, piece: usize) -> Result<MemLink, AllocError> {
+        let bytes = Vec::from_slice(self.alloc, self.text.as_slice())?;
+        Ok(MemLink::failing(self.alloc, bytes, piece, self.fail_at, self.limit))
+    }
+
     /// Serves a link that gives the text in pieces of at most so many bytes.
     pub fn serve(&self, piece: usize) -> Result<Played, AllocError> {
-        let bytes = Vec::from_slice(self.alloc, self.text.as_slice())?;
-        let mut link = MemLink::failing(self.alloc, bytes, piece, self.fail_at, self.limit);
+        let mut link = self.link(piece)?;
         let mut clerk = self.clerk();
         let how = serve_link(self.alloc, &mut link, &mut clerk);
         let sent = Vec::from_slice(self.alloc, link.sent())?;
+        let asked = clerk.asked;
+        Ok(Played { sent, how, asked })
+    }
+
+    /// Serves a link whose first read gives at most so many bytes of the text, and the next one all the rest.
+    pub fn serve_cut(&self, first: usize) -> Result<Played, AllocError> {
+        let link = self.link(usize::MAX)?;
+        let mut link = CutLink { link, most: first };
+        let mut clerk = self.clerk();
+        let how = serve_link(self.alloc, &mut link, &mut clerk);
+        let sent = Vec::from_slice(self.alloc, link.link.sent())?;
         let asked = clerk.asked;
         Ok(Played { sent, how, asked })
     }
