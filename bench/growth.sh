@@ -2,7 +2,8 @@
 # What calls cost over a short and a long history, on the built program: microseconds a direct voucher, its payment, and
 # looks at a line and at an account after 1,000 and after 100,000 accepted entries, vouchers a second, and bytes of memory an
 # entry; then microseconds a voucher on an order's item, and its void, after 1,000 and after 100,000 orders; then a bill, a
-# collection, and a look at a bill after 1,000 and after 100,000 bills and as many collections. The journal lies in memory
+# collection, a look at a bill, and the reconciliation of the year under way and of the year before, after 1,000 and after 100,000
+# bills and as many collections. The journal lies in memory
 # (/dev/shm), where a sync costs nothing, so this is the work of the program and of the system's calls; bench/durable.sh has
 # the disk's.
 top=$(cd "$(dirname "$0")/.." && pwd)
@@ -17,6 +18,8 @@ ADOPT = ('{"call":"adopt","desk":1,"key":"b","on":"2025-07-01","fund":1,"year":2
          '"lines":[{"line":3,"amount":1000000000}],"estimates":[]}\n')
 LOOK = '{"call":"line","line":3,"year":2026}\n'
 ACCOUNT = '{"call":"account","basis":"fund","year":2026,"fund":1,"account":200000}\n'
+RECONCILE = '{"call":"reconcile","year":2027}\n'
+YEAR_BACK = '{"call":"reconcile","year":2026}\n'
 RECEIVE = '{"call":"receive","desk":5,"key":"r","on":"2025-07-05","source":1,"amount":1000000000}\n'
 BATCH = 20_000
 
@@ -102,8 +105,11 @@ for billed in (1_000, 100_000):
     seconds, accepted = talk(desk, bills(billed, BATCH))
     taking, collected = talk(desk, collections(billed, BATCH, billed))
     look, _ = talk(desk, bill_looks(BATCH, billed))
+    joined, _ = talk(desk, [RECONCILE] * BATCH)
+    back, _ = talk(desk, [YEAR_BACK] * BATCH)
     desk.stdin.close()
     status = desk.wait()
     print(f"after {billed:,} bills and collections: a bill {seconds / BATCH * 1e6:.1f} us ({accepted:,} accepted), "
-          f"a collection {taking / BATCH * 1e6:.1f} us ({collected:,} accepted), a look at a bill {look / BATCH * 1e6:.1f} us, status {status}")
+          f"a collection {taking / BATCH * 1e6:.1f} us ({collected:,} accepted), a look at a bill {look / BATCH * 1e6:.1f} us, "
+          f"a reconciliation {joined / BATCH * 1e6:.1f} us, of a year back {back / BATCH * 1e6:.1f} us, status {status}")
 PY
