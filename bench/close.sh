@@ -9,8 +9,8 @@ top=$(cd "$(dirname "$0")/.." && pwd)
 scratch=$(mktemp -d /dev/shm/close.XXXXXX) || exit 1
 trap 'rm -rf "$scratch"' EXIT
 cp "$top/examples/rivertown/chart.toml" "$scratch/rivertown.toml"
-cd "$scratch" && python3 - "$program" <<'PY'
-import itertools, os, subprocess, sys, threading, time
+cd "$scratch" && PYTHONPATH=$top/bench PYTHONDONTWRITEBYTECODE=1 python3 - "$program" <<'PY'
+import itertools, os, subprocess, sys, talks
 
 BATCH = 1_000
 ITEMS = 32
@@ -50,13 +50,7 @@ def close(month):
 
 def talk(desk, lines):
     """The seconds that these calls took, each of which has to be accepted or shown."""
-    text = "".join(lines).encode()
-    start = time.time()
-    writer = threading.Thread(target=lambda: (desk.stdin.write(text), desk.stdin.flush()))
-    writer.start()
-    replies = [desk.stdout.readline() for _ in lines]
-    writer.join()
-    seconds = time.time() - start
+    seconds, replies = talks.talk(desk, lines)
     for line, reply in zip(lines, replies):
         assert b'"ok"' in reply or b'"is"' in reply, (line, reply)
     return seconds

@@ -11,8 +11,8 @@ top=$(cd "$(dirname "$0")/.." && pwd)
 scratch=$(mktemp -d /dev/shm/growth.XXXXXX) || exit 1
 trap 'rm -rf "$scratch"' EXIT
 cp "$top/examples/rivertown/chart.toml" "$scratch/chart.toml"
-cd "$scratch" && python3 - "$program" <<'PY'
-import os, subprocess, sys, threading, time
+cd "$scratch" && PYTHONPATH=$top/bench PYTHONDONTWRITEBYTECODE=1 python3 - "$program" <<'PY'
+import os, subprocess, sys, talks
 
 ADOPT = ('{"call":"adopt","desk":1,"key":"b","on":"2025-07-01","fund":1,"year":2026,'
          '"lines":[{"line":3,"amount":1000000000}],"estimates":[]}\n')
@@ -51,13 +51,9 @@ def bill_looks(count, bills):
     return ['{"call":"bill","bill":%d}\n' % (number * 7919 % bills + 1) for number in range(count)]
 
 def talk(desk, lines):
-    text = "".join(lines).encode()
-    start = time.time()
-    writer = threading.Thread(target=lambda: (desk.stdin.write(text), desk.stdin.flush()))
-    writer.start()
-    replies = [desk.stdout.readline() for _ in lines]
-    writer.join()
-    return time.time() - start, sum(b'"ok"' in reply for reply in replies)
+    """The seconds that these calls took, and how many of them were accepted."""
+    seconds, replies = talks.talk(desk, lines)
+    return seconds, sum(b'"ok"' in reply for reply in replies)
 
 def fresh_desk():
     """A desk over a journal with no entry."""
