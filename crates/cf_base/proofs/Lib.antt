@@ -1,1 +1,3 @@
 pub mod DayNumbers
+pub mod Floors
+pub mod Reading

@@ -1,6 +1,9 @@
+pub mod Amounts
 pub mod Calendar
 pub mod Causes
 pub mod Memory
 pub mod Money
+pub mod Reading
+pub mod Shares
 pub mod Sinks
 pub mod Windows

@@ -74,6 +74,24 @@ pub fn month_of(day: Day) -> Month
     }
 }
 
+/// The month that holds the day that comes so many days after 1970-01-01, 0 to 84,370, which is 2200-12-31: a window
+/// of a year after 2199 ends there.
+pub fn month_at(number: i32) -> Month
+    requires { IsBetween (pos 0) (pos 84370) number }
+    ensures { result ≡ month_of_day (day_of_number (unsigned_abs number)) }
+{
+    match CivilDate::from_unix_epoch_day(number as i64) {
+        Ok(date) => Month {
+            year: date.year as u16,
+            month: date.month,
+        },
+        Err(_) => Month {
+            year: 1970,
+            month: 1,
+        },
+    }
+}
+
 /// The fiscal year of a month (GASB Codification 1700). Where fiscal years begin in January it is the
 /// calendar year. Otherwise it is the calendar year for the months before `first_month` and the one after
 /// for the others (own rule).

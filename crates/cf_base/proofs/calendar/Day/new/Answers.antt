@@ -1,10 +1,9 @@
-use Rattle.std.proofs.Common.{◌≡◌, ◌≤◌, ◌<◌, ℕ, pos, ℤ, arith, sym, ap, ◌∙◌, subst, unsigned_abs, FitsSigned, rules, to_z, of_z, to_z-of_z, w16, w32, w64, true, false, refl}
+use Rattle.std.proofs.Common.{◌≡◌, ◌≤◌, pos, ℤ, arith, sym, ap, ◌∙◌, subst, unsigned_abs, FitsSigned, rules, to_z, of_z, to_z-of_z, w16, w32, w64, false}
 use lib.Signed.{lt_z}
 use Rattle.jiff_core.proofs.SignedLemmas.{signed_arith}
 use Rattle.jiff_core.specs.declared.civil.date.Date.{Date}
 use Rattle.jiff_core.specs.Date.{epoch_day}
 use Rattle.cf_base.specs.Calendar.{day_of_number, day_number, is_day}
-use Rattle.cf_base.specs.declared.calendar.Day.{Day}
 use Rattle.cf_base.proofs.DayNumbers.{Parts, day_at, day_with, made_day, nonnegative, at_most, reached}
 use Rattle.cf_base.proofs.calendar.Day.new.Goals as goal
 
