@@ -137,14 +137,14 @@ liquidation-same Final = refl
 
 charge_is : (a b : Charge) → is_charge a b ≡ true → a ≡ b
 charge_is Direct Direct e = refl
-charge_is (OnOrder o i h) (OnOrder p j k) e =
+charge_is (OnOrder i o h) (OnOrder j p k) e =
     let t = all3 (o == p) (i == j) (is_liquidation h k) e in
-    λ x. OnOrder (number o p t.0 x) (number i j t.1 x) (liquidation_is h k t.2 x)
+    λ x. OnOrder (number i j t.1 x) (number o p t.0 x) (liquidation_is h k t.2 x)
 charge_is _ _ e = cc
 
 charge-same : (a : Charge) → is_charge a a ≡ true
 charge-same Direct = refl
-charge-same (OnOrder o i h) = and_from _ _ (and_from _ _ (number-same o) (number-same i)) (liquidation-same h)
+charge-same (OnOrder i o h) = and_from _ _ (and_from _ _ (number-same o) (number-same i)) (liquidation-same h)
 
 voucher_item_is : (a b : VoucherItem) → is_voucher_item a b ≡ true → a ≡ b
 voucher_item_is a b e =

@@ -8,8 +8,6 @@ use Rattle.cf_calls.specs.declared.acts.Amendment.{Amendment}
 use Rattle.cf_calls.specs.declared.acts.LineTransfer.{LineTransfer}
 use Rattle.cf_calls.specs.declared.acts.Period.{Period}
 use Rattle.cf_calls.specs.declared.acts.Period.TheVariants as period
-use Rattle.cf_calls.specs.declared.items.LineAmount.{LineAmount}
-use Rattle.cf_calls.specs.declared.items.SourceAmount.{SourceAmount}
 use Rattle.cf_calls.specs.declared.items.AccountItem.{AccountItem}
 use Rattle.cf_calls.specs.declared.items.VoucherItem.{VoucherItem}
 use Rattle.cf_calls.specs.declared.role.Role.{Role}
@@ -52,15 +50,6 @@ abbrev pub transfer_of : Act → Option LineTransfer
 transfer_of (Transfer t) = Some t
 transfer_of _ = None
 
--- the lines and the estimates of an adoption, and none of another act
-abbrev pub adopted_lines : Act → List LineAmount
-adopted_lines (Adopt a) = a.lines
-adopted_lines _ = []
-
-abbrev pub adopted_sources : Act → List SourceAmount
-adopted_sources (Adopt a) = a.estimates
-adopted_sources _ = []
-
 -- the items of a requisition, of an order, of a voucher, and none of another act
 abbrev pub requisition_items : Act → List AccountItem
 requisition_items (Requisition r) = r.items
@@ -79,11 +68,7 @@ abbrev pub adopts : ℕ → ℕ → Act → Bool
 adopts fund year (Adopt a) = (a.fund == fund) && (a.year == year)
 adopts fund year _ = false
 
--- whether an act is a voucher, and of the fiscal year before that of its day
-abbrev pub is_voucher : Act → Bool
-is_voucher (Voucher v) = true
-is_voucher _ = false
-
+-- whether an act is a voucher of the fiscal year before that of its day
 abbrev pub is_back : Act → Bool
 is_back (Voucher v) = v.back
 is_back _ = false

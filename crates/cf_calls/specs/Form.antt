@@ -48,7 +48,7 @@ same_number a b = a == b
 
 -- two voucher items against one order item
 abbrev pub same_charge : Charge → Charge → Bool
-same_charge (OnOrder o i h) (OnOrder p j k) = (o == p) && (i == j)
+same_charge (OnOrder i o h) (OnOrder j p k) = (o == p) && (i == j)
 same_charge _ _ = false
 
 abbrev pub same_order_item : VoucherItem → VoucherItem → Bool
@@ -61,7 +61,7 @@ is_liquidation_form _ = true
 
 abbrev pub is_charge_form : Charge → Bool
 is_charge_form Direct = true
-is_charge_form (OnOrder o i h) = is_liquidation_form h
+is_charge_form (OnOrder i o h) = is_liquidation_form h
 
 -- a year that a call may state
 pub record IsYear (y : ℕ) : Type 0 where

@@ -55,7 +55,7 @@ is_liquidation _ _ = false
 
 abbrev pub is_charge : Charge → Charge → Bool
 is_charge Direct Direct = true
-is_charge (OnOrder o i h) (OnOrder p j k) = (o == p) && (i == j) && is_liquidation h k
+is_charge (OnOrder i o h) (OnOrder j p k) = (o == p) && (i == j) && is_liquidation h k
 is_charge _ _ = false
 
 abbrev pub is_voucher_item : VoucherItem → VoucherItem → Bool

@@ -2,11 +2,10 @@
 
 ghost use Rattle.std.specs.Prelude.{◌≡◌};
 ghost use Rattle.std.specs.Option.{option_copied};
-ghost use Rattle.cf_calls.specs.Acts.{adoption_of, amendment_of, transfer_of, adopted_lines, adopted_sources, voucher_items, is_back, is_voucher};
+ghost use Rattle.cf_calls.specs.Acts.{adoption_of, amendment_of, transfer_of, is_back};
 
 use crate::items::{
-    AccountItems, LineAmount, LineAmounts, Numbers, Principals, SourceAmount, SourceAmounts,
-    VoucherItem, VoucherItems,
+    AccountItems, LineAmounts, Numbers, Principals, SourceAmount, SourceAmounts, VoucherItems,
 };
 use cf_base::Month;
 
@@ -251,46 +250,6 @@ impl Act {
         match self {
             Act::Transfer(transfer) => Some(transfer),
             _ => None,
-        }
-    }
-
-    /// The lines of an adoption, and none of another act.
-    pub fn adopted_lines(&self) -> &[LineAmount]
-        ensures { result.now ≡ adopted_lines self.now }
-    {
-        match self {
-            Act::Adopt(adoption) => adoption.lines.as_slice(),
-            _ => &[],
-        }
-    }
-
-    /// The estimates of an adoption, and none of another act.
-    pub fn adopted_sources(&self) -> &[SourceAmount]
-        ensures { result.now ≡ adopted_sources self.now }
-    {
-        match self {
-            Act::Adopt(adoption) => adoption.estimates.as_slice(),
-            _ => &[],
-        }
-    }
-
-    /// The items of a voucher, and none of another act.
-    pub fn voucher_items(&self) -> &[VoucherItem]
-        ensures { result.now ≡ voucher_items self.now }
-    {
-        match self {
-            Act::Voucher(invoice) => invoice.items.as_slice(),
-            _ => &[],
-        }
-    }
-
-    /// Whether the act is a voucher.
-    pub fn is_voucher(&self) -> bool
-        ensures { result ≡ is_voucher self.now }
-    {
-        match self {
-            Act::Voucher(_) => true,
-            _ => false,
         }
     }
 

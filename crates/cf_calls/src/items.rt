@@ -47,8 +47,8 @@ pub enum Charge {
     Direct,
     /// An encumbrance: an item of an order, counted from 1.
     OnOrder {
-        order: u32,
         item: u16,
+        order: u32,
         how: Liquidation,
     },
 }

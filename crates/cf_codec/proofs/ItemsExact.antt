@@ -97,11 +97,11 @@ liquidation-exact =
 
 direct_is : (c : Charge) → false ≡ is_on_order c → Direct ≡ c
 direct_is Direct e = refl
-direct_is (OnOrder o i h) e = absurd cc
+direct_is (OnOrder i o h) e = absurd cc
 
-on_order_is : (o i : ℕ) (h : Liquidation) (c : Charge) → true ≡ is_on_order c → o ≡ order_of c → i ≡ order_item_of c → h ≡ how_of c → OnOrder o i h ≡ c
+on_order_is : (o i : ℕ) (h : Liquidation) (c : Charge) → true ≡ is_on_order c → o ≡ order_of c → i ≡ order_item_of c → h ≡ how_of c → OnOrder i o h ≡ c
 on_order_is o i h Direct e p q r = absurd cc
-on_order_is o i h (OnOrder u v w) e p q r = cc
+on_order_is o i h (OnOrder v u w) e p q r = cc
 
 abbrev OnOrderIs : Bool → Charge → Type 0
 OnOrderIs b c = ⊤ × (b ≡ is_on_order c)
@@ -111,7 +111,7 @@ ChargeInForm c = is_charge_form c ≡ true
 
 how_form : (c : Charge) → true ≡ is_on_order c → is_charge_form c ≡ is_liquidation_form (how_of c)
 how_form Direct e = absurd cc
-how_form (OnOrder o i h) e = refl
+how_form (OnOrder i o h) e = refl
 
 charge_by-exact : (b : Bool) → IsExact (charge_by b) (OnOrderIs b) ChargeInForm
 charge_by-exact false =
@@ -122,7 +122,7 @@ charge_by-exact true =
     (step order_of word _ Any (OnOrderIs true) _ word-exact (λ o fits form.
     step order_item_of half _ Any _ _ half-exact (λ i fits form.
     step how_of liquidation _ InForm _ _ liquidation-exact (λ h fits form.
-    last (OnOrder o i h) _ ((((tt, refl), refl), refl), refl) (λ c known. on_order_is o i h c known.0.0.0.1 known.0.0.1 known.0.1 known.1)))))
+    last (OnOrder i o h) _ ((((tt, refl), refl), refl), refl) (λ c known. on_order_is o i h c known.0.0.0.1 known.0.0.1 known.0.1 known.1)))))
     (λ c known fits form. (tt, (tt, (sym (how_form c known.1) ∙ form, tt))))
     (λ c known fits form. how_form c known.1 ∙ form.1.1.0)
 

@@ -79,9 +79,9 @@ account_item_sized = record { len = λ i. refl }
 charge_len : (c : Charge) → length (charge.bytes c) ≡ charge.size c
 unfolding number_bytes
 charge_len Direct = refl
-charge_len (OnOrder o i Lesser) = refl
-charge_len (OnOrder o i (Recorded r)) = refl
-charge_len (OnOrder o i Final) = refl
+charge_len (OnOrder i o Lesser) = refl
+charge_len (OnOrder i o (Recorded r)) = refl
+charge_len (OnOrder i o Final) = refl
 
 charge_sized : IsSized charge
 charge_sized = record { len = charge_len }

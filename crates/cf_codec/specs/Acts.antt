@@ -88,19 +88,19 @@ liquidation = do
 -- 0 for the appropriation itself, 1 with the item of an order
 abbrev pub is_on_order : Charge → Bool
 is_on_order Direct = false
-is_on_order (OnOrder o i h) = true
+is_on_order (OnOrder i o h) = true
 
 abbrev pub order_of : Charge → ℕ
 order_of Direct = 0
-order_of (OnOrder o i h) = o
+order_of (OnOrder i o h) = o
 
 abbrev pub order_item_of : Charge → ℕ
 order_item_of Direct = 0
-order_item_of (OnOrder o i h) = i
+order_item_of (OnOrder i o h) = i
 
 abbrev pub how_of : Charge → Liquidation
 how_of Direct = Lesser
-how_of (OnOrder o i h) = h
+how_of (OnOrder i o h) = h
 
 abbrev pub charge_by : Bool → Format Charge
 charge_by false = done Direct
@@ -108,7 +108,7 @@ charge_by true = do
   order ← field order_of word
   place ← field order_item_of half
   how ← field how_of liquidation
-  done (OnOrder order place how)
+  done (OnOrder place order how)
 
 abbrev pub charge : Format Charge
 charge = do

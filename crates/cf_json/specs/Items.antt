@@ -84,7 +84,7 @@ liquidation_of (Some r) true = None
 -- what is charged: `order` and `item` together, and `recorded` or a true `final` only with them
 abbrev pub charge_of : Option ℕ → Option ℕ → Option ℕ → Bool → Option Charge
 charge_of None None recorded final = if is_none recorded && not final then Some Direct else None
-charge_of (Some o) (Some i) recorded final = option_map (OnOrder o i) (liquidation_of recorded final)
+charge_of (Some o) (Some i) recorded final = option_map (OnOrder i o) (liquidation_of recorded final)
 charge_of _ _ recorded final = None
 
 -- an absent `final` is false

@@ -10,6 +10,12 @@ ghost use Rattle.cf_json.specs.Refusals as spec;
 use crate::parts::Part::{Cents, Date, Number, Signed, Word, YearMonth};
 use crate::parts::{Part, put_object};
 use cf_base::Day;
+use cf_calls::Refusal::{
+    Adopted, Ahead, AmountRange, AssetState, CashShort, DebtDue, DeskUnknown, DocState, Exceeds,
+    HistoryFull, KeyReused, LeaveShort, MonthOrder, NotAdopted, NotDue, NotOnOrder, NotThisDesk,
+    OverOpen, OverReceivable, PeriodClosed, SameHand, UnknownName, WindowOpen, YearClosed,
+    YearNotOpen,
+};
 use cf_calls::{AssetFault, DocumentKind, DocumentState, NameKind, Refusal, Role};
 use std::alloc::AllocError;
 
@@ -326,88 +332,34 @@ pub fn put_refusal(out: &mut Vec<u8>, refusal: &Refusal) -> Result<(), AllocErro
     ensures capacity { vec_capacity out.old ≤ vec_capacity out.new }
 {
     match *refusal {
-        Refusal::DeskUnknown { desk } => put_middle(
-            out,
-            1,
-            "desk",
-            &Number(desk as u64),
-            "DeskUnknown",
-        ),
-        Refusal::Ahead { after, length } => put_ahead(out, after, length),
-        Refusal::KeyReused { was } => put_last(out, 3, "KeyReused", "was", &Number(was)),
-        Refusal::NotThisDesk { role } => put_last(
-            out,
-            4,
-            "NotThisDesk",
-            "role",
-            &Word(role_word(role)),
-        ),
-        Refusal::HistoryFull { limit } => put_middle(
-            out,
-            5,
-            "limit",
-            &Number(limit),
-            "HistoryFull",
-        ),
-        Refusal::AmountRange { amount } => put_amount_range(out, amount),
-        Refusal::UnknownName { kind, id } => put_unknown_name(out, kind, id),
-        Refusal::PeriodClosed { month } => put_middle(
-            out,
-            8,
-            "month",
-            &YearMonth(month),
-            "PeriodClosed",
-        ),
-        Refusal::YearNotOpen { year } => put_last(
-            out,
-            9,
-            "YearNotOpen",
-            "year",
-            &Number(year as u64),
-        ),
-        Refusal::YearClosed { year } => put_last(
-            out,
-            10,
-            "YearClosed",
-            "year",
-            &Number(year as u64),
-        ),
-        Refusal::Adopted { was } => put_last(out, 11, "Adopted", "was", &Number(was)),
-        Refusal::NotAdopted { fund, year } => put_not_adopted(out, fund, year),
-        Refusal::DocState {
+        DeskUnknown { desk } => put_middle(out, 1, "desk", &Number(desk as u64), "DeskUnknown"),
+        Ahead { after, length } => put_ahead(out, after, length),
+        KeyReused { was } => put_last(out, 3, "KeyReused", "was", &Number(was)),
+        NotThisDesk { role } => put_last(out, 4, "NotThisDesk", "role", &Word(role_word(role))),
+        HistoryFull { limit } => put_middle(out, 5, "limit", &Number(limit), "HistoryFull"),
+        AmountRange { amount } => put_amount_range(out, amount),
+        UnknownName { kind, id } => put_unknown_name(out, kind, id),
+        PeriodClosed { month } => put_middle(out, 8, "month", &YearMonth(month), "PeriodClosed"),
+        YearNotOpen { year } => put_last(out, 9, "YearNotOpen", "year", &Number(year as u64)),
+        YearClosed { year } => put_last(out, 10, "YearClosed", "year", &Number(year as u64)),
+        Adopted { was } => put_last(out, 11, "Adopted", "was", &Number(was)),
+        NotAdopted { fund, year } => put_not_adopted(out, fund, year),
+        DocState {
             kind,
             number,
             state,
         } => put_document_state(out, kind, number, state),
-        Refusal::SameHand { desk } => put_middle(out, 14, "desk", &Number(desk as u64), "SameHand"),
-        Refusal::NotOnOrder { order, item } => put_not_on_order(out, order, item),
-        Refusal::OverOpen { open_cents } => put_last(
-            out,
-            16,
-            "OverOpen",
-            "open",
-            &Cents(open_cents),
-        ),
-        Refusal::OverReceivable { left } => put_middle(
-            out,
-            17,
-            "left",
-            &Cents(left),
-            "OverReceivable",
-        ),
-        Refusal::AssetState { asset, state } => put_asset_state(out, asset, state),
-        Refusal::NotDue { next } => put_last(out, 19, "NotDue", "next", &Date(next)),
-        Refusal::LeaveShort { left } => put_middle(out, 20, "left", &Cents(left), "LeaveShort"),
-        Refusal::MonthOrder { next } => put_last(out, 21, "MonthOrder", "next", &YearMonth(next)),
-        Refusal::DebtDue { bond, day } => put_debt_due(out, bond, day),
-        Refusal::WindowOpen { month } => put_middle(
-            out,
-            23,
-            "month",
-            &YearMonth(month),
-            "WindowOpen",
-        ),
-        Refusal::Exceeds { line, asked, room } => put_exceeds(out, line, asked, room),
-        Refusal::CashShort { fund, cash, asked } => put_cash_short(out, fund, cash, asked),
+        SameHand { desk } => put_middle(out, 14, "desk", &Number(desk as u64), "SameHand"),
+        NotOnOrder { order, item } => put_not_on_order(out, order, item),
+        OverOpen { open_cents } => put_last(out, 16, "OverOpen", "open", &Cents(open_cents)),
+        OverReceivable { left } => put_middle(out, 17, "left", &Cents(left), "OverReceivable"),
+        AssetState { asset, state } => put_asset_state(out, asset, state),
+        NotDue { next } => put_last(out, 19, "NotDue", "next", &Date(next)),
+        LeaveShort { left } => put_middle(out, 20, "left", &Cents(left), "LeaveShort"),
+        MonthOrder { next } => put_last(out, 21, "MonthOrder", "next", &YearMonth(next)),
+        DebtDue { bond, day } => put_debt_due(out, bond, day),
+        WindowOpen { month } => put_middle(out, 23, "month", &YearMonth(month), "WindowOpen"),
+        Exceeds { line, asked, room } => put_exceeds(out, line, asked, room),
+        CashShort { fund, cash, asked } => put_cash_short(out, fund, cash, asked),
     }
 }
