@@ -98,7 +98,8 @@ impl Chart {
     }
 
     pub fn sources(&self) -> &[RevenueSource]
-        ensures { result.now ≡ self.now.sources }
+        ensures value { result.now ≡ self.now.sources }
+        ensures few { length result.now ≤ 256 }
     {
         self.sources.as_slice()
     }

@@ -1,8 +1,10 @@
 -- The items between the change in fund balances and the change in net position.
-use Rattle.std.specs.Prelude.{ℕ, ℤ}
+use Rattle.std.specs.Prelude.{ℕ, ◌-◌, ℤ, ◌-ℤ◌, List}
+use Rattle.cf_calls.specs.declared.entry.Entry.{Entry}
 use Rattle.cf_chart.specs.Plan.{Plan}
 use Rattle.cf_model.specs.Changes as model
-use Rattle.cf_model.specs.Registers.{Registers}
+use Rattle.cf_model.specs.Items.{fund_balances, net_position}
+use Rattle.cf_model.specs.Registers.{Registers, registers_of}
 use Rattle.cf_recon.specs.declared.changes.Changes.{Changes}
 
 -- the changes of a year, given that in fund balances and that in net position
@@ -22,3 +24,9 @@ changes_between plan year s fund gov =
       leave = c.absences;
       net_position = gov;
     }
+
+-- those of a history
+abbrev pub changes_shown : Plan → ℕ → List Entry → Changes
+changes_shown plan year history =
+    changes_between plan year (registers_of plan history) (fund_balances plan year history -ℤ fund_balances plan (year - 1) history)
+    (net_position plan year history -ℤ net_position plan (year - 1) history)

@@ -1,8 +1,9 @@
 //! The rows of both statements.
 
 ghost use Rattle.std.specs.Prelude.{◌≡◌, map, IfOk};
-ghost use Rattle.cf_recon.specs.Rows.{row_of, row_with};
-ghost use Rattle.cf_recon.specs.Rows as table;
+ghost use Rattle.cf_model.specs.Report.{recon_rows as recon_table};
+ghost use Rattle.cf_recon.specs.Rows.{row_of, change_rows as change_table};
+ghost use Rattle.cf_statements.specs.Sums.{single};
 
 use crate::changes::Changes;
 use cf_calls::shown::ReconShown;
@@ -11,7 +12,7 @@ use std::alloc::{AllocError, Global};
 
 /// The rows of the reconciliation to net position, in the order in which they are added.
 pub fn recon_rows(alloc: Global, recon: &ReconShown) -> Result<Vec<Row>, AllocError>
-    ensures { IfOk result (λ v. v.items ≡ table.recon_rows recon.now) }
+    ensures { IfOk result (λ v. v.items ≡ recon_table recon.now) }
 {
     rows(
         alloc,
@@ -29,7 +30,7 @@ pub fn recon_rows(alloc: Global, recon: &ReconShown) -> Result<Vec<Row>, AllocEr
 
 /// The rows of the reconciliation to the change in net position, in the order in which they are added.
 pub fn change_rows(alloc: Global, changes: &Changes) -> Result<Vec<Row>, AllocError>
-    ensures { IfOk result (λ v. v.items ≡ table.change_rows changes.now) }
+    ensures { IfOk result (λ v. v.items ≡ change_table changes.now) }
 {
     rows(
         alloc,
@@ -61,7 +62,7 @@ fn rows(alloc: Global, amounts: &[(&str, i128)]) -> Result<Vec<Row>, AllocError>
 }
 
 fn row(alloc: Global, label: &str, amount: i128) -> Result<Row, AllocError>
-    ensures { IfOk result (λ r. r ≡ row_with label.now amount) }
+    ensures { IfOk result (λ r. r ≡ single label.now amount) }
 {
     let mut amounts = List::new(alloc);
     amounts.push(amount)?;

@@ -1,0 +1,7 @@
+pub mod Activities
+pub mod Balance
+pub mod Budget
+pub mod Operating
+pub mod Position
+pub mod Sums
+pub mod Titles
