@@ -69,10 +69,6 @@ in_order : (says [] (day 2025 7 5) (close 2025 8) ≡ Refuse (refusal.MonthOrder
     × (says [] (day 2025 7 5) (close 2028 5) ≡ Refuse (refusal.MonthOrder (record { year = 2025; month = 7 })))
 in_order = (refl, refl, refl, refl, refl)
 
--- the last month of a fiscal year isn't known yet, nor is the year
-unknown_yet : (says [] (day 2025 7 5) (close 2026 6) ≡ Unbuilt) × (says [] (day 2025 7 5) (act.Close (period.Year 2026)) ≡ Unbuilt)
-unknown_yet = (refl, refl)
-
 -- ---- assets
 
 abbrev buys : Act

@@ -80,7 +80,7 @@ move_out plan stripe year step a (Some i) out has = same_stripe plan stripe a.fu
 charge_out : (plan : Plan) (stripe year : ℕ) (step : OrderItem → OrderItem) (items : List OrderItem) (v : VoucherItem) (c : Charge) → v.charge ≡ c → is_item_in plan stripe v.account ≡ false →
     charge_not_on_order items v v.charge ≡ None → IsOut plan stripe (charge_move step items year v)
 charge_out plan stripe year step items v Direct is out none = rw is out
-charge_out plan stripe year step items v (OnOrder order place how) is out none =
+charge_out plan stripe year step items v (OnOrder place order how) is out none =
     let named = has_named items order place v.account.fund v.account.dept v.account.object (sym (ap (charge_not_on_order items v) is) ∙ none) in
     rw is (move_out plan stripe year step v.account (item_named order place items) out named)
 

@@ -1,5 +1,5 @@
 -- What an act moves of line numbers, item by item (own rule).
-use Rattle.std.specs.Prelude.{ℕ, ◌+◌, ◌&&◌, if◌then◌else◌, ◌==◌, List, [], ◌∷◌, ◌++◌, Option, Some, None, map, ℤ, pos, ◌+ℤ◌, ◌-ℤ◌}
+use Rattle.std.specs.Prelude.{ℕ, ◌+◌, Bool, false, ◌&&◌, if◌then◌else◌, ◌==◌, List, [], ◌∷◌, ◌++◌, Option, Some, None, map, ℤ, pos, ◌+ℤ◌, ◌-ℤ◌}
 use Rattle.std.specs.List.{filter}
 use Rattle.cf_base.specs.declared.calendar.Day.{Day}
 use Rattle.cf_calls.specs.declared.acts.Act.{Act}
@@ -8,9 +8,10 @@ use Rattle.cf_calls.specs.declared.items.AccountItem.{AccountItem}
 use Rattle.cf_calls.specs.declared.items.VoucherItem.{VoucherItem}
 use Rattle.cf_calls.specs.declared.items.Charge.{Charge}
 use Rattle.cf_calls.specs.declared.items.Charge.TheVariants.{Direct, OnOrder}
-use Rattle.cf_chart.specs.Plan.{Plan}
+use Rattle.cf_chart.specs.declared.rows.Line.{Line}
+use Rattle.cf_chart.specs.Plan.{Plan, fund_at}
 use Rattle.cf_model.specs.Calendar.{document_year, rolls}
-use Rattle.cf_model.specs.OrderItems.{OrderItem, is_live, lapses, open_of, carried_of, is_named, item_named, item_step}
+use Rattle.cf_model.specs.OrderItems.{OrderItem, is_live, lapses, open_of, carried_of, carries_fund, is_named, item_named, item_step}
 use Rattle.cf_model.specs.Documents.{Hold, Expenditure, Documents, is_number}
 use Rattle.cf_calls.specs.declared.entry.Entry.{Entry}
 use Rattle.cf_model.specs.Registers.{Registers}
@@ -53,7 +54,7 @@ unspend_move x = record { account = x.account; year = x.year; held = pos 0; encu
 -- the order's item that a charge is against
 abbrev pub charged_item : Charge → List OrderItem → Option OrderItem
 charged_item Direct items = None
-charged_item (OnOrder order place how) items = item_named order place items
+charged_item (OnOrder place order how) items = item_named order place items
 
 abbrev pub move_if : (OrderItem → OrderItem) → AccountItem → ℕ → Option OrderItem → Move
 move_if step account year None = record { account = account; year = year; held = pos 0; encumbered = pos 0; expended = pos 0 }
@@ -86,6 +87,11 @@ roll_moves plan act (i ∷ items) =
     ∷ (if lapses plan i then [] else record { account = i.account; year = i.year + 1; held = pos 0; encumbered = pos (open_of i); expended = pos 0 } ∷ [])
     else [])
     ++ roll_moves plan act items
+
+-- whether the fund of a line carries its open encumbrances into the year after
+abbrev pub line_carries : Plan → Option Line → Bool
+line_carries plan None = false
+line_carries plan (Some l) = carries_fund (fund_at plan l.fund)
 
 -- the moves of an act on documents that draws this number, at most 64, in the order of its documents' items
 abbrev pub document_moves : Plan → Documents → ℕ → Day → Act → List Move
