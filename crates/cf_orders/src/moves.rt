@@ -11,12 +11,12 @@ ghost use Rattle.cf_model.specs.Moves as model;
 ghost use Rattle.cf_model.specs.Moves.{document_moves, spent_by};
 ghost use Rattle.cf_orders.specs.Register.{line_move, IsSmall};
 ghost use Rattle.cf_orders.specs.Rows as spec;
-ghost use Rattle.cf_orders.specs.Rows.{view_hold, view_charge};
+ghost use Rattle.cf_orders.specs.Rows.{view_hold, view_expenditure};
 
 use crate::extents::extent_of;
 use crate::items::find_row;
 use crate::orders::Orders;
-use crate::rows::{ChargeRow, HoldRow, ItemRow};
+use crate::rows::{ExpenditureRow, HoldRow, ItemRow};
 use crate::vouchers::is_void;
 use cf_calls::Act;
 use cf_calls::items::{AccountItem, VoucherItem};
@@ -98,8 +98,8 @@ pub fn spend_move(year: u16, item: &VoucherItem) -> LineMove
 }
 
 /// A voucher's item that isn't void is taken back.
-pub fn unspend_move(row: &ChargeRow) -> LineMove
-    ensures value { result ≡ line_move (model.unspend_move (view_charge row.now)) }
+pub fn unspend_move(row: &ExpenditureRow) -> LineMove
+    ensures value { result ≡ line_move (model.unspend_move (view_expenditure row.now)) }
     ensures small { IsSmall result }
 {
     let mut made = no_move(row.account, row.year);
