@@ -1,0 +1,4 @@
+pub mod Generated
+pub mod Acts
+pub mod Refusals
+pub mod Turns

@@ -1,0 +1,9 @@
+//! The names of an office that threads share: its table, its chart and its ledgers. And the ties of its stripes to the one
+//! list of entries, with the counts that they are held against.
+#![tactic(auto)]
+
+mod names;
+mod ties;
+
+pub use names::{Accepted, City, OfStripe};
+pub use ties::{Counts, Ties, follow_all};
