@@ -9,17 +9,18 @@ ghost use Rattle.cf_model.specs.Results.{made_of};
 ghost use Rattle.cf_model.specs.State.{IsSoundState};
 ghost use Rattle.cf_model.specs.Step.{Adds};
 ghost use Rattle.cf_office.specs.BookState.{IsPrepared};
-ghost use Rattle.cf_office.specs.Moved.{AreTablesOf};
+ghost use Rattle.cf_registers.specs.Moved.{AreTablesOf};
 
-use crate::history::History;
 use crate::prepared::{Prepared, apply_lines, apply_rest, reserve};
-use crate::registers::Registers;
 use crate::rest::Rest;
 use cf_base::Day;
 use cf_budget::Lines;
 use cf_calls::shown::ReconShown;
 use cf_calls::{Basis, Change, Entry, LineNumbers, Made};
 use cf_chart::{Chart, LineId};
+use cf_recon::Changes;
+use cf_registers::Registers;
+use cf_rules::History;
 use std::alloc::{AllocError, Global};
 use std::marker::Model;
 
@@ -158,6 +159,14 @@ impl History for BookOffice {
 
     fn recon(&self, year: u16) -> ReconShown {
         self.rest.recon(year)
+    }
+
+    fn changes(&self, year: u16) -> Changes {
+        self.rest.changes(year)
+    }
+
+    fn estimate(&self, year: u16, source: u16) -> u64 {
+        self.rest.estimate(year, source)
     }
 
     fn numbers(&self, line: u16, year: u16) -> LineNumbers {

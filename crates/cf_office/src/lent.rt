@@ -2,16 +2,17 @@
 
 ghost use Rattle.std.specs.Prelude.{◌≡◌};
 ghost use Rattle.cf_budget.specs.Tables.{has_line};
-ghost use Rattle.cf_office.specs.Moved.{AreTablesOf};
+ghost use Rattle.cf_registers.specs.Moved.{AreTablesOf};
 
-use crate::history::History;
-use crate::registers::Registers;
 use crate::rest::Rest;
 use cf_base::Day;
 use cf_budget::Lines;
 use cf_calls::shown::ReconShown;
 use cf_calls::{Basis, Change, LineNumbers, Made};
 use cf_chart::{Chart, LineId};
+use cf_recon::Changes;
+use cf_registers::Registers;
+use cf_rules::History;
 use std::marker::Model;
 
 /// A history, and tables of its line numbers: those that are there are lent.
@@ -23,7 +24,7 @@ pub struct Lent<'a> {
 
 impl<'a> Model for Lent<'a> {
     ghost use Rattle.cf_office.specs.LentState.{LentState};
-    ghost use Rattle.cf_office.specs.Moved.{AreTablesOf};
+    ghost use Rattle.cf_registers.specs.Moved.{AreTablesOf};
 
     ghost Value = { LentState };
 
@@ -91,6 +92,14 @@ impl<'a> History for Lent<'a> {
 
     fn recon(&self, year: u16) -> ReconShown {
         self.rest.recon(year)
+    }
+
+    fn changes(&self, year: u16) -> Changes {
+        self.rest.changes(year)
+    }
+
+    fn estimate(&self, year: u16, source: u16) -> u64 {
+        self.rest.estimate(year, source)
     }
 
     fn numbers(&self, line: u16, year: u16) -> LineNumbers {

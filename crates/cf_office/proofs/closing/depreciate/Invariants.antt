@@ -1,6 +1,0 @@
-use Rattle.std.proofs.Common.{◌≡◌, map, take}
-use Rattle.cf_office.specs.Deeds.{charge_deed}
-use Rattle.cf_office.proofs.closing.depreciate.Given as goal
-
-abbrev pub invariant-loop-place : goal.invariant-loop-place
-invariant-loop-place l = l.deeds.items ≡ map (charge_deed l.year l.assets.closed l.assets.assets) (take l.place l.chart.functions)

@@ -1,0 +1,21 @@
+-- The estimate of a source, as the adoption of its fund's budget has it.
+use Rattle.std.specs.Prelude.{ℕ, List, [], Option, Some, None}
+use Rattle.cf_calls.specs.declared.acts.Adoption.{Adoption}
+use Rattle.cf_calls.specs.declared.entry.Entry.{Entry}
+use Rattle.cf_calls.specs.declared.items.SourceAmount.{SourceAmount}
+use Rattle.cf_calls.specs.Acts.{adoption_of}
+use Rattle.cf_model.specs.Estimates.{estimate_for}
+use Rattle.cf_model.specs.Step.{entry_at}
+
+abbrev pub estimates_of : Option Adoption → List SourceAmount
+estimates_of None = []
+estimates_of (Some a) = a.estimates
+
+abbrev pub estimated_in : ℕ → Option Entry → ℕ
+estimated_in source None = 0
+estimated_in source (Some e) = estimate_for source (estimates_of (adoption_of e.change.act))
+
+-- what the entry at a place estimates of a source
+abbrev pub estimated_at : ℕ → List Entry → Option ℕ → ℕ
+estimated_at source history None = 0
+estimated_at source history (Some place) = estimated_in source (entry_at history place)

@@ -1,0 +1,9 @@
+pub mod Bought
+pub mod Cleared
+pub mod Lending
+pub mod Makes
+pub mod Moved
+pub mod Options
+pub mod Paying
+pub mod Reserved
+pub mod Taken

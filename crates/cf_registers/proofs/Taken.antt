@@ -1,0 +1,189 @@
+-- What the registers need to take an accepted entry in, and what they become.
+use Rattle.std.proofs.Common.{◌≡◌, ◌⊎◌, inl, inr, ℕ, suc, ◌+◌, ◌<◌, ◌≤◌, Bool, true, false, not, ◌==◌, nat_lt, is_some, List, [], ◌∷◌, ◌++◌, length, None, refl, sym, subst, ◌∙◌, ap, arith}
+use Rattle.std.specs.List.{filter}
+use Rattle.std.proofs.lemmas.Bool.Decides.{leb_tells}
+use Rattle.cf_base.specs.declared.calendar.Day.{Day}
+use Rattle.cf_calls.specs.declared.acts.Act.{Act}
+use Rattle.cf_calls.specs.declared.acts.Act.TheVariants.{Voucher, VoidVoucher, Asset, Issue, PayDue, Close}
+use Rattle.cf_calls.specs.declared.acts.AssetAct.TheVariants.{Donate, Dispose}
+use Rattle.cf_calls.specs.declared.entry.Drawn.{Drawn}
+use Rattle.cf_calls.specs.declared.entry.Entry.{Entry}
+use Rattle.cf_calls.specs.declared.names.NameKind.TheVariants as kind
+use Rattle.cf_calls.specs.declared.refusal.Refusal.TheVariants as refusal
+use Rattle.cf_calls.specs.declared.reply.Made.{Made}
+use Rattle.cf_chart.specs.Plan.{Plan}
+use Rattle.cf_model.specs.Calendar.{document_year, open_year, rolled_year, year_of_day}
+use Rattle.cf_model.specs.DocumentRules.{document_refusal}
+use Rattle.cf_model.specs.Documents.{Documents, documents_of, documents_step, is_number}
+use Rattle.cf_model.specs.Months.{number_of_day}
+use Rattle.cf_model.specs.Moves.{moves_of}
+use Rattle.cf_model.specs.ReceivableRules.{receivable_refusal}
+use Rattle.cf_model.specs.Receivables.{Receivables, Bill, bills_by, loans_by, receivables_step, repayments_by, settlements_by}
+use Rattle.cf_model.specs.RegisterRules.{asset_refusal, debt_refusal, disposed_asset, voided_asset, levy_refusal, register_name_refusal, unknown_bond, unknown_payment}
+use Rattle.cf_model.specs.Registers.{Registers, registers_of, registers_step, no_registers}
+use Rattle.cf_model.specs.Results.{bill_draws, bond_at, document_draws, draws, made_of, results_of}
+use Rattle.cf_model.specs.Rules.{closed_refusal, closed_year, first_refusal, or_else}
+use Rattle.cf_model.specs.Step.{Adds, IsLegal}
+use Rattle.cf_model.proofs.Accepted.{accepted, accepted_fits}
+use Rattle.cf_debt.specs.Register.{IsEarlyIssue, IsThere, debt_draws, Debts}
+use Rattle.cf_assets.specs.Register as assets
+use Rattle.cf_model.specs.Assets.{Asset as CapitalAsset}
+use Rattle.cf_model.specs.Bonds.{bonds_by}
+use Rattle.cf_model.proofs.AssetNumbers.{assets_named}
+use Rattle.cf_model.proofs.BondNumbers.{named_always}
+use Rattle.cf_model.proofs.OpenYears.{years_are}
+use Rattle.cf_model.proofs.Changed.{unrolled_moves}
+use Rattle.cf_model.proofs.First.{or_else_none, refuse_none}
+use Rattle.cf_model.proofs.Lawful.{IsWhole}
+use Rattle.cf_model.proofs.LegalMonths.{closed_are}
+use Rattle.cf_model.proofs.MonthNumbers.{day_year_is, early}
+use Rattle.cf_model.proofs.OwnNumbers.{drawn_bills}
+use Rattle.cf_model.proofs.Pushes.{documents_are, registers_push, results_push}
+use Rattle.cf_model.proofs.Tidy.{after_act, by_own_number}
+use Rattle.cf_orders.specs.Register.{entry_for}
+use Rattle.cf_revenue.specs.Register.{entry_for as bill_entry}
+use Rattle.cf_registers.specs.Moved.{IsCleared, act_moves}
+use Rattle.cf_registers.specs.Numbered.{AreNumbered}
+use Rattle.cf_registers.specs.RegistersState.{RegistersState, HasRoomFor, HaveTaken, CanTakeIn}
+use Rattle.cf_registers.proofs.Cleared.{cleared}
+
+-- the rules on documents allow an accepted entry
+pub allowed : (plan : Plan) (h : List Entry) (e : Entry) → Adds plan h e → document_refusal plan (documents_of plan h) e.change.on e.change.desk e.change.act ≡ None
+allowed plan h e adds =
+    let a = accepted plan h e adds in
+    λ i. or_else (a.states i) (or_else (a.hands i) (or_else (a.on_order i) (or_else (a.opens i) None)))
+
+pub accepted_cleared : (plan : Plan) (h : List Entry) (e : Entry) → IsWhole plan → IsLegal plan h → Adds plan h e → IsCleared plan (registers_of plan h) e.change.on e.change.act
+accepted_cleared plan h e whole legal adds =
+    cleared plan h e.change.on e.change.desk e.change.act whole.calendar legal adds.form.on adds.form.act (allowed plan h e adds)
+
+-- no rule on debt, leave and the order of months refuses it
+pub debt_allowed : (plan : Plan) (h : List Entry) (e : Entry) → Adds plan h e → debt_refusal plan (registers_of plan h) e.change.on e.change.act ≡ None
+debt_allowed plan h e adds =
+    let a = accepted plan h e adds in
+    λ i. or_else (a.paid i) (or_else (a.due i) (or_else (a.leave i) (or_else (a.order i) (or_else (a.unpaid i) None))))
+
+pub numbered : (plan : Plan) (h : List Entry) → IsLegal plan h → AreNumbered (registers_of plan h)
+numbered plan h legal = record { assets = assets_named plan h legal; bonds = named_always plan h legal }
+
+-- ---- the days and years of accepted entries
+
+year_open : (u year : ℕ) → first_refusal (closed_year u) (year ∷ []) ≡ None → u ≤ year
+year_open u year none = by_test (nat_lt year u) (leb_tells (suc year) u) (refuse_none (nat_lt year u) (refusal.YearClosed year) (or_else_none (closed_year u year) None none).0)
+  where
+    by_test : (b : Bool) → ((b ≡ true) × (suc year ≤ u)) ⊎ ((b ≡ false) × (u < suc year)) → b ≡ false → u ≤ year
+    by_test b (inl t) e = cc
+    by_test b (inr t) e = omega (arith, t.1)
+
+-- the year of a document is one that the office keeps
+document_kept : (plan : Plan) (h : List Entry) (on : Day) (a : Act) → plan.first_year ≤ year_of_day plan on → plan.first_year ≤ open_year plan h → closed_refusal plan h on a ≡ None → plan.first_year ≤ document_year plan on a
+document_kept plan h on (Voucher v) day first none = omega (arith, first, year_open (open_year plan h) (document_year plan on (Voucher v)) none)
+document_kept plan h on _ day first none = day
+
+-- the bond of a payment is there
+bond_there : (plan : Plan) (s : Registers) (a : Act) → register_name_refusal plan s a ≡ None → IsThere s.bonds a
+bond_there plan s (PayDue p) none =
+    by_test (is_some (bond_at p.bond s.bonds)) (refuse_none (not (is_some (bond_at p.bond s.bonds))) (refusal.UnknownName kind.Bond p.bond) (or_else_none (unknown_bond s.bonds p.bond) (unknown_payment plan p) none).0)
+  where
+    by_test : (b : Bool) → not b ≡ false → b ≡ true
+    by_test true e = refl
+    by_test false e = cc
+bond_there plan s _ none = tt
+
+pub can_take_in : (plan : Plan) (h : List Entry) (e : Entry) (s : RegistersState) → IsWhole plan → IsLegal plan h → Adds plan h e → s.registers ≡ registers_of plan h → HaveTaken (length h) s →
+    HasRoomFor e.change.act s → CanTakeIn plan s e
+can_take_in plan h e s whole legal adds registers taken room =
+    let a = accepted plan h e adds in
+    let few = accepted_fits plan h e adds in
+    let documents : s.registers.documents ≡ documents_of plan h = ap (λ (r : Registers). r.documents) registers ∙ documents_are plan h in
+    let closed = closed_are plan h whole.calendar legal in
+    let from : (registers_of plan h).closed ≤ number_of_day plan e.change.on = early plan h e.change.on closed adds.form.on a.period in
+    let year_is = day_year_is plan h e.change.on whole.calendar closed adds.form.on a.period in
+    let first : plan.first_year ≤ year_of_day plan e.change.on = subst (λ y. plan.first_year ≤ y) year_is (omega arith) in
+    record {
+      room = room;
+      day = adds.form.on;
+      form = adds.form.act;
+      amounts = a.amounts;
+      early = subst (λ (r : Registers). r.closed ≤ number_of_day plan e.change.on) (sym registers) from;
+      year = document_kept plan h e.change.on e.change.act first (years_are plan h legal).from a.closed;
+      there = subst (λ (r : Registers). IsThere r.bonds e.change.act) (sym registers) (bond_there plan (registers_of plan h) e.change.act a.register_names);
+      levied = ap (λ (r : Registers). levy_refusal plan r e.change.on e.change.act) registers ∙ a.levied;
+      documents = ap (λ (d : Documents). document_refusal plan d e.change.on e.change.desk e.change.act) documents ∙ allowed plan h e adds;
+      receivables = ap (λ (r : Registers). receivable_refusal r.receivables e.change.act) registers ∙ a.receivables;
+      assets = ap (λ (r : Registers). asset_refusal r e.change.on e.change.act) registers ∙ a.assets;
+      debt = ap (λ (r : Registers). debt_refusal plan r e.change.on e.change.act) registers ∙ debt_allowed plan h e adds;
+      drawn = ap (λ (x : Entry). x.drawn) a.entry ∙ ap (λ (r : Registers). draws r e.change.act) (sym registers);
+      taken = subst (λ n. HaveTaken n s) (sym taken.orders) taken;
+      few = omega (arith, taken.orders, few);
+    }
+
+-- the registers after the entry
+pub taken_in : (plan : Plan) (h : List Entry) (e : Entry) (old new : Registers) → old ≡ registers_of plan h → new ≡ registers_step plan old e → new ≡ registers_of plan (h ++ e ∷ [])
+taken_in plan h e old new was is = is ∙ ap (λ (s : Registers). registers_step plan s e) was ∙ sym (registers_push plan no_registers h e)
+
+-- and the results
+pub made_in : (plan : Plan) (h : List Entry) (e : Entry) (old new : List Made) (made : Made) (s : Registers) → old ≡ results_of plan h → s ≡ registers_of plan h → made ≡ made_of plan s e → new ≡ old ++ made ∷ [] →
+    new ≡ results_of plan (h ++ e ∷ [])
+made_in plan h e old new made s was registers is pushed =
+    pushed ∙ (λ i. was i ++ (is ∙ ap (λ (r : Registers). made_of plan r e) registers) i ∷ []) ∙ sym (results_push plan h e)
+
+-- the documents depend on their own numbers alone
+pub documents_drawn : (plan : Plan) (s : Registers) (e : Entry) (drawn : Drawn) → drawn ≡ document_draws s.documents e.change.act → e.drawn ≡ draws s e.change.act →
+    documents_step plan s.documents (entry_for e.change.desk e.change.on e.change.act drawn) ≡ documents_step plan s.documents e
+documents_drawn plan s e drawn own is =
+    ap (λ (d : Drawn). after_act plan s.documents d.number e.change.desk e.change.on (document_year plan e.change.on e.change.act) e.change.act) own
+    ∙ sym (by_own_number plan s e.change.desk e.change.on (document_year plan e.change.on e.change.act) e.change.act)
+    ∙ ap (λ (d : Drawn). after_act plan s.documents d.number e.change.desk e.change.on (document_year plan e.change.on e.change.act) e.change.act) (sym is)
+
+-- so do the receivables
+pub receivables_drawn : (plan : Plan) (s : Registers) (e : Entry) (drawn : Drawn) → drawn ≡ bill_draws s.receivables e.change.act → e.drawn ≡ draws s e.change.act →
+    receivables_step plan s.receivables (bill_entry e.change.desk e.change.on e.change.act drawn) ≡ receivables_step plan s.receivables e
+receivables_drawn plan s e drawn own is =
+    let r = s.receivables in
+    let bills = ap (λ (d : Drawn). bills_by d.number e.change.act) own ∙ sym (drawn_bills s e.change.act) ∙ ap (λ (d : Drawn). bills_by d.number e.change.act) (sym is) in
+    ap (λ (new : List Bill). let x : Receivables = record {
+      bills = r.bills ++ new;
+      settlements = r.settlements ++ settlements_by plan r.bills e.change.on e.change.act;
+      loans = r.loans ++ loans_by e.change.act;
+      repayments = r.repayments ++ repayments_by e.change.act;
+    } in x) bills
+
+-- so do the bonds
+bonds_numbered : (plan : Plan) (s : Registers) (on : Day) (a : Act) → bonds_by plan on a (debt_draws s.bonds a) ≡ bonds_by plan on a (draws s a)
+bonds_numbered plan s on (Issue i) = refl
+bonds_numbered plan s on _ = refl
+
+pub bonds_drawn : (plan : Plan) (s : Registers) (e : Entry) (drawn : Drawn) → drawn ≡ debt_draws s.bonds e.change.act → e.drawn ≡ draws s e.change.act →
+    bonds_by plan e.change.on e.change.act drawn ≡ bonds_by plan e.change.on e.change.act e.drawn
+bonds_drawn plan s e drawn own is =
+    ap (bonds_by plan e.change.on e.change.act) own ∙ bonds_numbered plan s e.change.on e.change.act ∙ ap (bonds_by plan e.change.on e.change.act) (sym is)
+
+-- an issue's month isn't closed
+pub early_issue : (plan : Plan) (d : Debts) (on : Day) (a : Act) → d.closed ≤ number_of_day plan on → IsEarlyIssue plan d on a
+early_issue plan d on (Issue i) early = early
+early_issue plan d on _ early = tt
+
+-- the rule on assets reads assets and closed months alone
+pub asset_same : (s t : Registers) (on : Day) (a : Act) → s.assets ≡ t.assets → s.closed ≡ t.closed → asset_refusal s on a ≡ asset_refusal t on a
+asset_same s t on (VoidVoucher n) assets closed = λ i. first_refusal (voided_asset (closed i)) (filter (λ a. is_number a.voucher n) (assets i))
+asset_same s t on (Asset (Donate d)) assets closed = refl
+asset_same s t on (Asset (Dispose d)) assets closed = ap (λ (xs : List CapitalAsset). first_refusal (disposed_asset on) (filter (λ a. a.number == d.asset) xs)) assets
+asset_same s t on _ assets closed = refl
+
+-- the numbers that an act draws are the next of the registers
+pub next_numbers : (s : Registers) (r : assets.Register) (a : Act) (drawn : Drawn) → assets.IsOf s r → r.vouchers ≡ s.documents.vouchers → drawn ≡ draws s a → assets.IsNext a drawn r
+next_numbers s r (Voucher v) drawn of vouchers is = record {
+  voucher = ap (λ (d : Drawn). d.number) is ∙ ap (λ n. n + 1) (sym vouchers);
+  asset = ap (λ (d : Drawn). d.second) is ∙ ap (λ (xs : List CapitalAsset). length xs + 1) of.assets;
+}
+next_numbers s r (Asset (Donate d)) drawn of vouchers is = ap (λ (x : Drawn). x.number) is ∙ ap (λ (xs : List CapitalAsset). length xs + 1) of.assets
+next_numbers s r (Asset (Dispose d)) drawn of vouchers is = tt
+next_numbers s r _ drawn of vouchers is = tt
+
+-- the moves of an act that rolls no year are those of its documents, or what it spends beside them
+pub moves_drawn : (plan : Plan) (s : Registers) (on : Day) (act : Act) → rolled_year plan act ≡ None → moves_of plan s (draws s act).number on act ≡ act_moves plan s on act
+moves_drawn plan s on (Close p) none = unrolled_moves plan s 0 on (Close p) none
+moves_drawn plan s on (Asset (Donate d)) none = refl
+moves_drawn plan s on (Asset (Dispose d)) none = refl
+moves_drawn plan s on _ none = refl

@@ -1,0 +1,73 @@
+use Rattle.std.proofs.Common.{◌≡◌, ◌≤◌, ◌+◌, ◌++◌, None, List, map, refl, sym, ap, subst, ◌∙◌, arith}
+use Rattle.cf_calls.specs.declared.acts.Act.{Act}
+use Rattle.cf_debt.specs.Register.{Debts}
+use Rattle.cf_model.specs.Assets.{Asset}
+use Rattle.cf_model.specs.Bonds.{Bond, bond_step, bonds_by}
+use Rattle.cf_model.specs.Documents.{Documents, draws_voucher}
+use Rattle.cf_model.specs.Leave.{LeaveChange, leave_by}
+use Rattle.cf_model.specs.Months.{number_of_day}
+use Rattle.cf_model.specs.RegisterRules.{asset_refusal}
+use Rattle.cf_model.specs.Registers.{Registers, closed_after, registers_step}
+use Rattle.cf_model.specs.Results.{draws}
+use Rattle.cf_revenue.proofs.Levied.{levied_by_rule}
+use Rattle.cf_registers.specs.RegistersState.{CanTakeIn, RegistersState}
+use Rattle.cf_registers.specs.RegistersView.{registers_state}
+use Rattle.cf_registers.proofs.Taken.{asset_same, bonds_drawn, documents_drawn, early_issue, next_numbers, receivables_drawn}
+use Rattle.cf_registers.proofs.registers.Registers.apply.Goals as goal
+
+pub apply-requires-2-clause-levied : goal.apply-requires-2-clause-levied
+apply-requires-2-clause-levied c =
+    let s = registers_state c.self.inside in
+    levied_by_rule c.args.chart.now s.registers c.args.entry.now.change.on c.args.entry.now.change.act (rw (← c.self.view_is) at c.requires.levied)
+
+pub apply-requires-3-clause-allowed : goal.apply-requires-3-clause-allowed
+apply-requires-3-clause-allowed c s of =
+    let e = c.args.entry.now in
+    let here : asset_refusal (registers_state c.self.inside).registers e.change.on e.change.act ≡ None = rw (← c.self.view_is) at c.requires.assets in
+    asset_same s (registers_state c.self.inside).registers e.change.on e.change.act of.assets of.closed ∙ here
+
+pub apply-requires-3-clause-drawn : goal.apply-requires-3-clause-drawn
+apply-requires-3-clause-drawn c =
+    let e = c.args.entry.now in
+    let s = (registers_state c.self.inside).registers in
+    let drawn : e.drawn ≡ draws s e.change.act = rw (← c.self.view_is) at c.requires.drawn in
+    next_numbers s c.self.inside.assets e.change.act e.drawn (record { assets = refl; closed = refl }) c.self.invariant.vouchers drawn
+
+pub apply-requires-4-clause-early : goal.apply-requires-4-clause-early
+apply-requires-4-clause-early c =
+    let e = c.args.entry.now in
+    let s = (registers_state c.self.inside).registers in
+    let early : s.closed ≤ number_of_day c.args.chart.now e.change.on = rw (← c.self.view_is) at c.requires.early in
+    early_issue c.args.chart.now c.self.inside.debt.debts e.change.on e.change.act (subst (λ n. n ≤ number_of_day c.args.chart.now e.change.on) (sym c.self.invariant.closed) early)
+
+pub returns-clause-registers : goal.returns-clause-registers
+returns-clause-registers c =
+    let plan = c.args.chart.now in
+    let e = c.args.entry.now in
+    let s = (registers_state c.self.inside).registers in
+    let drawn : e.drawn ≡ draws s e.change.act = rw (← c.self.view_is) at c.requires.drawn in
+    let documents = c.apply.ensures.documents ∙ documents_drawn plan s e c.apply.result c.apply.ensures.drawn drawn in
+    let receivables = c.apply-2.ensures.receivables ∙ receivables_drawn plan s e c.apply-2.result c.apply-2.ensures.drawn drawn in
+    let assets = c.apply-3.ensures.assets in
+    let bonds : c.apply-4.new.self.debts.bonds ≡ map (bond_step e.change.act) s.bonds ++ bonds_by plan e.change.on e.change.act e.drawn =
+    ap (λ (d : Debts). d.bonds) c.apply-4.ensures.debts ∙ ap (λ (new : List Bond). map (bond_step e.change.act) s.bonds ++ new) (bonds_drawn plan s e c.apply-4.result c.apply-4.ensures.drawn drawn) in
+    let leave : c.apply-4.new.self.debts.leave ≡ s.leave ++ leave_by plan e.change.on e.change.act = ap (λ (d : Debts). d.leave) c.apply-4.ensures.debts in
+    let closed = c.apply-3.ensures.closed in
+    let now : (let r : Registers = record {
+      documents = c.apply.new.self.documents;
+      receivables = c.apply-2.new.self.receivables;
+      assets = c.apply-3.new.self.assets;
+      bonds = c.apply-4.new.self.debts.bonds;
+      leave = c.apply-4.new.self.debts.leave;
+      closed = c.apply-3.new.self.closed;
+    } in r) ≡ registers_step plan s e =
+    λ i. record { documents = documents i; receivables = receivables i; assets = assets i; bonds = bonds i; leave = leave i; closed = closed i } in
+    rw (← c.self.view_is) now
+
+pub invariant_of-self : goal.invariant_of-self
+invariant_of-self c =
+    let act = c.args.entry.now.change.act in
+    record {
+      closed = ap (λ (d : Debts). d.closed) c.apply-4.ensures.debts ∙ ap (closed_after act) c.self.invariant.closed ∙ sym c.apply-3.ensures.closed;
+      vouchers = c.apply-3.ensures.vouchers ∙ ap (λ n. n + draws_voucher act) c.self.invariant.vouchers ∙ sym (ap (λ (d : Documents). d.vouchers) c.apply.ensures.documents);
+    }

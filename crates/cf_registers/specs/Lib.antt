@@ -1,0 +1,9 @@
+pub mod AccountsState
+pub mod AccountsView
+pub mod Deeds
+pub mod Dues
+pub mod Lines
+pub mod Moved
+pub mod Numbered
+pub mod RegistersState
+pub mod RegistersView

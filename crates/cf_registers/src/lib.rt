@@ -1,0 +1,23 @@
+//! The registers of a history as one, and what an entry makes of them: deeds and their posts, results, and the moves of
+//! control lines.
+#![tactic(auto)]
+
+mod accounts;
+mod capital;
+mod closing;
+mod deeds;
+mod long_term;
+mod made;
+mod months;
+mod moves;
+mod plan;
+mod registers;
+mod spendings;
+
+pub use accounts::Accounts;
+pub use capital::is_capital;
+pub use made::made_of;
+pub use months::{month_number, start_month};
+pub use moves::{entry_changes, merged_moves};
+pub use plan::whole;
+pub use registers::Registers;

@@ -1,0 +1,188 @@
+//! The registers of a history as one: what they allow, which memory an entry needs, which numbers it draws, what
+//! it makes of them, and what they show.
+
+ghost use Rattle.std.specs.Prelude.{◌≡◌, ◌+◌, ℕ, true, IfOk, OnOk};
+ghost use Rattle.cf_assets.specs.Register.{IsOf};
+ghost use Rattle.cf_base.specs.Calendar.{is_day};
+ghost use Rattle.cf_debt.specs.Register.{debts_of};
+ghost use Rattle.cf_model.specs.Registers.{no_registers, registers_step};
+ghost use Rattle.cf_model.specs.Results as results;
+ghost use Rattle.cf_model.specs.Rules.{first_of};
+ghost use Rattle.cf_registers.specs.RegistersState.{CanTakeIn, HasRoomFor, HaveTaken, register_rules, register_shown};
+
+use cf_assets::Assets;
+use cf_base::Day;
+use cf_calls::{Act, Drawn, Entry, Read, Refusal, Shown};
+use cf_chart::Chart;
+use cf_debt::Debt;
+use cf_orders::Orders;
+use cf_revenue::Revenue;
+use std::alloc::{AllocError, Global};
+use std::marker::Model;
+
+/// The registers that the entries of a history make. Each has the same five calls, and the office speaks to them
+/// through these alone. An act that no register knows leaves them all as they are.
+#[derive(Drop)]
+pub struct Registers {
+    orders: Orders,
+    revenue: Revenue,
+    assets: Assets,
+    debt: Debt,
+}
+
+impl Model for Registers {
+    ghost use Rattle.cf_registers.specs.RegistersState.{RegistersState};
+
+    ghost Value = { RegistersState };
+
+    ghost use Rattle.cf_registers.specs.RegistersView.{registers_state, AreInStep};
+
+    ghost view = { registers_state };
+
+    ghost invariant = { AreInStep };
+}
+
+impl Registers {
+    /// The registers of the empty history. It takes no memory.
+    pub fn new(alloc: Global) -> Registers
+        ensures registers { result.registers ≡ no_registers }
+        ensures taken { HaveTaken 0 result }
+    {
+        Registers {
+            orders: Orders::new(alloc),
+            revenue: Revenue::new(alloc),
+            assets: Assets::new(alloc),
+            debt: Debt::new(alloc),
+        }
+    }
+
+    /// The requisitions, orders and vouchers, with their items.
+    pub fn orders(&self) -> &Orders
+        ensures { result.now.documents ≡ self.now.registers.documents }
+    {
+        &self.orders
+    }
+
+    /// The bills with what is settled of them, and the loans between funds.
+    pub fn revenue(&self) -> &Revenue
+        ensures { result.now.receivables ≡ self.now.registers.receivables }
+    {
+        &self.revenue
+    }
+
+    /// The capital assets.
+    pub fn assets(&self) -> &Assets
+        ensures { IsOf self.now.registers result.now }
+    {
+        &self.assets
+    }
+
+    /// The bonds with what is paid of them, and leave.
+    pub fn debt(&self) -> &Debt
+        ensures { result.now.debts ≡ debts_of self.now.registers }
+    {
+        &self.debt
+    }
+
+    /// How many months are closed, from the chart's first on.
+    pub fn closed(&self) -> u16
+        ensures { result ≡ self.now.registers.closed }
+    {
+        self.debt.closed()
+    }
+
+    /// The first broken rule among those of the registers.
+    pub fn check(&self, chart: &Chart, on: Day, desk: u16, act: &Act) -> Option<Refusal>
+        requires { is_day on ≡ true }
+        ensures { result ≡ first_of (register_rules chart.now self.now.registers on desk act.now) }
+    {
+        if let Some(refusal) = self.orders.check(chart, on, desk, act) {
+            return Some(refusal);
+        }
+        if let Some(refusal) = self.revenue.check(chart, on, desk, act) {
+            return Some(refusal);
+        }
+        if let Some(refusal) = self.assets.check(chart, on, act) {
+            return Some(refusal);
+        }
+        self.debt.check(chart, on, desk, act)
+    }
+
+    /// Takes all memory of an act. The registers stay.
+    pub fn reserve(&mut self, act: &Act) -> Result<(), AllocError>
+        ensures ok { OnOk result (HasRoomFor act.now self.new) }
+        ensures registers { self.new.registers ≡ self.old.registers }
+        ensures taken { (n : ℕ) → HaveTaken n self.old → HaveTaken n self.new }
+    {
+        self.orders.reserve(act)?;
+        self.revenue.reserve(act)?;
+        self.assets.reserve(act)?;
+        self.debt.reserve(act)
+    }
+
+    /// The number of the document, bill, asset, bond or payment that an act enters.
+    fn number(&self, act: &Act) -> u32
+        ensures { result ≡ (results.draws self.now.registers act.now).number }
+    {
+        match act {
+            Act::Bill(_) => self.revenue.draws(act).number,
+            Act::Asset(_) => self.assets.draws(act).number,
+            Act::Issue(_) | Act::PayDue(_) => self.debt.draws(act).number,
+            _ => self.orders.draws(act).number,
+        }
+    }
+
+    /// The number of the first asset of a voucher, or of the next one where it has none.
+    fn second(&self, act: &Act) -> u32
+        ensures { result ≡ (results.draws self.now.registers act.now).second }
+    {
+        match act {
+            Act::Voucher(_) => self.assets.draws(act).second,
+            _ => 0,
+        }
+    }
+
+    /// The numbers that an act draws: the next of its kind, from 1. It takes no memory.
+    pub fn draws(&self, act: &Act) -> Drawn
+        ensures { result ≡ results.draws self.now.registers act.now }
+    {
+        Drawn {
+            number: self.number(act),
+            second: self.second(act),
+        }
+    }
+
+    /// Takes in an entry that the rules accept. It takes no memory, as that was reserved.
+    pub fn apply(&mut self, chart: &Chart, entry: &Entry)
+        requires { CanTakeIn chart.now self.old entry.now }
+        ensures registers { self.new.registers ≡ registers_step chart.now self.old.registers entry.now }
+        ensures taken { (n : ℕ) → HaveTaken n self.old → HaveTaken (n + 1) self.new }
+    {
+        let change = &entry.change;
+        self.orders
+            .apply(chart, change.on, change.desk, &change.act);
+        self.revenue
+            .apply(chart, change.on, change.desk, &change.act);
+        self.assets
+            .apply(chart, change.on, &change.act, entry.drawn);
+        self.debt.apply(chart, change.on, change.desk, &change.act);
+    }
+
+    /// What a look at a document, a bill, an asset, a bond or leave shows, or nothing where there is none of its number.
+    pub fn look(
+        &self,
+        alloc: Global,
+        chart: &Chart,
+        read: &Read,
+    ) -> Result<Option<Shown>, AllocError>
+        ensures { IfOk result (λ s. s ≡ register_shown chart.now self.now.registers read.now) }
+    {
+        match read {
+            Read::Bill { .. } => Ok(self.revenue.look(read)),
+            Read::Asset { .. } => Ok(self.assets.look(read)),
+            Read::Bond { .. } => Ok(self.debt.look(chart, read)),
+            Read::Leave { .. } => Ok(self.debt.look(chart, read)),
+            _ => self.orders.look(alloc, chart, read),
+        }
+    }
+}

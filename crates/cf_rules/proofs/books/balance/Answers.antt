@@ -1,0 +1,15 @@
+use Rattle.std.proofs.Common.{◌<◌, ◌^◌, ◌≤◌, length, unsigned_abs, sym, subst, rules}
+use Rattle.std.proofs.lemmas.Int.{to_z-of_z}
+use mir.Val.{SFits}
+use mir.Syntax.{w128}
+use Rattle.cf_rules.proofs.SmallBalance.{small_balance}
+use Rattle.cf_rules.proofs.books.balance.Goals as goal
+
+pub returns-clause-small : goal.returns-clause-small
+returns-clause-small g c =
+    let few : length (g.H.History.entries c.args.history.now) ≤ 1048576 = search rules in
+    let fits : SFits w128 c.balance.result = search rules in
+    rw (to_z-of_z w128 c.balance.result fits)
+    (subst (λ z. unsigned_abs z < 2 ^ 104) (sym c.balance.ensures)
+    (small_balance c.args.basis (g.H.History.plan c.args.history.now) (g.H.History.entries c.args.history.now) c.args.year c.args.fund c.args.account
+    c.chart-chart.ensures.whole c.chart-chart.ensures.legal few))

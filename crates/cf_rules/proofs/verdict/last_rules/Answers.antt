@@ -1,0 +1,27 @@
+use Rattle.std.proofs.Common.{◌≡◌, None, sym, ap, ◌∙◌}
+use Rattle.cf_model.specs.Rules.{or_else}
+use Rattle.cf_rules.proofs.LastRules.{at_registers, at_room, at_cash, documents_allow}
+use Rattle.cf_registers.proofs.Options.{none_is}
+use Rattle.cf_rules.proofs.verdict.last_rules.Goals as goal
+
+pub returns-in-Some : goal.returns-in-Some
+returns-in-Some g c =
+    at_registers (g.H.History.plan c.args.history.now) (g.H.History.entries c.args.history.now) c.args.change.now c.in-Some.refusal (sym c.register_rule.ensures ∙ c.in-Some.is)
+
+pub exceed_rule-requires-clause-documents : goal.exceed_rule-requires-clause-documents
+exceed_rule-requires-clause-documents g c =
+    documents_allow (g.H.History.plan c.args.history.now) (g.H.History.entries c.args.history.now) c.args.change.now
+    (sym c.register_rule.ensures ∙ none_is c.register_rule.result c.in_default.not-Some)
+
+pub returns-in-Some-exceed_rule : goal.returns-in-Some-exceed_rule
+returns-in-Some-exceed_rule g c =
+    at_room (g.H.History.plan c.args.history.now) (g.H.History.entries c.args.history.now) c.args.change.now c.in-Some-exceed_rule.refusal
+    (sym c.register_rule.ensures ∙ none_is c.register_rule.result c.in_default.not-Some)
+    (sym c.exceed_rule.ensures ∙ c.in-Some-exceed_rule.is)
+
+pub returns : goal.returns
+returns g c =
+    c.or.ensures ∙ ap (λ o. or_else o None) c.cash_rule.ensures
+    ∙ at_cash (g.H.History.plan c.args.history.now) (g.H.History.entries c.args.history.now) c.args.change.now
+    (sym c.register_rule.ensures ∙ none_is c.register_rule.result c.in_default.not-Some)
+    (sym c.exceed_rule.ensures ∙ none_is c.exceed_rule.result c.in_default-exceed_rule.not-Some)

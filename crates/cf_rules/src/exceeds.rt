@@ -1,0 +1,173 @@
+//! Budgetary control: whether more is asked of a control line than it has room for.
+
+ghost use Rattle.std.specs.Prelude.{◌≡◌, ◌<◌, None, true, pos, length};
+ghost use Rattle.std.specs.List.{All, list_all};
+ghost use Rattle.cf_calls.specs.Form.{IsChangeInForm};
+ghost use Rattle.cf_model.specs.DocumentRules.{document_refusal};
+ghost use Rattle.cf_model.specs.Documents.{documents_of};
+ghost use Rattle.cf_model.specs.LineNumbers as numbers;
+ghost use Rattle.cf_model.specs.Moves.{asks_of_moves};
+ghost use Rattle.cf_model.specs.Rules as spec;
+ghost use Rattle.cf_model.specs.Registers.{registers_of};
+ghost use Rattle.cf_model.specs.Results as results;
+ghost use Rattle.cf_model.specs.Step as step;
+ghost use Rattle.cf_rules.specs.Least.{is_before as spec_is_before, lesser as spec_lesser, least_from, excess_by, refusal_in};
+ghost use Rattle.cf_registers.specs.Lines.{LendsTouched};
+ghost use Rattle.cf_registers.specs.Moved.{act_moves, asks_of, is_inside, AreSmallSums, IsCleared};
+
+use crate::history::History;
+use cf_base::Day;
+use cf_budget::{LineChange, Row};
+use cf_calls::acts::{Amendment, LineTransfer};
+use cf_calls::{Act, Change, Refusal};
+use cf_registers::merged_moves;
+
+/// A line and fiscal year of which too much is asked, with its refusal.
+#[derive(Clone, Copy)]
+pub struct Excess {
+    pub line: u16,
+    pub year: u16,
+    pub refusal: Refusal,
+}
+
+/// The refusal of a line of which so much is asked, in cents.
+fn line_refusal(line: u16, asked: i128, room: i128) -> Option<Refusal>
+    ensures { result ≡ spec.overspends line asked room }
+{
+    if asked > 0 && asked > room {
+        Some(Refusal::Exceeds { line, asked, room })
+    } else {
+        None
+    }
+}
+
+/// The size of a fall, and 0 for a rise.
+fn fall_of(by: i64) -> u64
+    ensures { result ≡ numbers.fall_of by }
+{
+    if by < 0 { by.unsigned_abs() } else { 0 }
+}
+
+/// What a change asks of its line and year, in cents: by how much it narrows the room.
+fn asks(by: &Row) -> i128
+    requires { AreSmallSums by.now }
+    ensures { result ≡ asks_of by.now }
+{
+    by.held + by.encumbered + by.expended
+}
+
+fn is_before(one: &Excess, other: &Excess) -> bool
+    ensures { result ≡ spec_is_before one.now other.now }
+{
+    one.line < other.line || (one.line == other.line && one.year < other.year)
+}
+
+fn lesser(first: Option<Excess>, second: Option<Excess>) -> Option<Excess>
+    ensures { result ≡ spec_lesser first second }
+{
+    match (first, second) {
+        (Some(one), Some(other)) => Some(if is_before(&other, &one) { other } else { one }),
+        (Some(one), None) => Some(one),
+        (None, other) => other,
+    }
+}
+
+/// What a change asks too much of its line and year.
+fn change_excess<H: History>(history: &H, change: &LineChange) -> Option<Excess>
+    requires inside { is_inside (H.plan history.now) change.now.line.number change.now.year ≡ true }
+    requires lent { H.lends history.now change.now.line.number ≡ true }
+    requires small { AreSmallSums change.now.by }
+    ensures { result ≡ excess_by (λ line year. numbers.room (H.plan history.now) line year (H.entries history.now)) change.now }
+{
+    let line = change.line.number;
+    let year = change.year;
+    let room = history.numbers(line, year).room;
+    let refusal = line_refusal(line, asks(&change.by), room)?;
+    Some(Excess {
+        line,
+        year,
+        refusal,
+    })
+}
+
+/// The least line, and its least year, of which one of these changes asks too much.
+fn least_excess<H: History>(history: &H, changes: &[LineChange]) -> Option<Excess>
+    requires inside { list_all (λ c. is_inside (H.plan history.now) c.line.number c.year) changes.now ≡ true }
+    requires lent { All (λ c. H.lends history.now c.line.number ≡ true) changes.now }
+    requires small { All (λ c. AreSmallSums c.by) changes.now }
+    ensures { result ≡ least_from (excess_by (λ line year. numbers.room (H.plan history.now) line year (H.entries history.now))) None changes.now }
+{
+    let mut best = None;
+    for change in changes {
+        best = lesser(best, change_excess(history, change));
+    }
+    best
+}
+
+/// Too much is asked by an act's moves: the least line.
+fn moves_rule<H: History>(history: &H, on: Day, act: &Act) -> Option<Refusal>
+    requires lent { LendsTouched (H.plan history.now) (H.lends history.now) act.now }
+    requires cleared { IsCleared (H.plan history.now) (registers_of (H.plan history.now) (H.entries history.now)) on act.now }
+    ensures { result ≡ spec.first_below
+        (λ line. spec.first_below (λ year. spec.overspends line (asks_of_moves (H.plan history.now) line year (act_moves (H.plan history.now) (registers_of (H.plan history.now) (H.entries history.now)) on act.now)) (numbers.room (H.plan history.now) line year (H.entries history.now))) 2201)
+        (length (H.plan history.now).lines) }
+{
+    let changes = merged_moves(history.chart(), history.registers(), on, act);
+    refusal_of(least_excess(history, changes.as_slice()))
+}
+
+fn refusal_of(excess: Option<Excess>) -> Option<Refusal>
+    ensures { result ≡ refusal_in excess }
+{
+    match excess {
+        Some(excess) => Some(excess.refusal),
+        None => None,
+    }
+}
+
+/// More is asked of a control line than it has room for (GASB Codification 1700: budgetary control).
+pub fn exceed_rule<H: History>(history: &H, change: &Change) -> Option<Refusal>
+    requires lent { LendsTouched (H.plan history.now) (H.lends history.now) change.now.act }
+    requires legal { step.IsLegal (H.plan history.now) (H.entries history.now) }
+    requires form { IsChangeInForm change.now }
+    requires names { spec.name_refusal (H.plan history.now) (documents_of (H.plan history.now) (H.entries history.now)) change.now.act ≡ None }
+    requires documents { document_refusal (H.plan history.now) (documents_of (H.plan history.now) (H.entries history.now)) change.now.on change.now.desk change.now.act ≡ None }
+    ensures { result ≡ spec.exceed_refusal (H.plan history.now) (H.entries history.now) (results.entry_with (registers_of (H.plan history.now) (H.entries history.now)) change.now) }
+{
+    if let Some(amendment) = change.act.amendment() {
+        return amendment_rule(history, amendment);
+    }
+    if let Some(transfer) = change.act.line_transfer() {
+        return transfer_rule(history, transfer);
+    }
+    if let Act::Close(_) = change.act {
+        // What the roll of a year carries has as much appropriation, and all else that a close moves lowers.
+        return None;
+    }
+    // So that the proof knows the chart's calendar.
+    let _whole = history.chart();
+    moves_rule(history, change.on, &change.act)
+}
+
+fn amendment_rule<H: History>(history: &H, amendment: &Amendment) -> Option<Refusal>
+    requires line { amendment.now.line < length (H.plan history.now).lines }
+    requires year { amendment.now.year < 2201 }
+    requires lent { H.lends history.now amendment.now.line ≡ true }
+    ensures { result ≡ spec.overspends amendment.now.line (pos (numbers.fall_of amendment.now.by))
+        (numbers.room (H.plan history.now) amendment.now.line amendment.now.year (H.entries history.now)) }
+{
+    let asked = i128::from(fall_of(amendment.by));
+    let room = history.numbers(amendment.line, amendment.year).room;
+    line_refusal(amendment.line, asked, room)
+}
+
+fn transfer_rule<H: History>(history: &H, transfer: &LineTransfer) -> Option<Refusal>
+    requires line { transfer.now.from < length (H.plan history.now).lines }
+    requires year { transfer.now.year < 2201 }
+    requires lent { H.lends history.now transfer.now.from ≡ true }
+    ensures { result ≡ spec.overspends transfer.now.from (pos transfer.now.amount)
+        (numbers.room (H.plan history.now) transfer.now.from transfer.now.year (H.entries history.now)) }
+{
+    let room = history.numbers(transfer.from, transfer.year).room;
+    line_refusal(transfer.from, i128::from(transfer.amount), room)
+}

@@ -1,0 +1,473 @@
+//! The rules before that of room, each as the refusal that it gives.
+
+ghost use Rattle.std.specs.Prelude.{◌≡◌, ◌∷◌, [], ◌≤◌, ◌+◌, true, List, nat_lt};
+ghost use Rattle.cf_base.specs.Calendar.{is_day, month_of_day};
+ghost use Rattle.cf_calls.specs.Form.{IsActInForm};
+ghost use Rattle.cf_model.specs.Calendar as calendar;
+ghost use Rattle.cf_model.specs.Receivables.{bill_at};
+ghost use Rattle.cf_model.specs.RegisterRules.{later_levy, levy_refusal, payment_refusal};
+ghost use Rattle.cf_model.specs.Registers.{registers_of};
+ghost use Rattle.cf_model.specs.Charted as charted;
+ghost use Rattle.cf_model.specs.Rules as spec;
+ghost use Rattle.cf_model.specs.Rules.{first_refusal};
+ghost use Rattle.cf_rules.specs.Least.{closed_where};
+ghost use Rattle.cf_chart.specs.Plan.{object_at, desk_at, is_capital_kind};
+
+use crate::history::{History, debt_of, orders_of, revenue_of};
+use cf_base::{Day, MOST_CENTS, Month, fiscal_year, month_of};
+use cf_calls::acts::{AssetAct, LeaveAct, Period};
+use cf_calls::items::{AccountItem, Charge, LineAmount, SourceAmount, VoucherItem};
+use cf_calls::{Act, Refusal, Role, has_role, role_of};
+use cf_chart::{Chart, ObjectKind};
+use cf_orders::{document_year, year_of_day};
+use cf_revenue::Revenue;
+
+/// The most entries that a history may have.
+pub const MOST_ENTRIES: u64 = 1_048_576;
+
+/// The first of two refusals.
+pub fn or(first: Option<Refusal>, second: Option<Refusal>) -> Option<Refusal>
+    ensures { result ≡ spec.or_else first second }
+{
+    match first {
+        Some(refusal) => Some(refusal),
+        None => second,
+    }
+}
+
+// ---- the kinds of change that the office knows
+
+// ---- desks
+
+/// The chart has no such desk.
+pub fn desk_rule(chart: &Chart, desk: u16) -> Option<Refusal>
+    ensures { result ≡ spec.desk_refusal chart.now desk }
+{
+    match chart.desk(desk) {
+        Some(_) => None,
+        None => Some(Refusal::DeskUnknown { desk }),
+    }
+}
+
+/// The caller has seen more than the history has.
+pub fn ahead_rule(after: Option<u64>, length: u64) -> Option<Refusal>
+    ensures { result ≡ spec.ahead_refusal after length }
+{
+    match after {
+        Some(after) if length < after => Some(Refusal::Ahead { after, length }),
+        _ => None,
+    }
+}
+
+fn desk_has_role(chart: &Chart, desk: u16, role: Role) -> bool
+    ensures { result ≡ spec.has_role role (desk_at chart.now desk) }
+{
+    match chart.desk(desk) {
+        Some(row) => has_role(row.roles.as_slice(), role),
+        None => false,
+    }
+}
+
+/// The desk lacks the role that the call needs.
+pub fn role_rule(chart: &Chart, desk: u16, act: &Act) -> Option<Refusal>
+    ensures { result ≡ spec.role_refusal chart.now desk act.now }
+{
+    let role = role_of(act);
+    if desk_has_role(chart, desk, role) {
+        None
+    } else {
+        Some(Refusal::NotThisDesk { role })
+    }
+}
+
+/// The history has as many entries as it may have.
+pub fn full_rule(length: u64) -> Option<Refusal>
+    ensures { result ≡ spec.full_refusal length }
+{
+    if MOST_ENTRIES <= length {
+        Some(Refusal::HistoryFull {
+            limit: MOST_ENTRIES,
+        })
+    } else {
+        None
+    }
+}
+
+// ---- amounts
+
+fn amount_fault(amount: u64) -> Option<Refusal>
+    ensures { result ≡ spec.bad_amount (spec.amount amount) }
+{
+    if 1 <= amount && amount <= MOST_CENTS {
+        None
+    } else {
+        Some(Refusal::AmountRange { amount })
+    }
+}
+
+#[tactic(auto, using(cf_model::proofs::First::firsts))]
+fn lines_amount_fault(rows: &[LineAmount]) -> Option<Refusal>
+    ensures { result ≡ first_refusal (λ r. spec.bad_amount (spec.amount r.amount)) rows.now }
+{
+    for row in rows {
+        if let Some(refusal) = amount_fault(row.amount) {
+            return Some(refusal);
+        }
+    }
+    None
+}
+
+#[tactic(auto, using(cf_model::proofs::First::firsts))]
+fn sources_amount_fault(rows: &[SourceAmount]) -> Option<Refusal>
+    ensures { result ≡ first_refusal (λ r. spec.bad_amount (spec.amount r.amount)) rows.now }
+{
+    for row in rows {
+        if let Some(refusal) = amount_fault(row.amount) {
+            return Some(refusal);
+        }
+    }
+    None
+}
+
+#[tactic(auto, using(cf_model::proofs::First::firsts))]
+fn items_amount_fault(items: &[VoucherItem]) -> Option<Refusal>
+    ensures { result ≡ first_refusal (λ i. spec.bad_amount (spec.amount i.account.amount)) items.now }
+{
+    for item in items {
+        if let Some(refusal) = amount_fault(item.account.amount) {
+            return Some(refusal);
+        }
+    }
+    None
+}
+
+#[tactic(auto, using(cf_model::proofs::First::firsts))]
+fn accounts_amount_fault(items: &[AccountItem]) -> Option<Refusal>
+    ensures { result ≡ first_refusal (λ i. spec.bad_amount (spec.amount i.amount)) items.now }
+{
+    for item in items {
+        if let Some(refusal) = amount_fault(item.amount) {
+            return Some(refusal);
+        }
+    }
+    None
+}
+
+/// An amount that may be 0.
+fn most_fault(amount: u64) -> Option<Refusal>
+    ensures { result ≡ spec.bad_amount (spec.amount_or_none amount) }
+{
+    if amount <= MOST_CENTS {
+        None
+    } else {
+        Some(Refusal::AmountRange { amount })
+    }
+}
+
+#[tactic(auto, using(cf_model::proofs::First::firsts))]
+fn principals_amount_fault(principals: &[u64]) -> Option<Refusal>
+    ensures { result ≡ first_refusal (λ p. spec.bad_amount (spec.amount_or_none p)) principals.now }
+{
+    for principal in principals {
+        if let Some(refusal) = most_fault(*principal) {
+            return Some(refusal);
+        }
+    }
+    None
+}
+
+#[tactic(auto, using(cf_model::proofs::First::firsts))]
+fn asset_amount_fault(act: &AssetAct) -> Option<Refusal>
+    ensures { result ≡ first_refusal spec.bad_amount (spec.asset_amounts act.now) }
+{
+    match act {
+        AssetAct::Donate(gift) => or(amount_fault(gift.amount), None),
+        AssetAct::Dispose(disposal) => or(most_fault(disposal.proceeds), None),
+    }
+}
+
+#[tactic(auto, using(cf_model::proofs::First::firsts))]
+fn leave_amount_fault(act: &LeaveAct) -> Option<Refusal>
+    ensures { result ≡ first_refusal spec.bad_amount (spec.leave_amounts act.now) }
+{
+    match act {
+        LeaveAct::Earn(leave) => or(amount_fault(leave.amount), None),
+        LeaveAct::Use(leave) => or(amount_fault(leave.amount), None),
+        LeaveAct::Mature(leave) => or(amount_fault(leave.amount), None),
+    }
+}
+
+/// The first amount that is out of range.
+#[tactic(auto, using(cf_model::proofs::First::firsts))]
+pub fn amount_rule(act: &Act) -> Option<Refusal>
+    ensures { result ≡ spec.amount_refusal act.now }
+{
+    match act {
+        Act::Adopt(a) => or(
+            lines_amount_fault(a.lines.as_slice()),
+            sources_amount_fault(a.estimates.as_slice()),
+        ),
+        Act::Amend(a) => or(amount_fault(a.by.unsigned_abs()), None),
+        Act::Transfer(t) => or(amount_fault(t.amount), None),
+        Act::Requisition(r) => accounts_amount_fault(r.items.as_slice()),
+        Act::Order(o) => accounts_amount_fault(o.items.as_slice()),
+        Act::ChangeOrder(c) => or(amount_fault(c.by.unsigned_abs()), None),
+        Act::Voucher(v) => items_amount_fault(v.items.as_slice()),
+        Act::Bill(b) => or(amount_fault(b.amount), None),
+        Act::Collect(part) => or(amount_fault(part.amount), None),
+        Act::Receive(r) => or(amount_fault(r.amount), None),
+        Act::WriteOff(part) => or(amount_fault(part.amount), None),
+        Act::Asset(asset) => asset_amount_fault(asset),
+        Act::Issue(bond) => or(
+            amount_fault(bond.amount),
+            principals_amount_fault(bond.principals.as_slice()),
+        ),
+        Act::Leave(leave) => leave_amount_fault(leave),
+        Act::Interfund(m) => or(amount_fault(m.amount), None),
+        _ => None,
+    }
+}
+
+// ---- months and years
+
+/// The month of the call's day is closed.
+pub fn period_rule<H: History>(history: &H, on: Day) -> Option<Refusal>
+    requires { is_day on ≡ true }
+    ensures { result ≡ spec.period_refusal (H.plan history.now) (H.entries history.now) on }
+{
+    if history.is_closed(on) {
+        Some(Refusal::PeriodClosed {
+            month: month_of(on),
+        })
+    } else {
+        None
+    }
+}
+
+fn open_fault(first_open: u16, year: u16) -> Option<Refusal>
+    requires { first_open ≤ 2200 }
+    ensures { result ≡ spec.not_open first_open year }
+{
+    if first_open + 2 < year || 2199 < year {
+        Some(Refusal::YearNotOpen { year })
+    } else {
+        None
+    }
+}
+
+/// The year that the call states is too far ahead.
+#[tactic(auto, using(cf_model::proofs::First::firsts))]
+fn stated_fault(first_open: u16, act: &Act) -> Option<Refusal>
+    requires { first_open ≤ 2200 }
+    ensures { result ≡ first_refusal (spec.not_open first_open) (spec.stated_years act.now) }
+{
+    match act {
+        Act::Adopt(a) => or(open_fault(first_open, a.year), None),
+        Act::Amend(a) => or(open_fault(first_open, a.year), None),
+        Act::Transfer(t) => or(open_fault(first_open, t.year), None),
+        Act::Bill(b) => or(open_fault(first_open, b.levy_year), None),
+        _ => None,
+    }
+}
+
+/// The year of the call's day, or a year that it states, is too far ahead.
+pub fn year_rule<H: History>(history: &H, on: Day, act: &Act) -> Option<Refusal>
+    requires { is_day on ≡ true }
+    ensures { result ≡ spec.year_refusal (H.plan history.now) (H.entries history.now) on act.now }
+{
+    let first_open = history.open_year();
+    let year = year_of_day(history.chart(), on);
+    or(open_fault(first_open, year), stated_fault(first_open, act))
+}
+
+/// The fiscal year of the month that is closed is too far ahead, or the year isn't the next one to close.
+pub fn closing_rule<H: History>(history: &H, on: Day, act: &Act) -> Option<Refusal>
+    requires { IsActInForm on act.now }
+    ensures { result ≡ spec.closing_refusal (H.plan history.now) (H.entries history.now) act.now }
+{
+    match act {
+        Act::Close(Period::Month(month)) => {
+            let year = fiscal_year(history.chart().first_month(), *month);
+            ahead_fault(history.open_year() + 2, year)
+        }
+        Act::Close(Period::Year(year)) => ahead_fault(history.open_year(), *year),
+        _ => None,
+    }
+}
+
+/// A year is above the last one that it may be.
+fn ahead_fault(last: u16, year: u16) -> Option<Refusal>
+    ensures { result ≡ spec.refuse_if (nat_lt last year) (Refusal.YearNotOpen year) }
+{
+    if last < year {
+        Some(Refusal::YearNotOpen { year })
+    } else {
+        None
+    }
+}
+
+/// The levy year of a bill is above a year.
+fn levy_fault(revenue: &Revenue, year: u16, bill: u32) -> Option<Refusal>
+    ensures { result ≡ later_levy year (bill_at bill revenue.now.receivables.bills) }
+{
+    match revenue.bill(bill) {
+        Some(bill) => ahead_fault(year, bill.levy_year),
+        None => None,
+    }
+}
+
+/// A bill is collected or written off before its levy year.
+pub fn levy_rule<H: History>(history: &H, on: Day, act: &Act) -> Option<Refusal>
+    requires { is_day on ≡ true }
+    ensures { result ≡ levy_refusal (H.plan history.now) (registers_of (H.plan history.now) (H.entries history.now)) on act.now }
+{
+    let year = year_of_day(history.chart(), on);
+    let revenue = revenue_of(history);
+    match act {
+        Act::Collect(part) => levy_fault(revenue, year, part.bill),
+        Act::WriteOff(part) => levy_fault(revenue, year, part.bill),
+        _ => None,
+    }
+}
+
+fn closed_fault(first_open: u16, year: u16) -> Option<Refusal>
+    ensures { result ≡ spec.closed_year first_open year }
+{
+    if year < first_open {
+        Some(Refusal::YearClosed { year })
+    } else {
+        None
+    }
+}
+
+fn closed_if(first_open: u16, year: Option<u16>) -> Option<Refusal>
+    ensures { result ≡ closed_where first_open year }
+{
+    match year {
+        Some(year) => closed_fault(first_open, year),
+        None => None,
+    }
+}
+
+/// The year that the call posts to is closed.
+#[tactic(auto, using(cf_model::proofs::First::firsts))]
+pub fn closed_rule<H: History>(history: &H, on: Day, act: &Act) -> Option<Refusal>
+    requires { is_day on ≡ true }
+    ensures { result ≡ spec.closed_refusal (H.plan history.now) (H.entries history.now) on act.now }
+{
+    let first_open = history.open_year();
+    match act {
+        Act::Adopt(a) => or(closed_fault(first_open, a.year), None),
+        Act::Amend(a) => or(closed_fault(first_open, a.year), None),
+        Act::Transfer(t) => or(closed_fault(first_open, t.year), None),
+        Act::Bill(b) => or(closed_fault(first_open, b.levy_year), None),
+        Act::ChangeOrder(c) => closed_if(first_open, orders_of(history).item_year(c.order, c.item)),
+        Act::Voucher(_) => or(
+            closed_fault(first_open, document_year(history.chart(), on, act)),
+            None,
+        ),
+        Act::VoidVoucher(number) => closed_if(first_open, orders_of(history).voucher_year(*number)),
+        Act::Close(Period::Year(year)) => or(closed_fault(first_open, *year), None),
+        _ => None,
+    }
+}
+
+// ---- adopted budgets
+
+/// The fund's budget of the year was adopted before.
+pub fn adopted_rule<H: History>(history: &H, act: &Act) -> Option<Refusal>
+    ensures { result ≡ spec.adopted_refusal (H.entries history.now) act.now }
+{
+    match act {
+        Act::Adopt(a) => match history.adopted(a.fund, a.year) {
+            Some(was) => Some(Refusal::Adopted { was }),
+            None => None,
+        },
+        _ => None,
+    }
+}
+
+fn unadopted_fault<H: History>(history: &H, fund: u16, year: u16) -> Option<Refusal>
+    ensures { result ≡ spec.unadopted_where fund year (spec.adopted_at fund year (H.entries history.now)) }
+{
+    match history.adopted(fund, year) {
+        Some(_) => None,
+        None => Some(Refusal::NotAdopted { fund, year }),
+    }
+}
+
+#[tactic(auto, using(cf_model::proofs::First::firsts))]
+fn items_unadopted<H: History>(history: &H, year: u16, items: &[VoucherItem]) -> Option<Refusal>
+    ensures { result ≡ first_refusal (λ fund. spec.unadopted_where fund year (spec.adopted_at fund year (H.entries history.now))) (spec.direct_funds items.now) }
+{
+    for item in items {
+        if let Some(refusal) = item_unadopted(history, year, item) {
+            return Some(refusal);
+        }
+    }
+    None
+}
+
+#[tactic(auto, using(cf_model::proofs::First::firsts))]
+fn item_unadopted<H: History>(history: &H, year: u16, item: &VoucherItem) -> Option<Refusal>
+    ensures { result ≡ first_refusal (λ fund. spec.unadopted_where fund year (spec.adopted_at fund year (H.entries history.now))) (spec.funds_if_direct item.now.charge item.now.account.fund) }
+{
+    match &item.charge {
+        Charge::Direct => or(unadopted_fault(history, item.account.fund, year), None),
+        Charge::OnOrder { .. } => None,
+    }
+}
+
+#[tactic(auto, using(cf_model::proofs::First::firsts))]
+fn accounts_unadopted<H: History>(history: &H, year: u16, items: &[AccountItem]) -> Option<Refusal>
+    ensures { result ≡ first_refusal (λ i. spec.unadopted_where i.fund year (spec.adopted_at i.fund year (H.entries history.now))) items.now }
+{
+    for item in items {
+        if let Some(refusal) = unadopted_fault(history, item.fund, year) {
+            return Some(refusal);
+        }
+    }
+    None
+}
+
+/// The fund's budget of the year isn't adopted.
+#[tactic(auto, using(cf_model::proofs::First::firsts))]
+pub fn unadopted_rule<H: History>(history: &H, on: Day, act: &Act) -> Option<Refusal>
+    requires { is_day on ≡ true }
+    ensures { result ≡ spec.unadopted_refusal (H.plan history.now) (H.entries history.now) on act.now }
+{
+    match act {
+        Act::Amend(a) => or(unadopted_fault(history, a.fund, a.year), None),
+        Act::Transfer(t) => or(unadopted_fault(history, t.fund, t.year), None),
+        Act::Requisition(r) => {
+            let year = document_year(history.chart(), on, act);
+            accounts_unadopted(history, year, r.items.as_slice())
+        }
+        Act::Order(o) => {
+            let year = document_year(history.chart(), on, act);
+            accounts_unadopted(history, year, o.items.as_slice())
+        }
+        Act::Voucher(v) => {
+            let year = document_year(history.chart(), on, act);
+            items_unadopted(history, year, v.items.as_slice())
+        }
+        Act::Leave(LeaveAct::Mature(leave)) => {
+            let year = document_year(history.chart(), on, act);
+            or(unadopted_fault(history, leave.fund, year), None)
+        }
+        _ => None,
+    }
+}
+
+/// The fund's budget of the fiscal year in which a debt payment is due isn't adopted.
+pub fn payment_rule<H: History>(history: &H, act: &Act) -> Option<Refusal>
+    ensures { result ≡ payment_refusal (H.plan history.now) (H.entries history.now) (registers_of (H.plan history.now) (H.entries history.now)) act.now }
+{
+    match act {
+        Act::PayDue(payment) => match debt_of(history).due(history.chart(), payment.bond) {
+            Some(due) => unadopted_fault(history, payment.fund, due.year),
+            None => None,
+        },
+        _ => None,
+    }
+}

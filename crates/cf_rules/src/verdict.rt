@@ -1,0 +1,297 @@
+//! The verdict on a change, and the answer of a look: the rules in their order, over any history.
+
+ghost use Rattle.std.specs.Prelude.{◌≡◌, ◌<◌, true, None, Some, IfOk};
+ghost use Rattle.cf_base.specs.Calendar.{is_day};
+ghost use Rattle.cf_calls.specs.Form.{IsChangeInForm, IsReadInForm};
+ghost use Rattle.cf_model.specs.Documents.{documents_of};
+ghost use Rattle.cf_registers.specs.Lines.{LendsTouched, LendsRead};
+ghost use Rattle.cf_model.specs.RegisterRules.{register_name_refusal};
+ghost use Rattle.cf_model.specs.Registers.{registers_of};
+ghost use Rattle.cf_model.specs.Rules as rules;
+ghost use Rattle.cf_model.specs.Step as step;
+ghost use Rattle.cf_registers.specs.RegistersState.{register_rules, register_shown};
+
+use crate::cash::cash_rule;
+use crate::exceeds::exceed_rule;
+use crate::history::{History, debt_of, orders_of};
+use crate::names::name_rule;
+use crate::register_names::{leave_fault, register_name_rule};
+use crate::reports::show_report;
+use crate::rules::{
+    adopted_rule, ahead_rule, amount_rule, closed_rule, closing_rule, desk_rule, full_rule,
+    levy_rule, or, payment_rule, period_rule, role_rule, unadopted_rule, year_rule,
+};
+use crate::windows::window_rule;
+use cf_calls::{Body, Change, Look, NameKind, Read, Refusal, Shown, Verdict};
+use cf_registers::Registers;
+use std::alloc::{AllocError, Global};
+
+/// The rules before a repeat: an unknown desk, and a caller that has seen more than the history has.
+fn first_rules<H: History>(history: &H, change: &Change) -> Option<Refusal>
+    ensures { result ≡ rules.first_of (step.first_rules (H.plan history.now) (H.entries history.now) change.now) }
+{
+    or(
+        desk_rule(history.chart(), change.desk),
+        or(ahead_rule(change.after, history.len()), None),
+    )
+}
+
+/// The rules of the desk's role, the history's length, amounts and names.
+fn call_rules<H: History>(history: &H, change: &Change) -> Option<Refusal>
+    ensures first { result ≡ rules.first_of (step.call_rules (H.plan history.now) (H.entries history.now) change.now) }
+{
+    let chart = history.chart();
+    let act = &change.act;
+    if let Some(refusal) = role_rule(chart, change.desk, act) {
+        return Some(refusal);
+    }
+    if let Some(refusal) = full_rule(history.len()) {
+        return Some(refusal);
+    }
+    if let Some(refusal) = amount_rule(act) {
+        return Some(refusal);
+    }
+    if let Some(refusal) = name_rule(chart, orders_of(history), act) {
+        return Some(refusal);
+    }
+    or(register_name_rule(chart, history.registers(), act), None)
+}
+
+/// The rules of periods and adopted budgets.
+fn period_rules<H: History>(history: &H, change: &Change) -> Option<Refusal>
+    requires { IsChangeInForm change.now }
+    ensures { result ≡ rules.first_of (step.period_rules (H.plan history.now) (H.entries history.now) change.now) }
+{
+    if let Some(refusal) = period_rule(history, change.on) {
+        return Some(refusal);
+    }
+    if let Some(refusal) = year_rule(history, change.on, &change.act) {
+        return Some(refusal);
+    }
+    if let Some(refusal) = closing_rule(history, change.on, &change.act) {
+        return Some(refusal);
+    }
+    if let Some(refusal) = levy_rule(history, change.on, &change.act) {
+        return Some(refusal);
+    }
+    if let Some(refusal) = closed_rule(history, change.on, &change.act) {
+        return Some(refusal);
+    }
+    if let Some(refusal) = adopted_rule(history, &change.act) {
+        return Some(refusal);
+    }
+    if let Some(refusal) = unadopted_rule(history, change.on, &change.act) {
+        return Some(refusal);
+    }
+    if let Some(refusal) = payment_rule(history, &change.act) {
+        return Some(refusal);
+    }
+    or(window_rule(history, change.on, &change.act), None)
+}
+
+/// The first broken rule of the registers.
+fn register_rule<H: History>(history: &H, change: &Change) -> Option<Refusal>
+    requires { is_day change.now.on ≡ true }
+    ensures { result ≡ rules.first_of (register_rules (H.plan history.now) (registers_of (H.plan history.now) (H.entries history.now)) change.now.on change.now.desk change.now.act) }
+{
+    history
+        .registers()
+        .check(history.chart(), change.on, change.desk, &change.act)
+}
+
+/// The rules on the states of documents, on what is left of bills and loans, on assets, debt, leave and the order of
+/// months, of room, and of cash.
+#[tactic(auto, using(cf_model::proofs::First::rule_lists))]
+fn last_rules<H: History>(history: &H, change: &Change) -> Option<Refusal>
+    requires lent { LendsTouched (H.plan history.now) (H.lends history.now) change.now.act }
+    requires form { IsChangeInForm change.now }
+    requires names { rules.name_refusal (H.plan history.now) (documents_of (H.plan history.now) (H.entries history.now)) change.now.act ≡ None }
+    requires register_names { register_name_refusal (H.plan history.now) (registers_of (H.plan history.now) (H.entries history.now)) change.now.act ≡ None }
+    ensures { result ≡ rules.first_of (step.last_rules (H.plan history.now) (H.entries history.now) change.now) }
+{
+    // So that the proof knows that the history is legal.
+    let _chart = history.chart();
+    if let Some(refusal) = register_rule(history, change) {
+        return Some(refusal);
+    }
+    if let Some(refusal) = exceed_rule(history, change) {
+        return Some(refusal);
+    }
+    or(cash_rule(history, &change.act), None)
+}
+
+/// The rules after a repeat, the least broken one first.
+#[tactic(auto, using(cf_model::proofs::First::rule_lists))]
+fn later_rules<H: History>(history: &H, change: &Change) -> Option<Refusal>
+    requires lent { LendsTouched (H.plan history.now) (H.lends history.now) change.now.act }
+    requires form { IsChangeInForm change.now }
+    ensures { result ≡ rules.first_of (step.later_rules (H.plan history.now) (H.entries history.now) change.now) }
+{
+    if let Some(refusal) = call_rules(history, change) {
+        return Some(refusal);
+    }
+    if let Some(refusal) = period_rules(history, change) {
+        return Some(refusal);
+    }
+    last_rules(history, change)
+}
+
+/// A change whose desk used the key before: a repeat where it is the same call.
+fn judge_known<H: History>(history: &H, change: &Change, was: u64) -> Verdict
+    ensures { result ≡ step.verdict_known (H.entries history.now) change.now was }
+{
+    if history.is_repeat(change, was) {
+        Verdict::Repeat { was }
+    } else {
+        Verdict::Refuse(Refusal::KeyReused { was })
+    }
+}
+
+fn judge_new<H: History>(history: &H, change: &Change) -> Verdict
+    requires lent { LendsTouched (H.plan history.now) (H.lends history.now) change.now.act }
+    requires form { IsChangeInForm change.now }
+    ensures { result ≡ step.verdict_new (H.plan history.now) (H.entries history.now) change.now None }
+{
+    match later_rules(history, change) {
+        Some(refusal) => Verdict::Refuse(refusal),
+        None => Verdict::Accept(history.registers().draws(&change.act)),
+    }
+}
+
+/// What the rules say of a change over a history: that it is accepted with the numbers that it draws, that it
+/// repeats an earlier call, or the least broken rule with its values. It takes no memory.
+pub fn judge<H: History>(history: &H, change: &Change) -> Verdict
+    requires form { IsChangeInForm change.now }
+    requires lent { LendsTouched (H.plan history.now) (H.lends history.now) change.now.act }
+    ensures { result ≡ step.verdict_of (H.plan history.now) (H.entries history.now) change.now }
+{
+    if let Some(refusal) = first_rules(history, change) {
+        return Verdict::Refuse(refusal);
+    }
+    match history.known(change) {
+        Some(was) => judge_known(history, change, was),
+        None => judge_new(history, change),
+    }
+}
+
+/// The numbers of a line and year, or that there is no such line.
+fn show_line<H: History>(history: &H, line: u16, year: u16) -> Body
+    requires year { year < 2201 }
+    requires lent { H.lends history.now line ≡ true }
+    ensures { result ≡ step.line_shown (H.plan history.now) (H.entries history.now) line year }
+{
+    match history.chart().line(line) {
+        Some(_) => Body::Shown(Shown::Line(history.numbers(line, year))),
+        None => Body::Refused(Refusal::UnknownName {
+            kind: NameKind::Line,
+            id: u32::from(line),
+        }),
+    }
+}
+
+/// What a look at a document or a bill shows, if there is one of its number.
+fn look_at<H: History>(alloc: Global, history: &H, read: &Read) -> Result<Option<Shown>, AllocError>
+    ensures { IfOk result (λ s. s ≡ register_shown (H.plan history.now) (registers_of (H.plan history.now) (H.entries history.now)) read.now) }
+{
+    history.registers().look(alloc, history.chart(), read)
+}
+
+/// What a look at a document or a bill shows, or that there is none of its number.
+fn show_numbered<H: History>(
+    alloc: Global,
+    history: &H,
+    kind: NameKind,
+    number: u32,
+    read: &Read,
+) -> Result<Body, AllocError>
+    ensures { IfOk result (λ b. b ≡ step.or_refused kind number (register_shown (H.plan history.now) (registers_of (H.plan history.now) (H.entries history.now)) read.now)) }
+{
+    match look_at(alloc, history, read)? {
+        Some(shown) => Ok(Body::Shown(shown)),
+        None => Ok(Body::Refused(Refusal::UnknownName { kind, id: number })),
+    }
+}
+
+/// The leave of a fund's department that is left, or that there is no such fund or department.
+fn show_leave<H: History>(history: &H, fund: u16, dept: u16) -> Body
+    ensures { Some result ≡ step.shown_of (H.plan history.now) (H.entries history.now) (Read.Leave fund dept) }
+{
+    match leave_fault(history.chart(), fund, dept) {
+        Some(refusal) => Body::Refused(refusal),
+        None => Body::Shown(Shown::Leave {
+            left: debt_of(history).leave_of(fund, dept),
+        }),
+    }
+}
+
+/// What a look shows, but for what its caller has seen.
+fn show<H: History>(alloc: Global, history: &H, read: &Read) -> Result<Option<Body>, AllocError>
+    requires form { IsReadInForm read.now }
+    requires lent { LendsRead (H.lends history.now) read.now }
+    ensures { IfOk result (λ b. b ≡ step.shown_of (H.plan history.now) (H.entries history.now) read.now) }
+{
+    match *read {
+        Read::Line { line, year } => Ok(Some(show_line(history, line, year))),
+        Read::Requisition { requisition } => {
+            let body = show_numbered(alloc, history, NameKind::Requisition, requisition, read)?;
+            Ok(Some(body))
+        }
+        Read::Order { order } => {
+            let body = show_numbered(alloc, history, NameKind::Order, order, read)?;
+            Ok(Some(body))
+        }
+        Read::Voucher { voucher } => {
+            let body = show_numbered(alloc, history, NameKind::Voucher, voucher, read)?;
+            Ok(Some(body))
+        }
+        Read::Bill { bill } => {
+            let body = show_numbered(alloc, history, NameKind::Bill, bill, read)?;
+            Ok(Some(body))
+        }
+        Read::Asset { asset } => {
+            let body = show_numbered(alloc, history, NameKind::Asset, asset, read)?;
+            Ok(Some(body))
+        }
+        Read::Bond { bond } => {
+            let body = show_numbered(alloc, history, NameKind::Bond, bond, read)?;
+            Ok(Some(body))
+        }
+        Read::Leave { fund, dept } => Ok(Some(show_leave(history, fund, dept))),
+        Read::Account {
+            basis,
+            year,
+            fund,
+            account,
+        } => {
+            let balance = history.balance(basis, year, fund, account);
+            Ok(Some(Body::Shown(Shown::Account { balance })))
+        }
+        Read::Reconcile { year } => {
+            let recon = history.recon(year);
+            Ok(Some(Body::Shown(Shown::Reconcile(recon))))
+        }
+        Read::Report { year, kind } => {
+            let shown = show_report(alloc, history, year, kind)?;
+            Ok(Some(Body::Shown(shown)))
+        }
+    }
+}
+
+/// What a look shows: `None` exactly for a look that the office doesn't know yet. A look is refused where the
+/// caller has seen more than the history has, and where there is nothing of its name. Its list of items takes
+/// memory.
+pub fn answer<H: History>(
+    alloc: Global,
+    history: &H,
+    look: &Look,
+) -> Result<Option<Body>, AllocError>
+    requires form { IsReadInForm look.now.read }
+    requires lent { LendsRead (H.lends history.now) look.now.read }
+    ensures { IfOk result (λ b. b ≡ step.look_body (H.plan history.now) (H.entries history.now) look.now) }
+{
+    let body = show(alloc, history, &look.read)?;
+    match (ahead_rule(look.after, history.len()), body) {
+        (Some(refusal), Some(_)) => Ok(Some(Body::Refused(refusal))),
+        (_, body) => Ok(body),
+    }
+}
