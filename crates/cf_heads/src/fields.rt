@@ -12,8 +12,8 @@ ghost use Rattle.cf_heads.specs.Fields.{values_of, is_number, stated_length, bod
 
 use httparse::Header;
 
-/// Why a head is refused, by RFC 9112 (sections 3.2, 6.1 and 6.3), but for two rules of our own: every transfer coding is
-/// refused, and a length that is stated twice, be it the same.
+/// Why a head is refused, by RFC 9112 (its rules of `Host`, `Transfer-Encoding` and `Content-Length`), but for two rules
+/// of our own: every transfer coding is refused, and a length that is stated twice, be it the same.
 #[derive(Clone, Copy)]
 pub enum Refusal {
     /// It is no head, or one beyond the limits, or its host or its body's length isn't stated as it must be.
@@ -128,7 +128,7 @@ fn length_in(text: &[u8]) -> Result<u32, Refusal>
     number_within(text, LONGEST_BODY).ok_or(Refusal::Long)
 }
 
-/// Whether a field on the connection says that the link is to be closed (RFC 9112, section 9.6).
+/// Whether a field on the connection says that the link is to be closed (RFC 9112: the connection option `close`).
 pub fn is_closing(headers: &[Header<'_>]) -> bool
     ensures { result ≡ says_close (map header_parts headers.now) }
 {

@@ -21,7 +21,7 @@ pub const MOST_FIELDS: usize = 64;
 pub struct Heading {
     /// How many bytes the head has.
     pub length: usize,
-    /// Whether its method is HEAD, so that the answer has no body (RFC 9110, section 9.3.2).
+    /// Whether its method is HEAD, so that the answer has no body (RFC 9110: a server sends no content to HEAD).
     pub is_head: bool,
     /// Whether the link is to be closed after the answer.
     pub closes: bool,

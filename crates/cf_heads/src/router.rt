@@ -1,6 +1,6 @@
 //! Where a request goes, by its method and its target.
 
-ghost use Rattle.std.specs.Prelude.{◌≡◌, ◌∷◌, [], ℕ, List, IfOk};
+ghost use Rattle.std.specs.Prelude.{◌≡◌, ◌∷◌, [], ℕ, List, OnOk};
 ghost use Rattle.cf_heads.specs.Routes.{path_of, words_of, route_of, ask_of, IsSplit, HasTwoWords};
 ghost use Rattle.cf_heads.specs.Rows.{router_rows, IsPlace};
 
@@ -49,22 +49,23 @@ fn two_words(path: &str) -> Option<(&str, &str)>
     split_word(two)
 }
 
-/// A router with the patterns of a desk.
-fn desk_router(alloc: Global) -> Result<Router<Place>, InsertError>
-    ensures { IfOk result (λ router. router ≡ router_rows) }
+/// Adds the patterns of a desk.
+fn add_patterns(router: &mut Router<Place>) -> Result<(), InsertError>
+    requires { router.old ≡ [] }
+    ensures { OnOk result (router.new ≡ router_rows) }
 {
-    let mut router = Router::new(alloc);
     router.insert("/calls", Place::Calls)?;
     router.insert("/lines/{line}/{year}", Place::Lines)?;
     router.insert("/reports/{year}/{kind}", Place::Reports)?;
-    Ok(router)
+    Ok(())
 }
 
 impl Routes {
     /// Their patterns are fixed and agree, so only memory can be wanting.
     pub fn new(alloc: Global) -> Result<Routes, AllocError> {
-        match desk_router(alloc) {
-            Ok(router) => Ok(Routes { router }),
+        let mut router = Router::new(alloc);
+        match add_patterns(&mut router) {
+            Ok(()) => Ok(Routes { router }),
             Err(_) => Err(AllocError),
         }
     }

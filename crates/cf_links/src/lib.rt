@@ -3,8 +3,6 @@
 
 mod memory;
 mod tcp;
-#[cfg(test)]
-mod tests;
 
 pub use memory::{Coming, MemDoor, MemLink};
 pub use tcp::{TcpDoor, TcpLink};

@@ -6,8 +6,6 @@ ghost use Rattle.cf_http.specs.Asking.{IsAnswerCode};
 use cf_base::Kind;
 use cf_heads::Route;
 use cf_http::{Answer, Request};
-use serde_json::Value;
-use serde_json::error::Category;
 use std::alloc::{AllocError, Global};
 
 /// How a call in form is answered.
@@ -19,7 +17,7 @@ pub enum Verdict {
     NoMemory,
 }
 
-/// Answers a call, which is a JSON object, by a verdict, and a look by its route. It counts what it is asked.
+/// Answers a call, which stands in braces, by a verdict, and a look by its route. It counts what it is asked.
 #[derive(Drop)]
 pub struct Clerk {
     pub alloc: Global,
@@ -54,19 +52,9 @@ fn kind_name(kind: Kind) -> &'static str {
     }
 }
 
-/// Whether the bytes are a JSON object.
-fn is_object(alloc: Global, bytes: &[u8]) -> Result<bool, AllocError> {
-    let Ok(text) = str::from_utf8(bytes) else {
-        return Ok(false);
-    };
-    match Value::from_str(alloc, text) {
-        Ok(Value::Object(_)) => Ok(true),
-        Ok(_) => Ok(false),
-        Err(error) => match error.classify() {
-            Category::Memory => Err(AllocError),
-            _ => Ok(false),
-        },
-    }
+/// Whether the bytes stand in braces, as a call does.
+fn has_braces(bytes: &[u8]) -> bool {
+    bytes.starts_with(b"{") && bytes.ends_with(b"}")
 }
 
 impl Clerk {
@@ -84,7 +72,7 @@ impl Clerk {
     fn reply_call(&self, body: &[u8]) -> Result<Reply, AllocError>
         ensures { IfOk result (λ reply. IsAnswerCode reply.code) }
     {
-        if is_object(self.alloc, body)? {
+        if has_braces(body) {
             self.reply_judged()
         } else {
             reply_of(self.alloc, 400, b"{\"form\":\"json\"}")

@@ -1,8 +1,9 @@
-//! Plays a script of links in memory, and prints what each one was answered and how it ended.
+//! Plays a script of links in memory and over the loopback device, and prints what each one was answered and how it ended.
 #![tactic(auto)]
 
 mod clerk;
 mod cut;
+mod peers;
 mod script;
 mod stage;
 

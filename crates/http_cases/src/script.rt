@@ -11,9 +11,11 @@
 //! | `play`, `play N ..`, `play each` | serves the link in one piece, and again in pieces of N bytes, and as N bytes and then all the rest; with `each` so for every number of bytes up to its length; prints what it was answered, and where that differs by the pieces |
 //! | `count` | serves the link, each request by one fixed answer, and prints how it ended and how many bytes it took |
 //! | `link N` | lets the link be the next one of the door, in pieces of N bytes |
+//! | `peers LINKS` | serves so many links of a door over the loopback device, at which a peer for each `link` stands; one without bytes says nothing |
 //! | `door LINKS N` | serves so many links of the door, whose call N of `next` fails, from 1 |
 
 use crate::clerk::Verdict;
+use crate::peers::see_peers;
 use crate::stage::{Played, Stage};
 use cf_http::{DoorEnd, LinkEnd};
 use cf_links::MemLink;
@@ -68,7 +70,7 @@ fn repeat(bytes: &mut Vec<u8>, words: &str) -> Result<(), AllocError> {
 }
 
 /// The bytes as a text, with ends of lines written out.
-fn shown(alloc: Global, bytes: &[u8]) -> Result<String, AllocError> {
+pub fn shown(alloc: Global, bytes: &[u8]) -> Result<String, AllocError> {
     let mut text = String::new(alloc);
     for byte in bytes {
         match *byte {
@@ -146,8 +148,12 @@ fn see_door(rt: &impl Print, stage: &mut Stage, words: &str) -> io::Result<()> {
     let (links, fail_at) = words.split_once(" ").unwrap_or((words, ""));
     let kept = stage.keep_door(links.parse::<u32>().unwrap_or(0), number(fail_at))?;
     print_finished(rt, stage.alloc, kept.door.finished())?;
-    let asked = kept.asked;
-    match kept.end {
+    print_door_end(rt, kept.end, kept.asked)
+}
+
+/// Prints how the service at a door ended, and how often the answerer was asked.
+pub fn print_door_end(rt: &impl Print, end: DoorEnd, asked: u64) -> io::Result<()> {
+    match end {
         DoorEnd::Done { links } => println!(rt; "= Done, {links} links, {asked} asked"),
         DoorEnd::DoorFault { links } => println!(rt; "= DoorFault, {links} links, {asked} asked"),
     }
@@ -179,8 +185,14 @@ fn prepare(stage: &mut Stage, verb: &str, rest: &str) -> Result<(), AllocError> 
     Ok(())
 }
 
+/// Serves the peers of the links that wait.
+fn see_peered(rt: &HostRuntime, stage: &Stage, words: &str) -> io::Result<()> {
+    let links = words.parse::<u32>().unwrap_or(0);
+    see_peers(rt, links, &mut stage.clerk(), stage.links.as_slice())
+}
+
 /// Plays a line.
-pub fn play(rt: &impl Print, stage: &mut Stage, line: &str) -> io::Result<()> {
+pub fn play(rt: &HostRuntime, stage: &mut Stage, line: &str) -> io::Result<()> {
     let (verb, rest) = line.split_once(" ").unwrap_or((line, ""));
     match verb {
         "#" => println!(rt; "{line}"),
@@ -195,6 +207,11 @@ pub fn play(rt: &impl Print, stage: &mut Stage, line: &str) -> io::Result<()> {
             Ok(())
         }
         "door" => see_door(rt, stage, rest),
+        "peers" => {
+            see_peered(rt, stage, rest)?;
+            stage.links.clear();
+            Ok(())
+        }
         _ => {
             prepare(stage, verb, rest)?;
             Ok(())

@@ -48,7 +48,7 @@ impl Stage {
         }
     }
 
-    fn clerk(&self) -> Clerk {
+    pub fn clerk(&self) -> Clerk {
         Clerk {
             alloc: self.alloc,
             verdict: self.verdict,

@@ -1,6 +1,6 @@
 use Rattle.std.proofs.Common.{refl}
 use Rattle.matchit.proofs.OnLiterals.{matchit_on_literals}
-use Rattle.cf_heads.proofs.router.desk_router.Goals as goal
+use Rattle.cf_heads.proofs.router.add_patterns.Goals as goal
 
 pub returns : goal.returns
 unfolding matchit_on_literals
@@ -8,4 +8,4 @@ returns c =
     let a = c.in_ok-insert.ensures in
     let b = c.in_ok-insert-2.ensures in
     let d = c.in_ok-insert-3.ensures in
-    rw (d.1, b.1, a.1, c.new-router.ensures) refl
+    rw (d.1, b.1, a.1, c.requires) refl
