@@ -1,8 +1,8 @@
 #!/bin/sh
 # Runs the examples through the launcher and compares what it prints with the replies beside them: each talk of
 # examples/ over a journal of its own, founded with the chart of Rivertown, those of examples/milltown/ with the chart of
-# Milltown, and the day of examples/two-runs/ by two desks, one after the other, over one journal. Then what founding and
-# opening refuse, and the launcher with stubs (launcher.sh).
+# Milltown, and the day of examples/two-runs/ by two desks, one after the other, over one journal. The journal of each talk
+# is read by its format alone (journal.py). Then what founding and opening refuse, and the launcher with stubs (launcher.sh).
 cd "$(dirname "$0")/.." || exit 1
 top=$(pwd)
 . tests/program.sh
@@ -57,6 +57,8 @@ for lines in examples/*.jsonl examples/milltown/*.jsonl; do
     esac
     expect "found for $lines" 0 founded found
     talk "$lines" "${lines%.jsonl}.replies"
+    python3 tests/journal.py "$scratch/fund.journal" "$lines" "${lines%.jsonl}.replies"
+    verdict "the journal of $lines, read by its format" $?
 done
 
 fresh rivertown

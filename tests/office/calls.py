@@ -1,13 +1,14 @@
 """What each call is answered: the least broken rule, or what the call makes.
 
-It takes calls in form only, and knows no close of a fiscal year's last month. tests/agree.sh compares it with the program over
-random talks.
+It takes calls in form only. tests/agree.sh compares it with the program over random talks, and with the stored replies of
+examples/.
 """
 import datetime
 import json
 
-from rules import Rules, same
+from rules import same
 from state import Refused, unknown
+from statements import TITLES, Statements
 
 ROLES = dict(
     adopt="council", amend="council", transfer="council", requisition="dept", withdraw="dept", order="purchasing",
@@ -17,7 +18,7 @@ ROLES = dict(
 )
 
 
-class Office(Rules):
+class Office(Statements):
     """What each call is answered: the least broken rule, or what the call makes."""
 
     def answer(self, call):
@@ -74,10 +75,9 @@ class Office(Rules):
         for row in call["lines"]:
             self.original[row["line"], call["year"]] = row["amount"]
             self.appropriate(row["line"], call["year"], row["amount"])
+        for row in call["estimates"]:
+            self.estimates[row["source"], call["year"]] = row["amount"]
         return {}
-
-    def appropriate(self, line, year, amount):
-        self.appropriated[line, year] = self.appropriated.get((line, year), 0) + amount
 
     def name_amend(self, call):
         self.known_fund(call["fund"])
@@ -467,6 +467,17 @@ class Office(Rules):
         pass
 
     def make_close(self, call, day, year, named):
+        return self.close_month(call) if call["what"] == "month" else self.close_year(call)
+
+    def close_year(self, call):
+        self.test_not_closed(call["year"])
+        month = self.window_month(call["year"])
+        if self.number_of(*month) >= self.closed:
+            raise Refused("WindowOpen", month="%04d-%02d" % month)
+        self.closed_years += 1
+        return {}
+
+    def close_month(self, call):
         month = self.month_at(self.closed)
         if call["month"] != "%04d-%02d" % month:
             raise Refused("MonthOrder", next="%04d-%02d" % month)
@@ -482,6 +493,8 @@ class Office(Rules):
         interest = sum(self.earned(bond, self.closed + 1) - self.earned(bond, self.closed) for bond in self.bonds)
         self.post("gov", year, 0, (530000, interest), (260000, -interest))
         self.closed += 1
+        if self.closed % 12 == 0:
+            self.roll(year)
         return {}
 
     # ---- looks
@@ -541,6 +554,10 @@ class Office(Rules):
 
     def look_reconcile(self, call):
         return {name: str(cents) for name, cents in self.reconciliation(call["year"]).items()}
+
+    def look_report(self, call):
+        rows = [[label, *map(str, amounts)] for label, *amounts in self.statement(call["year"], call["kind"])]
+        return dict(rows=rows, title=TITLES[call["kind"]])
 
 
 def text_of(reply):

@@ -47,17 +47,19 @@ class Rules(Books):
             self.test_open(call[STATED_YEAR[kind]])
         if kind in ("collect", "write_off") and self.bills[call["bill"] - 1]["levy_year"] > year:
             raise Refused("YearNotOpen", year=self.bills[call["bill"] - 1]["levy_year"])
-        if kind == "close":
+        if kind == "close" and call["what"] == "month":
             closing = self.fiscal_year(*map(int, call["month"].split("-")))
-            if closing > self.chart["first_year"] + 2:
+            if closing > self.open_year() + 2:
                 raise Refused("YearNotOpen", year=closing)
+        if kind == "close" and call["what"] == "year" and call["year"] > self.open_year():
+            raise Refused("YearNotOpen", year=call["year"])
 
     def test_open(self, year):
-        if year > min(self.chart["first_year"] + 2, 2199):
+        if year > min(self.open_year() + 2, 2199):
             raise Refused("YearNotOpen", year=year)
 
     def test_not_closed(self, year):
-        if year < self.chart["first_year"]:
+        if year < self.open_year():
             raise Refused("YearClosed", year=year)
 
     def test_adopted(self, fund, year):

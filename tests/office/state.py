@@ -35,7 +35,8 @@ class Books:
         self.chart = chart
         self.entries, self.keys = [], {}
         self.closed = 0  # months, from the first of the chart's first year
-        self.adopted, self.original, self.appropriated = {}, {}, {}
+        self.closed_years = 0  # fiscal years, from the chart's first one
+        self.adopted, self.original, self.appropriated, self.estimates = {}, {}, {}, {}
         self.requisitions, self.orders, self.vouchers, self.bills = [], [], [], []
         self.assets, self.bonds, self.leave, self.loans = [], [], [], {}
         self.spendings = []  # (line, year, amount): debt payments and matured leave
@@ -67,6 +68,15 @@ class Books:
     def year_end(self, year):
         after = self.month_at(12 * (year + 1 - self.chart["first_year"]))
         return datetime.date(*after, 1) - datetime.timedelta(days=1)
+
+    def open_year(self):
+        return self.chart["first_year"] + self.closed_years
+
+    def window_month(self, year):
+        """The month of the last day on which a collection can still be revenue of the year, by the longest window."""
+        longest = max((source["window"] for source in self.chart["source"]), default=0)
+        last = self.year_end(year) + datetime.timedelta(days=longest)
+        return last.year, last.month
 
     # ---- the chart
 
@@ -133,6 +143,23 @@ class Books:
             expended=expended, room=appropriated - held - encumbered - expended,
         )
 
+    def roll(self, year):
+        """The end of a fiscal year: what is open of it lapses, or is carried into the next year as the fund's policy says."""
+        for requisition in self.requisitions:
+            if (requisition["state"], requisition["year"]) == ("open", year):
+                requisition["state"] = "lapsed"
+        for item in [item for order in self.orders for item in order["items"] if item["year"] == year]:
+            if self.item_state(item) == "live":
+                left = self.open_of(item)
+                if left == 0 or self.row("fund", item["account"][0])["policy"] == "lapse":
+                    item["state"] = "lapsed"
+                else:
+                    item.update(year=year + 1, base=left, changes=0, uses=[])
+                    self.appropriate(item["line"], year + 1, left)
+
+    def appropriate(self, line, year, amount):
+        self.appropriated[line, year] = self.appropriated.get((line, year), 0) + amount
+
     # ---- posts
 
     def post(self, basis, year, fund, *posts):
@@ -146,6 +173,9 @@ class Books:
 
     def balance(self, basis, year, fund, account):
         return sum(a for y, f, code, a in self.posts[basis] if y <= year and (f, code) == (fund, account))
+
+    def of_year(self, basis, year, fund, account):
+        return sum(a for y, f, code, a in self.posts[basis] if (y, f, code) == (year, fund, account))
 
     def cash(self, fund):
         return self.balance("fund", 9999, fund, 100000)
@@ -191,9 +221,13 @@ class Books:
     def leave_left(self, fund, dept):
         return sum(amount for _, f, d, amount in self.leave if (f, d) == (fund, dept))
 
+    def closed_to(self, year):
+        """How many months of fiscal years up to this one are closed."""
+        return max(0, min(self.closed, 12 * (year + 1 - self.chart["first_year"])))
+
     def reconciliation(self, year):
         """The items that join fund balances and net position, from the registers."""
-        closed = max(0, min(self.closed, 12 * (year + 1 - self.chart["first_year"])))
+        closed = self.closed_to(year)
         capital = sum(
             asset["cost"] - self.depreciation(asset, closed) for asset in self.assets
             if asset["year"] <= year and asset["state"] != "void" and not asset.get("gone", 9999) <= year

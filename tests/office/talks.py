@@ -1,5 +1,5 @@
-"""Random charts and talks with what the independent office answers: talks.py SEED CALLS FOLDER writes chart.toml, talk.jsonl
-and talk.replies. A seed gives the same talk each time; most calls are near what is allowed, some are far from it."""
+"""Random charts and talks with what the independent office answers: talks.py SEED CALLS FOLDER writes chart.toml, talk.jsonl,
+talk.replies and statements. A seed gives the same talk each time; most calls are near what is allowed, some are far from it."""
 import datetime
 import json
 import os
@@ -8,22 +8,26 @@ import sys
 
 from calls import ROLES, Office, text_of
 from state import Refused
+from statements import GRANTS, TITLES
 
 WEIGHTS = dict(
     adopt=4, amend=2, transfer=2, requisition=5, withdraw=2, order=6, change_order=4, cancel_order=1, voucher=14, void_voucher=4,
     pay=5, bill=3, collect=3, receive=5, write_off=1, asset=6, issue=2, pay_due=6, leave=5, interfund=3, close=3,
 )
+# How fast a talk closes months: those without bonds get through several fiscal years.
+PACES = ({}, dict(close=4, issue=0, adopt=6), dict(close=7, issue=0, adopt=9, order=9), dict(close=8, issue=1, pay_due=14, adopt=6))
 DOCUMENTS = ("requisition", "order", "voucher", "bill", "asset", "bond")
-LOOKS = DOCUMENTS + ("line", "leave", "account", "reconcile")
+LOOKS = DOCUMENTS + ("line", "leave", "account", "reconcile", "report")
 SPENT = (510, 520, 710, 715, 720)
 
 
 def random_chart(rng):
     """A chart with all kinds of objects, and with lines for most accounts, in any order."""
-    functions = [dict(id=number, name="Function %d" % number) for number in sorted(rng.sample(range(1, 64), rng.randint(1, 3)))]
+    more = rng.choice(["", "", ", old", ' "old"'])  # what CSV and JSON have to quote
+    functions = [dict(id=n, name="Function %d%s" % (n, more)) for n in sorted(rng.sample(range(1, 64), rng.randint(1, 3)))]
     funds = [
         dict(
-            id=number, name="Fund %d" % number, type="general" if number == 1 else "special_revenue",
+            id=number, name="Fund %d%s" % (number, more), type="general" if number == 1 else "special_revenue",
             level=rng.choice(["department", "class", "object"]), policy=rng.choice(["lapse", "carry"]),
         )
         for number in range(1, rng.randint(3, 5))
@@ -62,13 +66,16 @@ def random_lines(rng, fund, dept, objects):
 def random_sources(rng, funds, functions):
     sources = []
     for fund in funds:
-        for kind in rng.sample(["property_tax", "charges", "operating_grant"], rng.randint(1, 2)):
+        kinds = ["property_tax", "tax", "general", "charges", "operating_grant", "capital_grant"]
+        for kind in rng.sample(kinds, rng.randint(1, 3)):
             source = dict(id=len(sources) + 1, name="Source %d" % len(sources), fund=fund["id"], kind=kind)
-            if kind == "property_tax":
-                source.update(window=rng.choice([0, 1, 30, 60]))
-            else:
-                source.update(window=rng.choice([0, 30, 90, 365]), function=rng.choice(functions)["id"])
+            source.update(window=rng.choice([0, 1, 30, 60]))
+            if kind != "property_tax" and rng.random() < 0.2:
+                source.update(window=rng.choice([61, 90, 365]))
+            if kind in GRANTS:
+                source.update(function=rng.choice(functions)["id"])
             sources.append(source)
+    rng.shuffle(sources)
     return sources
 
 
@@ -87,6 +94,7 @@ class Talk:
         self.office = Office(self.chart)
         self.begins = self.today = datetime.date(*self.office.month_at(0), 1)
         self.most = 10**13 if self.rng.random() < 0.15 else 10**5
+        self.weights = dict(WEIGHTS, **self.rng.choice(PACES))
         self.said = []
 
     def chance(self, part):
@@ -127,9 +135,12 @@ class Talk:
         return [dict(self.account(), amount=self.amount()) for _ in range(count or self.rng.choice([1, 1, 2, 3, 5]))]
 
     def year(self):
-        return min(2199, max(1971, self.chart["first_year"] + self.rng.choice([0, 0, 0, 0, 1, 1, 2, 3, -1])))
+        return min(2199, max(1971, self.office.open_year() + self.rng.choice([0, 0, 0, 0, 1, 1, 2, 3, -1])))
 
     def day(self):
+        month = self.office.month_at(self.office.closed)
+        if (self.today.year, self.today.month) < month <= (2199, 12) and self.chance(0.5):
+            self.today = datetime.date(*month, self.rng.randint(1, 28))
         if self.chance(0.06) and (self.today - self.begins).days < 820:
             self.today += datetime.timedelta(days=self.rng.choice([1, 3, 9, 31, 60]))
         away = self.rng.choice([0, 0, -5, -40, 2, 20, 20, 90, 400]) if self.chance(0.3) else 0
@@ -264,10 +275,12 @@ class Talk:
             return dict(what=what, to=taker, amount=self.amount(50000), **{"from": giver})
 
     def close(self):
-        """A month that doesn't end its fiscal year: those are left out."""
-        number = self.office.closed + (0 if self.chance(0.9) else self.rng.choice([-1, 1, 2, 12, 30]))
-        month = self.office.month_at(number)
-        if number % 12 != 11 and self.office.closed % 12 != 11 and 1970 <= month[0] <= 2199:
+        """The next month, or the open year once its months are closed; now and then another one."""
+        ahead = self.office.closed // 12 - self.office.closed_years
+        if self.chance(0.25 if ahead > 0 else 0.05):
+            return dict(what="year", year=min(2199, max(1971, self.office.open_year() + self.rng.choice([0, 0, 0, 0, 1, -1]))))
+        month = self.office.month_at(self.office.closed + (0 if self.chance(0.9) else self.rng.choice([-1, 1, 2, 12, 30])))
+        if 1970 <= month[0] <= 2199:
             return dict(what="month", month="%04d-%02d" % month)
 
     # ---- the talk
@@ -302,6 +315,8 @@ class Talk:
             return self.seen(dict(call=kind, fund=self.pick("fund"), dept=self.pick("department")))
         if kind == "reconcile":
             return self.seen(dict(call=kind, year=self.year()))
+        if kind == "report":
+            return self.seen(dict(call=kind, year=self.year(), kind=self.rng.choice(list(TITLES))))
         basis = self.rng.choice(["fund", "gov"])
         posts = self.office.posts[basis] or [(self.year(), 1, 100000, 0)]
         year, fund, account, _ = self.rng.choice(posts)
@@ -315,7 +330,7 @@ class Talk:
             return self.look()
         if self.said and self.chance(0.04):
             return self.again()
-        return self.change(self.rng.choices(list(WEIGHTS), list(WEIGHTS.values()))[0])
+        return self.change(self.rng.choices(list(self.weights), list(self.weights.values()))[0])
 
     def lines(self, calls):
         for count in range(calls):
@@ -326,15 +341,25 @@ class Talk:
                 yield call, text_of(self.office.answer(call))
 
 
-def main(seed, calls, folder):
-    os.makedirs(folder, exist_ok=True)
-    talk = Talk(int(seed))
-    with open(folder + "/chart.toml", "w") as chart:
-        chart.write(toml_of(talk.chart))
+def write_talk(folder, office, lines):
+    """Writes a talk, each call with its reply, its chart, and the statements of some years at its end: tests/agree.sh reads them."""
+    os.makedirs(folder)
+    with open(folder + "/chart.toml", "w") as file:
+        file.write(toml_of(office.chart))
     with open(folder + "/talk.jsonl", "w") as talked, open(folder + "/talk.replies", "w") as replies:
-        for call, reply in talk.lines(int(calls)):
+        for call, reply in lines:
             print(json.dumps(call, separators=(",", ":")), file=talked)
             print(reply, file=replies)
+    for year in {office.chart["first_year"], min(2199, office.open_year())}:
+        for kind in TITLES:
+            with open("%s/%d-%s.txt" % (folder, year, kind), "w") as text, open("%s/%d-%s.csv" % (folder, year, kind), "w") as csv:
+                text.write(office.text(year, kind))
+                csv.write(office.csv(year, kind))
+
+
+def main(seed, calls, folder):
+    talk = Talk(int(seed))
+    write_talk(folder, talk.office, talk.lines(int(calls)))
 
 
 if __name__ == "__main__":
