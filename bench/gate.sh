@@ -3,16 +3,21 @@
 # the longest chain of crates, and the wall time on two and on four processors that follows.
 #
 #     bench/gate.sh [NAME..]
+#     bench/gate.sh --reckon
 #
-# measures the named crates, or all, one after another at one job in a copy of the repository. The figures are kept in the
-# file that GATE_SECONDS names, or gate.seconds in the folder for temporary files, a line for each crate, so that crates
-# can be measured on different days; what follows from them is printed for all crates of that file. Measuring all takes
-# about twice the processor time of `rt ci`. A program's tests are its two runs. It isn't part of the gate.
+# The first form measures the named crates, or all, one after another at one job in a copy of the repository. The figures
+# are kept in the file that GATE_SECONDS names, or gate.seconds in the folder for temporary files, a line for each crate, so
+# that crates can be measured on different days; what follows from them is printed for all crates of that file. Measuring
+# all takes about twice the processor time of `rt ci`. A program's tests are its two runs.
+#
+# The second form measures nothing: it reckons each crate's price from the size of what its last check kept in out/, in
+# seconds of an otherwise idle machine; with all processors busy each takes up to twice as long. Neither is part of the gate.
 top=$(cd "$(dirname "$0")/.." && pwd)
 exec python3 - "$top" "${GATE_SECONDS:-}" "$@" <<'PY'
-import heapq, os, resource, shutil, subprocess, sys, tempfile
+import heapq, os, re, resource, shutil, subprocess, sys, tempfile
 
 top, figures, *names = sys.argv[1:]
+reckons = names == ["--reckon"]
 figures = figures or os.path.join(tempfile.gettempdir(), "gate.seconds")
 
 # What a crate may cost, in processor seconds: proof, edits, and a program of cases as a whole.
@@ -73,6 +78,47 @@ def measured(root, name):
     if os.path.isdir(f"{folder}/must-fail"):
         edits = seconds(root, "rt", "must-fail", name)[0]
     return proof, tests, edits
+
+
+# What a check from nothing costs beside the modules: the start, a megabyte of checked modules, a function; and what a
+# further edit, the last check behind the edits, a crate's own tests and the two builds of a program cost. In seconds.
+START, MEGABYTE, FUNCTION, EDIT, LAST, TESTS, BUILDS = 6, 0.65, 0.1, 16, 10, 60, 40
+
+
+def megabytes(folder):
+    """What a crate's last check kept, in megabytes of checked modules."""
+    kept = [f"{at}/{it}" for at, _, files in os.walk(f"{folder}/out/incremental") for it in files
+            if "/records" not in at and it.endswith(".oantt")]
+    return sum(os.path.getsize(it) for it in kept) / 1e6
+
+
+def functions(folder):
+    sources = [f"{at}/{it}" for at, _, files in os.walk(f"{folder}/src") for it in files]
+    return sum(len(re.findall(r"^\s*(?:pub )?fn ", open(it, encoding="utf-8").read(), re.M)) for it in sources)
+
+
+def reckoned(name):
+    """Processor seconds of a crate's proof, tests and edits, by its size; none where it has no out/."""
+    folder = f"{top}/crates/{name}"
+    size = megabytes(folder)
+    if not size:
+        return None
+    proof = START + MEGABYTE * size + FUNCTION * functions(folder)
+    tests = BUILDS if os.path.exists(f"{folder}/src/main.rt") else 0
+    tests += (proof + TESTS) if has(folder, "#[test]") else 0
+    edits = len(os.listdir(f"{folder}/must-fail")) if os.path.isdir(f"{folder}/must-fail") else 0
+    return proof, tests, edits and proof + EDIT * (edits - 1) + LAST * (edits > 1)
+
+
+def reckon():
+    deps = graph(top)
+    found = {name: reckoned(name) for name in deps}
+    for name in [it for it in found if not found[it]]:
+        print(f"{name:12} has no out/")
+        del found[name]
+    for name, (proof, tests, edits) in found.items():
+        print(f"{name:12} proof {proof:6.1f}  tests {tests:6.1f}  edits {edits:6.1f}")
+    return found, deps
 
 
 def read_figures():
@@ -172,7 +218,7 @@ def above(found):
             print(f"above its budget: the edits of {name}, {edits:.0f} s of {MOST['edits']}")
 
 
-found, deps = measure(names)
+found, deps = reckon() if reckons else measure(names)
 tasks = tasks_of(found, deps)
 sums = [sum(it[at] for it in found.values()) / 60 for at in range(3)]
 print(f"processor minutes of {len(found)} crates: proofs {sums[0]:.0f}, tests and runs {sums[1]:.0f}, edits {sums[2]:.0f}, in all {sum(sums):.0f}")
