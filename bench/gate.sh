@@ -219,6 +219,8 @@ def above(found):
 
 
 found, deps = reckon() if reckons else measure(names)
+if not found:
+    sys.exit("no crate was checked here yet: run rt all check first")
 tasks = tasks_of(found, deps)
 sums = [sum(it[at] for it in found.values()) / 60 for at in range(3)]
 print(f"processor minutes of {len(found)} crates: proofs {sums[0]:.0f}, tests and runs {sums[1]:.0f}, edits {sums[2]:.0f}, in all {sum(sums):.0f}")
