@@ -87,8 +87,6 @@ pub enum Verdict {
     /// The same call was accepted as the entry at this place.
     Repeat { was: u64 },
     Refuse(Refusal),
-    /// The office doesn't know this kind of change yet.
-    Unbuilt,
 }
 
 /// What the rules of the registers need of a call's moment.

@@ -73,7 +73,6 @@ form_fields fault.Json = (codes "form", string (codes "json")) ∷ []
 form_fields fault.Call = (codes "form", string (codes "call")) ∷ []
 form_fields (fault.Fields name) = (codes "form", string (codes "fields")) ∷ (codes "name", string name) ∷ []
 form_fields fault.Long = (codes "form", string (codes "long")) ∷ []
-form_fields fault.Unbuilt = (codes "form", string (codes "unbuilt")) ∷ []
 
 -- the text that answers a line that is no call
 abbrev pub form_text : FormFault → List ℕ

@@ -19,9 +19,6 @@ pub enum FormFault {
     /// The line is longer than a line may be.
     #[error("the line is too long")]
     Long,
-    /// The call is in form, and the office doesn't know it yet.
-    #[error("the call isn't built yet")]
-    Unbuilt,
 }
 
 /// Why no call was read.

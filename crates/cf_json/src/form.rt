@@ -77,6 +77,5 @@ pub fn write_form(alloc: Global, fault: &FormFault, out: &mut Vec<u8>) -> Result
         FormFault::Call => write_word(out, "call"),
         FormFault::Fields { name } => write_fields(alloc, name.as_str(), out),
         FormFault::Long => write_word(out, "long"),
-        FormFault::Unbuilt => write_word(out, "unbuilt"),
     }
 }

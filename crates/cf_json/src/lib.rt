@@ -10,7 +10,7 @@ mod items;
 mod kinds;
 mod lists;
 mod looks;
-mod parts;
+pub mod parts;
 mod posted;
 mod refusals;
 mod replies;

@@ -14,7 +14,7 @@ use Rattle.cf_calls.specs.declared.refusal.AssetFault.TheVariants as fault
 use Rattle.cf_calls.specs.declared.refusal.DocumentState.TheVariants as state
 use Rattle.cf_calls.specs.declared.refusal.Refusal.TheVariants as refusal
 use Rattle.cf_calls.specs.declared.reply.Verdict.{Verdict}
-use Rattle.cf_calls.specs.declared.reply.Verdict.TheVariants.{Refuse, Unbuilt}
+use Rattle.cf_calls.specs.declared.reply.Verdict.TheVariants.{Refuse}
 use Rattle.cf_calls.specs.declared.role.Role.TheVariants as role
 use Rattle.cf_chart.specs.declared.rows.FundType.TheVariants as fund_type
 use Rattle.cf_chart.specs.declared.rows.Level.TheVariants as level

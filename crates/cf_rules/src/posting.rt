@@ -14,19 +14,18 @@ use crate::verdict::answer;
 use cf_calls::{Body, Look, Posted, Refusal, Reply};
 use std::alloc::Global;
 
-/// What is given for a look: what it shows, want of memory, or `None` for a look that the office doesn't know yet.
-pub fn look_reply<H: History>(alloc: Global, history: &H, look: &Look) -> Option<Posted>
+/// What is given for a look: what it shows, or want of memory.
+pub fn look_reply<H: History>(alloc: Global, history: &H, look: &Look) -> Posted
     requires form { IsReadInForm look.now.read }
     requires lent { LendsRead (H.lends history.now) look.now.read }
     ensures { Posts (H.plan history.now) (H.entries history.now) (calls.Look look.now) (H.entries history.now) result }
 {
     match answer(alloc, history, look) {
-        Ok(Some(body)) => Some(Posted::Reply(Reply {
+        Ok(body) => Posted::Reply(Reply {
             at: history.len(),
             body,
-        })),
-        Ok(None) => None,
-        Err(_) => Some(Posted::NoMemory),
+        }),
+        Err(_) => Posted::NoMemory,
     }
 }
 

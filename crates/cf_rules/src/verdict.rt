@@ -214,7 +214,7 @@ fn show_numbered<H: History>(
 
 /// The leave of a fund's department that is left, or that there is no such fund or department.
 fn show_leave<H: History>(history: &H, fund: u16, dept: u16) -> Body
-    ensures { Some result ≡ step.shown_of (H.plan history.now) (H.entries history.now) (Read.Leave fund dept) }
+    ensures { result ≡ step.shown_of (H.plan history.now) (H.entries history.now) (Read.Leave fund dept) }
 {
     match leave_fault(history.chart(), fund, dept) {
         Some(refusal) => Body::Refused(refusal),
@@ -225,38 +225,24 @@ fn show_leave<H: History>(history: &H, fund: u16, dept: u16) -> Body
 }
 
 /// What a look shows, but for what its caller has seen.
-fn show<H: History>(alloc: Global, history: &H, read: &Read) -> Result<Option<Body>, AllocError>
+fn show<H: History>(alloc: Global, history: &H, read: &Read) -> Result<Body, AllocError>
     requires form { IsReadInForm read.now }
     requires lent { LendsRead (H.lends history.now) read.now }
     ensures { IfOk result (λ b. b ≡ step.shown_of (H.plan history.now) (H.entries history.now) read.now) }
 {
     match *read {
-        Read::Line { line, year } => Ok(Some(show_line(history, line, year))),
+        Read::Line { line, year } => Ok(show_line(history, line, year)),
         Read::Requisition { requisition } => {
-            let body = show_numbered(alloc, history, NameKind::Requisition, requisition, read)?;
-            Ok(Some(body))
+            show_numbered(alloc, history, NameKind::Requisition, requisition, read)
         }
-        Read::Order { order } => {
-            let body = show_numbered(alloc, history, NameKind::Order, order, read)?;
-            Ok(Some(body))
-        }
+        Read::Order { order } => { show_numbered(alloc, history, NameKind::Order, order, read) }
         Read::Voucher { voucher } => {
-            let body = show_numbered(alloc, history, NameKind::Voucher, voucher, read)?;
-            Ok(Some(body))
+            show_numbered(alloc, history, NameKind::Voucher, voucher, read)
         }
-        Read::Bill { bill } => {
-            let body = show_numbered(alloc, history, NameKind::Bill, bill, read)?;
-            Ok(Some(body))
-        }
-        Read::Asset { asset } => {
-            let body = show_numbered(alloc, history, NameKind::Asset, asset, read)?;
-            Ok(Some(body))
-        }
-        Read::Bond { bond } => {
-            let body = show_numbered(alloc, history, NameKind::Bond, bond, read)?;
-            Ok(Some(body))
-        }
-        Read::Leave { fund, dept } => Ok(Some(show_leave(history, fund, dept))),
+        Read::Bill { bill } => { show_numbered(alloc, history, NameKind::Bill, bill, read) }
+        Read::Asset { asset } => { show_numbered(alloc, history, NameKind::Asset, asset, read) }
+        Read::Bond { bond } => { show_numbered(alloc, history, NameKind::Bond, bond, read) }
+        Read::Leave { fund, dept } => Ok(show_leave(history, fund, dept)),
         Read::Account {
             basis,
             year,
@@ -264,34 +250,29 @@ fn show<H: History>(alloc: Global, history: &H, read: &Read) -> Result<Option<Bo
             account,
         } => {
             let balance = history.balance(basis, year, fund, account);
-            Ok(Some(Body::Shown(Shown::Account { balance })))
+            Ok(Body::Shown(Shown::Account { balance }))
         }
         Read::Reconcile { year } => {
             let recon = history.recon(year);
-            Ok(Some(Body::Shown(Shown::Reconcile(recon))))
+            Ok(Body::Shown(Shown::Reconcile(recon)))
         }
         Read::Report { year, kind } => {
             let shown = show_report(alloc, history, year, kind)?;
-            Ok(Some(Body::Shown(shown)))
+            Ok(Body::Shown(shown))
         }
     }
 }
 
-/// What a look shows: `None` exactly for a look that the office doesn't know yet. A look is refused where the
-/// caller has seen more than the history has, and where there is nothing of its name. Its list of items takes
-/// memory.
-pub fn answer<H: History>(
-    alloc: Global,
-    history: &H,
-    look: &Look,
-) -> Result<Option<Body>, AllocError>
+/// What a look shows. A look is refused where the caller has seen more than the history has, and where there is
+/// nothing of its name. Its list of items takes memory.
+pub fn answer<H: History>(alloc: Global, history: &H, look: &Look) -> Result<Body, AllocError>
     requires form { IsReadInForm look.now.read }
     requires lent { LendsRead (H.lends history.now) look.now.read }
     ensures { IfOk result (λ b. b ≡ step.look_body (H.plan history.now) (H.entries history.now) look.now) }
 {
     let body = show(alloc, history, &look.read)?;
-    match (ahead_rule(look.after, history.len()), body) {
-        (Some(refusal), Some(_)) => Ok(Some(Body::Refused(refusal))),
-        (_, body) => Ok(body),
+    match ahead_rule(look.after, history.len()) {
+        Some(refusal) => Ok(Body::Refused(refusal)),
+        None => Ok(body),
     }
 }

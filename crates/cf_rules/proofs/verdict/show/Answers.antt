@@ -1,6 +1,8 @@
-use Rattle.std.proofs.Common.{◌≡◌, ◌∙◌, sym, ap, Some}
+use Rattle.std.proofs.Common.{◌≡◌, ◌∙◌, sym, ap}
+use Rattle.std.proofs.lemmas.Result.{IfOk-weaker}
 use Rattle.cf_calls.specs.declared.names.NameKind.TheVariants as kind
 use Rattle.cf_calls.specs.declared.read.Read.{Read}
+use Rattle.cf_calls.specs.declared.reply.Body.{Body}
 use Rattle.cf_model.proofs.Pushes.{documents_are}
 use Rattle.cf_model.specs.Documents.{Documents}
 use Rattle.cf_model.specs.DocumentsShown.{requisition_shown, order_shown, voucher_shown}
@@ -11,34 +13,34 @@ use Rattle.cf_rules.proofs.verdict.show.Goals as goal
 
 pub returns-in-Line : goal.returns-in-Line
 returns-in-Line g c =
-    ap Some c.show_line.ensures ∙ ap (shown_of (g.H.History.plan c.args.history.now) (g.H.History.entries c.args.history.now)) (sym c.in-Line.is)
+    c.show_line.ensures ∙ ap (shown_of (g.H.History.plan c.args.history.now) (g.H.History.entries c.args.history.now)) (sym c.in-Line.is)
 
-pub returns-in_ok-body-in-Requisition : goal.returns-in_ok-body-in-Requisition
-returns-in_ok-body-in-Requisition g c =
+pub returns-in-Requisition : goal.returns-in-Requisition
+returns-in-Requisition g c =
     let plan = g.H.History.plan c.args.history.now in
     let entries = g.H.History.entries c.args.history.now in
     let n = c.in-Requisition.requisition in
-    ap Some (c.in_ok-body-in-Requisition.ensures
-    ∙ ap (λ (r : Read). or_refused kind.Requisition n (register_shown plan (registers_of plan entries) r)) c.in-Requisition.is
-    ∙ ap (λ (d : Documents). or_refused kind.Requisition n (requisition_shown plan n d.holds)) (documents_are plan entries))
-    ∙ ap (shown_of plan entries) (sym c.in-Requisition.is)
+    let same = ap (λ (r : Read). or_refused kind.Requisition n (register_shown plan (registers_of plan entries) r)) c.in-Requisition.is
+    ∙ ap (λ (d : Documents). or_refused kind.Requisition n (requisition_shown plan n d.holds)) (documents_are plan entries)
+    ∙ ap (shown_of plan entries) (sym c.in-Requisition.is) in
+    IfOk-weaker _ _ (λ (b : Body). b ≡ shown_of plan entries c.args.read.now) (λ b is. is ∙ same) c.show_numbered.ensures
 
-pub returns-in_ok-body-in-Order : goal.returns-in_ok-body-in-Order
-returns-in_ok-body-in-Order g c =
+pub returns-in-Order : goal.returns-in-Order
+returns-in-Order g c =
     let plan = g.H.History.plan c.args.history.now in
     let entries = g.H.History.entries c.args.history.now in
     let n = c.in-Order.order in
-    ap Some (c.in_ok-body-in-Order.ensures
-    ∙ ap (λ (r : Read). or_refused kind.Order n (register_shown plan (registers_of plan entries) r)) c.in-Order.is
-    ∙ ap (λ (d : Documents). or_refused kind.Order n (order_shown plan n d.items)) (documents_are plan entries))
-    ∙ ap (shown_of plan entries) (sym c.in-Order.is)
+    let same = ap (λ (r : Read). or_refused kind.Order n (register_shown plan (registers_of plan entries) r)) c.in-Order.is
+    ∙ ap (λ (d : Documents). or_refused kind.Order n (order_shown plan n d.items)) (documents_are plan entries)
+    ∙ ap (shown_of plan entries) (sym c.in-Order.is) in
+    IfOk-weaker _ _ (λ (b : Body). b ≡ shown_of plan entries c.args.read.now) (λ b is. is ∙ same) c.show_numbered-in-Order.ensures
 
-pub returns-in_ok-body-in-Voucher : goal.returns-in_ok-body-in-Voucher
-returns-in_ok-body-in-Voucher g c =
+pub returns-in-Voucher : goal.returns-in-Voucher
+returns-in-Voucher g c =
     let plan = g.H.History.plan c.args.history.now in
     let entries = g.H.History.entries c.args.history.now in
     let n = c.in-Voucher.voucher in
-    ap Some (c.in_ok-body-in-Voucher.ensures
-    ∙ ap (λ (r : Read). or_refused kind.Voucher n (register_shown plan (registers_of plan entries) r)) c.in-Voucher.is
-    ∙ ap (λ (d : Documents). or_refused kind.Voucher n (voucher_shown n d.expenditures)) (documents_are plan entries))
-    ∙ ap (shown_of plan entries) (sym c.in-Voucher.is)
+    let same = ap (λ (r : Read). or_refused kind.Voucher n (register_shown plan (registers_of plan entries) r)) c.in-Voucher.is
+    ∙ ap (λ (d : Documents). or_refused kind.Voucher n (voucher_shown n d.expenditures)) (documents_are plan entries)
+    ∙ ap (shown_of plan entries) (sym c.in-Voucher.is) in
+    IfOk-weaker _ _ (λ (b : Body). b ≡ shown_of plan entries c.args.read.now) (λ b is. is ∙ same) c.show_numbered-in-Voucher.ensures
