@@ -1,0 +1,2 @@
+pub mod Articulates
+pub mod OwnAccounts
