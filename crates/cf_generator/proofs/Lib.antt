@@ -1,2 +1,3 @@
+pub mod ChartRead
 pub mod Forms
 pub mod Stepping

@@ -4,7 +4,7 @@ use Rattle.cf_calls.specs.declared.call.Change.{Change}
 use Rattle.cf_calls.specs.declared.entry.Drawn.{Drawn}
 use Rattle.cf_calls.specs.declared.entry.Entry.{Entry}
 use Rattle.cf_calls.specs.declared.reply.Verdict.{Verdict}
-use Rattle.cf_calls.specs.declared.reply.Verdict.TheVariants.{Accept, Repeat, Refuse, Unbuilt}
+use Rattle.cf_calls.specs.declared.reply.Verdict.TheVariants.{Accept, Repeat, Refuse}
 use Rattle.cf_calls.specs.declared.call.Call.TheVariants as call
 use Rattle.cf_chart.specs.Plan.{Plan}
 use Rattle.cf_model.specs.Step.{next_by, next_of, verdict_of}
@@ -17,13 +17,11 @@ pub drawn_none : (v : Verdict) (h : List Entry) (c : Change) → drawn_by v ≡ 
 drawn_none (Accept d) h c e = absurd cc
 drawn_none (Repeat was) h c e = refl
 drawn_none (Refuse r) h c e = refl
-drawn_none Unbuilt h c e = refl
 
 pub drawn_some : (v : Verdict) (d : Drawn) → drawn_by v ≡ Some d → v ≡ Accept d
 drawn_some (Accept x) d e = cc
 drawn_some (Repeat was) d e = absurd cc
 drawn_some (Refuse r) d e = absurd cc
-drawn_some Unbuilt d e = absurd cc
 
 pub after_append : (plan : Plan) (h : List Entry) (cs ds : List Change) → after plan h (cs ++ ds) ≡ after plan (after plan h cs) ds
 after_append plan h [] ds = refl

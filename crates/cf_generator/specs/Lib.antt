@@ -1,4 +1,3 @@
 pub mod Generated
 pub mod Acts
-pub mod Refusals
 pub mod Turns

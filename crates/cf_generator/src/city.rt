@@ -1,13 +1,11 @@
 //! The chart of the generator's city.
 
-ghost use Rattle.std.specs.Prelude.{◌≡◌, IfErr, IfOk, Ok};
+ghost use Rattle.std.specs.Prelude.{◌≡◌, IfOk, Ok};
 ghost use Rattle.cf_chart.specs.Reading.{chart_of};
-ghost use Rattle.cf_generator.specs.Refusals.{IsCause};
 ghost use Rattle.cf_generator.specs.Generated.{chart_text};
 
-use crate::refused::GenerateRefused;
 use cf_chart::{Chart, ChartRefused};
-use std::alloc::Global;
+use std::alloc::{AllocError, Global};
 
 /// The chart as a TOML document: three funds, four departments, forty control lines, and a desk for each role.
 pub const CITY: &str = "city = \"Milltown\"
@@ -111,13 +109,13 @@ fn city_bytes() -> &'static [u8]
 }
 
 /// The chart of the city.
-pub fn city_chart(alloc: Global) -> Result<Chart, GenerateRefused>
-    ensures ok { IfOk result (λ plan. chart_of chart_text ≡ Ok plan) }
-    ensures err { IfErr result IsCause }
+pub fn city_chart(alloc: Global) -> Result<Chart, AllocError>
+    ensures { IfOk result (λ plan. chart_of chart_text ≡ Ok plan) }
 {
     match Chart::read(alloc, city_bytes()) {
         Ok(chart) => Ok(chart),
-        Err(ChartRefused::Fault(fault)) => Err(GenerateRefused::Chart { fault }),
-        Err(ChartRefused::NoMemory) => Err(GenerateRefused::NoMemory),
+        // The document has no fault.
+        Err(ChartRefused::Fault(_)) => unreachable!(),
+        Err(ChartRefused::NoMemory) => Err(AllocError),
     }
 }

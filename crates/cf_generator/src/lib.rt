@@ -4,9 +4,7 @@
 mod acts;
 mod city;
 mod office;
-mod refused;
 mod turn;
 
 pub use city::CITY;
 pub use office::generate;
-pub use refused::GenerateRefused;

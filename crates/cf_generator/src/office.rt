@@ -1,6 +1,6 @@
 //! The run of the generator: an office in memory takes its calls, one after another.
 
-ghost use Rattle.std.specs.Prelude.{◌≡◌, ◌+◌, ◌≤◌, ◌<◌, ◌^◌, ◌++◌, ◌∷◌, [], IfErr, IfOk, IfSome, OnOk, Ok};
+ghost use Rattle.std.specs.Prelude.{◌≡◌, ◌+◌, ◌≤◌, ◌<◌, ◌^◌, ◌++◌, ◌∷◌, [], IfOk, IfSome, OnOk, Ok};
 ghost use Rattle.cf_calls.specs.Form.{IsActInForm, IsChangeInForm};
 ghost use Rattle.cf_calls.specs.declared.call.Call.TheVariants as calls;
 ghost use Rattle.cf_calls.specs.declared.reply.Verdict.TheVariants.{Accept};
@@ -8,12 +8,10 @@ ghost use Rattle.cf_chart.specs.Reading.{chart_of};
 ghost use Rattle.cf_model.specs.Step.{next_of, verdict_of};
 ghost use Rattle.cf_generator.specs.Acts as acts;
 ghost use Rattle.cf_generator.specs.Generated as spec;
-ghost use Rattle.cf_generator.specs.Refusals.{IsCause};
 ghost use Rattle.cf_generator.specs.Turns.{first_turn};
 
 use crate::acts::{act_of, adoption, change_of, month_close, receipt};
 use crate::city::city_chart;
-use crate::refused::GenerateRefused;
 use crate::turn::Turn;
 use cf_calls::{Act, Change, Drawn, Verdict, entry_of};
 use cf_office::{BookOffice, judge};
@@ -121,15 +119,12 @@ fn take_calls(alloc: Global, office: &mut BookOffice, n: u32) -> Result<(), Allo
 
 /// The office of a generated run of `n` drawn calls, at most 100,000: the history is the one that the office's step makes
 /// of the calls.
-pub fn generate(alloc: Global, n: u32) -> Result<BookOffice, GenerateRefused>
+pub fn generate(alloc: Global, n: u32) -> Result<BookOffice, AllocError>
     requires { n ≤ 100000 }
     ensures chart { IfOk result (λ o. chart_of spec.chart_text ≡ Ok o.plan) }
     ensures history { IfOk result (λ o. o.entries ≡ spec.generated o.plan n) }
-    ensures err { IfErr result IsCause }
 {
     let mut office = BookOffice::new(alloc, city_chart(alloc)?);
-    match take_calls(alloc, &mut office, n) {
-        Ok(()) => Ok(office),
-        Err(_) => Err(GenerateRefused::NoMemory),
-    }
+    take_calls(alloc, &mut office, n)?;
+    Ok(office)
 }

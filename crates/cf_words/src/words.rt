@@ -1,9 +1,10 @@
 //! What the words ask for.
-ghost use Rattle.std.specs.Prelude.{◌≡◌, ◌⊎◌, map, option_and_then, string_bytes};
+ghost use Rattle.std.specs.Prelude.{◌≡◌, ◌⊎◌, IfOk, map, option_and_then, string_bytes};
 ghost use Rattle.std.specs.List.{list_any};
 ghost use Rattle.clap.specs.Words.{kind_of, subcommand_rows_of};
 ghost use Rattle.cf_words.specs.Parsed.{command_in};
 ghost use Rattle.cf_words.specs.Meets.{Gives};
+ghost use Rattle.cf_words.specs.Ranges.{IsInRange};
 ghost use Rattle.cf_words.specs.Words.{command_of, is_dashes};
 
 use crate::parsed::command_found;
@@ -51,7 +52,8 @@ fn has_dashes(words: &[String]) -> bool
 
 /// The command that the parse found.
 fn command_of_matches(matches: &ArgMatches) -> Result<Command, WordsRefused>
-    ensures { Gives result (option_and_then command_in (subcommand_rows_of matches.now)) }
+    ensures command { Gives result (option_and_then command_in (subcommand_rows_of matches.now)) }
+    ensures range { IfOk result IsInRange }
 {
     match matches.subcommand() {
         Some((name, inner)) => command_found(name, inner).ok_or(WordsRefused::BadWords),
@@ -69,9 +71,10 @@ fn refusal_of(error: &Error) -> WordsRefused
     }
 }
 
-/// The command that the words ask for, which are those after the program's own name.
+/// The command that the words ask for, which are those after the program's own name. Its numbers are in their ranges.
 pub fn read_words(alloc: Global, words: &[String]) -> Result<Command, WordsRefused>
-    ensures { Gives result (command_of (map string_bytes words.now)) }
+    ensures command { Gives result (command_of (map string_bytes words.now)) }
+    ensures range { IfOk result IsInRange }
 {
     if has_dashes(words) {
         return Err(WordsRefused::BadWords);

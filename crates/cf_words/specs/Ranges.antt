@@ -1,0 +1,15 @@
+-- The ranges of a command's numbers.
+use Rattle.std.specs.Prelude.{ℕ, ◌≤◌, ⊤}
+use Rattle.cf_words.specs.declared.words.Command.{Command}
+use Rattle.cf_words.specs.declared.words.Command.TheVariants as command
+
+pub record IsFrom (low high n : ℕ) : Type 0 where
+  pub from : low ≤ n
+  pub to : n ≤ high
+
+-- ports, doors and links; fiscal years; calls to be drawn
+abbrev pub IsInRange : Command → Type 0
+IsInRange (command.Serve port doors links) = IsFrom 1024 65000 port × IsFrom 1 16 doors × IsFrom 1 1000000 links
+IsInRange (command.Report year kind csv) = IsFrom 1971 2199 year
+IsInRange (command.Generate n) = IsFrom 1 100000 n
+IsInRange _ = ⊤
