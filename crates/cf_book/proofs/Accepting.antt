@@ -1,5 +1,5 @@
 -- An accepted change is written: what a crash leaves meanwhile.
-use Rattle.std.proofs.Common.{◌≡◌, ℕ, Bool, List, Option, Some, IsTrue, refl, sym, subst, ◌∙◌, inl, inr}
+use Rattle.std.proofs.Common.{◌≡◌, ℕ, Bool, List, Option, IsTrue, refl, sym, subst, ◌∙◌, inl, inr}
 use Rattle.cf_calls.specs.declared.call.Call.TheVariants as call
 use Rattle.cf_calls.specs.declared.call.Change.{Change}
 use Rattle.cf_calls.specs.declared.entry.Drawn.{Drawn}
