@@ -1,21 +1,21 @@
 //! The run of `desk`.
 
-ghost use Rattle.std.specs.Prelude.{◌≡◌, [], ℕ, List, Option, None, Ok};
+ghost use Rattle.std.specs.Prelude.{◌≡◌, ◌⊎◌, [], None, Some, map, string_bytes};
 ghost use Rattle.std.specs.Io.KnownBytes.{Consumes};
 ghost use Rattle.cf_base.specs.Causes.{Rose};
 ghost use Rattle.cf_desk.specs.declared.ended.Ended.TheVariants as ended;
-ghost use Rattle.cf_top.specs.Runs.{DeskEnds, DeskKept, opened, status_of_ended, status_of_refused};
+ghost use Rattle.cf_top.specs.Runs.{DeskEnds, DeskKept, opened, status_of_ended};
 ghost use Rattle.cf_top.specs.Devices.{device};
-ghost use Rattle.cf_top.specs.Words.{command_of};
+ghost use Rattle.cf_words.specs.Words.{command_of};
 
 use crate::clerk::Clerk;
 use crate::running::Ran;
-use crate::status::Status;
-use crate::words::{Command, read_words};
+use crate::status::{Status, refusal_status};
 use cf_base::{Sink, Source};
-use cf_book::{Book, BookRefused, NotOpened, open};
+use cf_book::{Book, NotOpened, open};
 use cf_desk::{Ended, run_lines};
 use cf_disk::Disk;
+use cf_words::{Command, WordsRefused, read_words};
 use std::alloc::Global;
 
 fn status_of(how: Ended) -> Status
@@ -27,18 +27,6 @@ fn status_of(how: Ended) -> Status
         Ended::WriteFault => Status::WriteFault,
         Ended::InputLimit => Status::InputLimit,
         Ended::NoMemory => Status::NoMemory,
-    }
-}
-
-/// The status of a journal that isn't opened.
-fn refusal_status(why: BookRefused) -> Status
-    ensures { result ≡ status_of_refused why }
-{
-    match why {
-        BookRefused::Disk => Status::DiskFault,
-        BookRefused::NotFounded { len, byte } => Status::NotFounded { len, byte },
-        BookRefused::Damaged { offset, refusal } => Status::Damaged { offset, refusal },
-        BookRefused::NoMemory => Status::NoMemory,
     }
 }
 
@@ -102,21 +90,25 @@ pub fn run_desk<I: Source, O: Sink, D: Disk + Drop>(
     out: &mut O,
     disk: D,
 ) -> Ran<D>
-    ensures ends { command_of words.now ≡ Ok Command.Desk
+    ensures ends { command_of (map string_bytes words.now) ≡ Some Command.Desk
         → DeskEnds (device D.tells D.content D.is_image D.moment D.was_image D.faults) disk result.disk
         (I.left input.old) (I.left input.new) (O.held out.old) (O.held out.new) result.status }
-    ensures words { (command_of words.now ≡ Ok Command.Desk → ⊥)
-        → (result.status ≡ Status.BadWords) × (I.left input.new ≡ I.left input.old) × (O.held out.new ≡ O.held out.old) × (result.disk ≡ disk) }
+    ensures words { (command_of (map string_bytes words.now) ≡ Some Command.Desk → ⊥)
+        → ((result.status ≡ Status.BadWords) ⊎ (result.status ≡ Status.NoMemory)) × (I.left input.new ≡ I.left input.old) × (O.held out.new ≡ O.held out.old) × (result.disk ≡ disk) }
     ensures read { result.status ≡ Status.ReadFault → Rose (I.faults input.old) (I.faults input.new) }
     ensures write { result.status ≡ Status.WriteFault → Rose (O.faults out.old) (O.faults out.new) }
     ensures disk { result.status ≡ Status.DiskFault → Rose (D.faults disk) (D.faults result.disk) }
     ensures memory { result.status ≡ Status.NoMemory → (I.faults input.new ≡ I.faults input.old) × (O.faults out.new ≡ O.faults out.old)
         × (D.faults result.disk ≡ D.faults disk) }
 {
-    match read_words(words) {
+    match read_words(alloc, words) {
         Ok(Command::Desk) => desk_over(alloc, input, out, disk),
-        _ => Ran {
+        Ok(_) | Err(WordsRefused::BadWords) => Ran {
             status: Status::BadWords,
+            disk,
+        },
+        Err(WordsRefused::NoMemory) => Ran {
+            status: Status::NoMemory,
             disk,
         },
     }

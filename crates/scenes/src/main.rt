@@ -9,7 +9,7 @@
 //! | `chart FILE`, `swap OLD => NEW` | the chart for the next `found`, and a change of it |
 //! | `fail N`, `stop N` | the next run's disk fails at its call N, or stops there |
 //! | `limit N` | the next run's output takes N bytes |
-//! | `run WORD` | a run: prints what it says, how it ended, and the length of the journal |
+//! | `run WORD ..` | a run of these words: prints what it says, how it ended, and the length of the journal |
 //! | `calls` | prints how many calls the last run made of its disk |
 //! | `empty`, `cut N`, `set AT BYTE`, `add BYTE ..` | changes what the disk holds |
 //! | `keep`, `back`, `same` | remembers it, puts it back, prints whether it is the same |

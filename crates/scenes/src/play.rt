@@ -8,9 +8,9 @@ use crate::word::{Word, byte};
 use std::rt::Files;
 use std::{fs, io};
 
-/// A run of a word: what it said, how it ended and how long the journal is.
-fn show_run(rt: &impl Print, stage: &mut Stage, word: &str) -> io::Result<()> {
-    let (status, out) = stage.run_word(word)?;
+/// A run of these words: what it said, how it ended and how long the journal is.
+fn show_run(rt: &impl Print, stage: &mut Stage, words: &str) -> io::Result<()> {
+    let (status, out) = stage.run_words(words)?;
     let said = str::from_utf8(out.bytes()).unwrap_or("no text");
     let ended = whole_text(stage.alloc, status)?;
     println!(rt; "{said}= {ended}; {} bytes", stage.bytes.len())
@@ -54,7 +54,7 @@ fn play_shown<R: Files + Print + AllocGlobal>(
             stage.chart = fs::read_to_string(rt, file)?;
             Ok(())
         }
-        Word::Run(word) => show_run(rt, stage, word),
+        Word::Run(words) => show_run(rt, stage, words),
         Word::Calls => show_calls(rt, stage),
         Word::Same => show_same(rt, stage),
         Word::Cuts => show_cuts(rt, stage),

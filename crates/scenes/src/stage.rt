@@ -42,16 +42,28 @@ fn source(alloc: Global, text: &str) -> Result<MemSource, AllocError> {
     Ok(MemSource::new(Vec::from_slice(alloc, text.as_bytes())?))
 }
 
-/// A run of one word over a disk, with an output that takes so many bytes.
+/// The words of a text, with a blank between two of them; none of an empty text.
+fn words_of(alloc: Global, text: &str) -> Result<Vec<String>, AllocError> {
+    let mut words = Vec::new(alloc);
+    if text.is_empty() {
+        return Ok(words);
+    }
+    for word in text.split(" ") {
+        words.push(String::from_str(alloc, word)?)?;
+    }
+    Ok(words)
+}
+
+/// A run of these words over a disk, with an output that takes so many bytes.
 pub fn run_over(
     alloc: Global,
-    word: &str,
+    words: &str,
     chart: &str,
     lines: &str,
     disk: MemDisk,
     limit: usize,
 ) -> Result<Left, AllocError> {
-    let words = vec![in alloc; String::from_str(alloc, word)?]?;
+    let words = words_of(alloc, words)?;
     let mut chart = source(alloc, chart)?;
     let mut input = source(alloc, lines)?;
     let mut out = MemSink::limited(alloc, limit);
@@ -101,12 +113,12 @@ impl Stage {
         }
     }
 
-    /// A run of one word with what was prepared.
-    fn ran(&self, word: &str) -> Result<Left, AllocError> {
+    /// A run of these words with what was prepared.
+    fn ran(&self, words: &str) -> Result<Left, AllocError> {
         let (fails, stop) = (self.fails.as_slice(), self.stop);
         let disk = disk_with(self.alloc, self.bytes.as_slice(), fails, stop)?;
         let (chart, lines) = (self.chart.as_str(), self.lines.as_str());
-        run_over(self.alloc, word, chart, lines, disk, self.limit)
+        run_over(self.alloc, words, chart, lines, disk, self.limit)
     }
 
     /// Puts what a run left on the disk. The next run has no faults and no lines.
@@ -121,9 +133,9 @@ impl Stage {
         Ok(())
     }
 
-    /// Runs one word: how it ended, and what it printed.
-    pub fn run_word(&mut self, word: &str) -> Result<(Status, MemSink), AllocError> {
-        let Left { status, out, disk } = self.ran(word)?;
+    /// Runs these words: how it ended, and what it printed.
+    pub fn run_words(&mut self, words: &str) -> Result<(Status, MemSink), AllocError> {
+        let Left { status, out, disk } = self.ran(words)?;
         self.keep_left(disk)?;
         Ok((status, out))
     }

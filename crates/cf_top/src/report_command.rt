@@ -1,0 +1,98 @@
+//! The run of `report`.
+
+ghost use Rattle.std.specs.Prelude.{◌≡◌, ◌⊎◌, ℕ, Bool, Some, IfOk, map, string_bytes};
+ghost use Rattle.cf_base.specs.Causes.{Rose};
+ghost use Rattle.cf_base.specs.declared.statement.Kind.{Kind};
+ghost use Rattle.cf_calls.specs.Form.{IsYear};
+ghost use Rattle.cf_top.specs.Devices.{device};
+ghost use Rattle.cf_top.specs.Reports.{ReportEnds, report_text};
+ghost use Rattle.cf_words.specs.Words.{command_of};
+
+use crate::printing::print;
+use crate::running::Ran;
+use crate::status::{Status, refusal_status};
+use cf_base::{Kind, Sink};
+use cf_book::{Book, NotOpened, open};
+use cf_disk::Disk;
+use cf_statements::title;
+use cf_text::statement_bytes;
+use cf_words::{Command, WordsRefused, read_words};
+use std::alloc::{AllocError, Global};
+
+/// The bytes of a statement of a book.
+fn report_bytes<D: Disk + Drop>(
+    alloc: Global,
+    book: &Book<D>,
+    year: u16,
+    kind: Kind,
+    csv: bool,
+) -> Result<Vec<u8>, AllocError>
+    requires { IsYear year }
+    ensures { IfOk result (λ text. text.items ≡ report_text book.now.plan book.now.entries year kind csv) }
+{
+    let rows = book.report_rows(alloc, year, kind)?;
+    let city = book.chart().city();
+    statement_bytes(alloc, city, title(kind), year, rows.as_slice(), csv)
+}
+
+/// Opens the journal of the disk, and prints a statement of its history.
+fn report_over<O: Sink, D: Disk + Drop>(
+    alloc: Global,
+    year: u16,
+    kind: Kind,
+    csv: bool,
+    out: &mut O,
+    disk: D,
+) -> Ran<D>
+    requires { IsYear year }
+    ensures ends { ReportEnds (device D.tells D.content D.is_image D.moment D.was_image D.faults) year kind csv disk result.disk
+        (O.held out.old) (O.held out.new) result.status }
+    ensures write { result.status ≡ Status.WriteFault → Rose (O.faults out.old) (O.faults out.new) }
+    ensures disk { result.status ≡ Status.DiskFault → Rose (D.faults disk) (D.faults result.disk) }
+    ensures memory { result.status ≡ Status.NoMemory → (O.faults out.new ≡ O.faults out.old) × (D.faults result.disk ≡ D.faults disk) }
+{
+    match open(alloc, disk) {
+        Ok(book) => {
+            let status = print(report_bytes(alloc, &book, year, kind, csv), out);
+            Ran {
+                status,
+                disk: book.close(),
+            }
+        }
+        Err(NotOpened { disk, why }) => Ran {
+            status: refusal_status(why),
+            disk,
+        },
+    }
+}
+
+/// The run of `report`: opens the journal, makes a statement of its history for a fiscal year, and writes it as lines of
+/// text or, with `--csv`, as comma-separated records. The journal is only read. Other words are `BadWords`, and nothing
+/// is read or written.
+pub fn run_report<O: Sink, D: Disk + Drop>(
+    alloc: Global,
+    words: &[String],
+    out: &mut O,
+    disk: D,
+) -> Ran<D>
+    ensures ends { (year : ℕ) (kind : Kind) (csv : Bool) → command_of (map string_bytes words.now) ≡ Some (Command.Report year kind csv)
+        → ReportEnds (device D.tells D.content D.is_image D.moment D.was_image D.faults) year kind csv disk result.disk
+        (O.held out.old) (O.held out.new) result.status }
+    ensures words { ((year : ℕ) (kind : Kind) (csv : Bool) → command_of (map string_bytes words.now) ≡ Some (Command.Report year kind csv) → ⊥)
+        → ((result.status ≡ Status.BadWords) ⊎ (result.status ≡ Status.NoMemory)) × (O.held out.new ≡ O.held out.old) × (result.disk ≡ disk) }
+    ensures write { result.status ≡ Status.WriteFault → Rose (O.faults out.old) (O.faults out.new) }
+    ensures disk { result.status ≡ Status.DiskFault → Rose (D.faults disk) (D.faults result.disk) }
+    ensures memory { result.status ≡ Status.NoMemory → (O.faults out.new ≡ O.faults out.old) × (D.faults result.disk ≡ D.faults disk) }
+{
+    match read_words(alloc, words) {
+        Ok(Command::Report { year, kind, csv }) => report_over(alloc, year, kind, csv, out, disk),
+        Ok(_) | Err(WordsRefused::BadWords) => Ran {
+            status: Status::BadWords,
+            disk,
+        },
+        Err(WordsRefused::NoMemory) => Ran {
+            status: Status::NoMemory,
+            disk,
+        },
+    }
+}
