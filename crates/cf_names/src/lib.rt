@@ -3,7 +3,9 @@
 #![tactic(auto)]
 
 mod names;
+mod shares;
 mod ties;
 
-pub use names::{Accepted, City, OfStripe};
+pub use names::{Accepted, City, Faulted, OfStripe};
+pub use shares::{Shares, Totals};
 pub use ties::{Counts, Ties, follow_all};

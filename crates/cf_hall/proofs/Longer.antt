@@ -1,0 +1,20 @@
+-- The longer of two lists, and the last of one.
+use Rattle.std.proofs.Common.{◌≡◌, ◌≤◌, Bool, true, false, List, [], ◌∷◌, ◌++◌, length, get_or, refl, sym, ap, ◌∙◌, arith}
+use Rattle.std.proofs.lemmas.Bool.Decides.{nat_tests}
+use Rattle.std.specs.Prelude.{ltb}
+use Rattle.cf_turns.specs.Lists.{longer}
+
+-- the second where the first is no longer
+pub longer_second : {A : Type 0} (xs ys : List A) → length xs ≤ length ys → longer xs ys ≡ ys
+longer_second xs ys le = by_case (ltb (length ys) (length xs)) refl
+  where
+    by_case : (b : Bool) → ltb (length ys) (length xs) ≡ b → longer xs ys ≡ ys
+    by_case true is = absurd (grind (arith, nat_tests))
+    by_case false is = rw is refl
+
+pub last_is : {A : Type 0} (xs : List A) (x d : A) → get_or (xs ++ x ∷ []) (length xs) d ≡ x
+last_is [] x d = refl
+last_is (y ∷ xs) x d = last_is xs x d
+
+pub same_last : {A : Type 0} (xs : List A) (x y : A) → xs ++ x ∷ [] ≡ xs ++ y ∷ [] → x ≡ y
+same_last xs x y is = sym (last_is xs x x) ∙ ap (λ l. get_or l (length xs) x) is ∙ last_is xs y x

@@ -1,0 +1,41 @@
+use Rattle.std.proofs.Common.{◌≡◌, ◌+◌, List, [], ◌∷◌, ◌++◌, All, map, length, ℕ, ap, subst, ◌∙◌, arith}
+use mathlib.Core.List.{IsPrefix}
+use Rattle.cf_turns.specs.Lists.{TaggedEntry, places_of}
+use Rattle.cf_turns.specs.States.{PassState, RecorderState}
+use Rattle.cf_names.specs.Closing.{accepted_of, receipts_of}
+use Rattle.cf_names.specs.Shares.{SharesState}
+use Rattle.cf_hall.proofs.Ending.{closed, one_apart}
+use Rattle.cf_hall.proofs.closing.close_in.Goals as goal
+
+pub end_all-requires-clause-apart : goal.end_all-requires-clause-apart
+end_all-requires-clause-apart g c =
+    one_apart c.end_pass-kept.new.self.ended c.kept.inside.pass.number (ap (λ (r : RecorderState). r.ended) c.end_pass-kept.ensures.recorder ∙ ap (λ (ns : List ℕ). ns ++ c.kept.inside.pass.number ∷ []) c.requires.none_ended)
+
+pub returns-clause-closes : goal.returns-clause-closes
+returns-clause-closes g c =
+    let list = c.args.recorder.list in
+    let kept : PassState = c.kept.inside.pass in
+    let same : c.end_pass-kept.new.self.list ≡ list = ap (λ (r : RecorderState). r.list) c.end_pass-kept.ensures.recorder in
+    let first : c.end_pass-kept.new.self.ended ≡ kept.number ∷ [] = ap (λ (r : RecorderState). r.ended) c.end_pass-kept.ensures.recorder ∙ ap (λ (ns : List ℕ). ns ++ kept.number ∷ []) c.requires.none_ended in
+    let ended : c.end_all.new.recorder.ended ≡ (kept.number ∷ []) ++ map (λ (p : PassState). p.number) c.args.passes.items = c.end_all.ensures.ended ∙ ap (λ (ns : List ℕ). ns ++ map (λ (p : PassState). p.number) c.args.passes.items) first in
+    let all : All (λ (p : PassState). p.places ≡ places_of p.number list) c.args.passes.items =
+    subst (λ (l : List TaggedEntry). All (λ (p : PassState). p.places ≡ places_of p.number l) c.args.passes.items) same c.end_all.ensures.places in
+    let merged = c.merge.ensures in
+    let parts : c.end_all.new.shares.parts ≡ 65536 = omega (arith, c.end_all.ensures.parts, ap (λ (s : SharesState). s.parts) merged, c.kept.invariant.part, c.requires.parts) in
+    let whole = c.audit.ensures.accepted parts in
+    let many : length kept.places + accepted_of (map receipts_of c.args.passes.items) ≡ length list =
+    omega (arith, whole, c.end_all.ensures.accepted, ap (λ (s : SharesState). s.accepted) merged, c.kept.invariant.accepted, c.requires.none, c.requires.total) in
+    let here : kept.places ≡ places_of kept.number list = c.end_pass-kept.ensures.places in
+    rw (← c.kept.view_is)
+    (closed list kept c.args.passes.items c.end_all.new.recorder.ended here all ended c.end_all.ensures.apart many)
+
+pub returns-clause-seen : goal.returns-clause-seen
+returns-clause-seen g c =
+    let same : c.end_pass-kept.new.self.list ≡ c.args.recorder.list = ap (λ (r : RecorderState). r.list) c.end_pass-kept.ensures.recorder in
+    subst (λ (l : List TaggedEntry). All (λ (p : PassState). IsPrefix p.seen l) c.args.passes.items) same c.end_all.ensures.seen
+
+pub returns-clause-faulted : goal.returns-clause-faulted
+returns-clause-faulted g c =
+    let merged = c.merge.ensures in
+    let parts : c.end_all.new.shares.parts ≡ 65536 = omega (arith, c.end_all.ensures.parts, ap (λ (s : SharesState). s.parts) merged, c.kept.invariant.part, c.requires.parts) in
+    omega (arith, c.audit.ensures.faulted parts, c.end_all.ensures.faulted)

@@ -1,0 +1,26 @@
+-- What closing a hall tells.
+use Rattle.std.specs.Prelude.{◌≡◌, ℕ, Bool, IsTrue, IfSome, All, List, [], ◌∷◌, ◌++◌, length, map, Option, Some}
+use mathlib.Core.List.{IsPrefix}
+use Rattle.cf_book.specs.Books.{RecoversNear}
+use Rattle.cf_calls.specs.declared.entry.Entry.{Entry}
+use Rattle.cf_chart.specs.Plan.{Plan}
+use Rattle.cf_model.specs.State.{IsSoundState}
+use Rattle.cf_names.specs.Closing.{Closes, RoseBy, faults_in, receipts_of}
+use Rattle.cf_names.specs.Lists.{entries_of}
+use Rattle.cf_turns.specs.Lists.{TaggedEntry}
+use Rattle.cf_turns.specs.States.{PassState}
+
+-- A hall that had this chart and these passes was closed: there is one list of which each pass has seen a beginning, and each
+-- entry was recorded for exactly one of them. Its history is sound, and whatever a crash leaves of the disk recovers to it,
+-- or to it and the entry in doubt. The disk's count of faults rose by the passes' fault replies at least.
+pub record HallEnds {D : Type 0} (tells : Bool) (is_image : D → List ℕ → Type 0) (faults : D → ℕ) (plan : Plan) (risen : ℕ) (kept : PassState) (passes : List PassState) (many : ℕ) (disk : D) : Type 0 where
+  pub list : List TaggedEntry
+  pub doubt : Option Entry
+  pub many_is : many ≡ length list
+  pub closes : Closes list (receipts_of kept ∷ map receipts_of passes)
+  pub kept_seen : IsPrefix kept.seen list
+  pub seen : All (λ p. IsPrefix p.seen list) passes
+  pub sound : IsSoundState (record { plan = plan; entries = entries_of list })
+  pub doubt_sound : IfSome doubt (λ e. IsSoundState (record { plan = plan; entries = entries_of list ++ e ∷ [] }))
+  pub images : IsTrue tells → (image : List ℕ) → is_image disk image → RecoversNear plan (entries_of list) (λ e. doubt ≡ Some e) image
+  pub faulted : RoseBy (faults_in (map receipts_of passes)) risen (faults disk)

@@ -1,0 +1,45 @@
+-- The book of a hall, and how a call changes its list.
+use Rattle.std.specs.Prelude.{◌≡◌, ◌⊎◌, ℕ, List, [], ◌∷◌, ◌++◌, length}
+use Rattle.atomic_table.specs.Seated.{TableId}
+use Rattle.cf_book.specs.DurableState.{DurableBook}
+use Rattle.cf_budget.specs.Tables.{Tables, has_line}
+use Rattle.cf_budget.specs.declared.changes.LineChange.{LineChange}
+use Rattle.cf_calls.specs.declared.entry.Entry.{Entry}
+use Rattle.cf_chart.specs.Plan.{Plan}
+use Rattle.cf_names.specs.Closing.{RoseBy}
+use Rattle.cf_names.specs.Lists.{entries_of}
+use Rattle.cf_names.specs.Shares.{TotalsState}
+use Rattle.cf_registers.specs.Lines.{LendsTouched}
+use Rattle.cf_turns.specs.Lists.{TaggedEntry}
+use Rattle.cf_turns.specs.States.{RecorderState}
+use Rattle.cf_book.specs.Archives.{IsOwed}
+
+-- what contracts see of a hall that is shared
+pub record SharedState : Type 0 where
+  pub turns : TableId
+  pub chart : Plan
+
+-- what contracts see of its book
+pub record BookState (D : Type 0) : Type 0 where
+  pub archive : DurableBook D
+  pub recorder : RecorderState
+
+-- The history is the recorder's list, of this chart. So many calls were accepted as it has entries, and the disk's count of
+-- faults has risen by the fault replies at least. No pass was ended.
+pub record IsHallBook {D : Type 0} (faults : D → ℕ) (under : Plan) (risen : ℕ) (archive : DurableBook D) (recorder : RecorderState) (totals : TotalsState) : Type 0 where
+  pub plan : archive.plan ≡ under
+  pub list : archive.entries ≡ entries_of recorder.list
+  pub accepted : totals.accepted ≡ length recorder.list
+  pub faulted : RoseBy totals.faulted risen (faults archive.disk)
+  pub none_ended : recorder.ended ≡ []
+
+-- the list stays, or grows by one entry for the pass of this number
+abbrev pub ListGrows : List TaggedEntry → ℕ → List TaggedEntry → Type 0
+ListGrows old number new = (new ≡ old) ⊎ ((e : Entry) × (new ≡ old ++ (e, number) ∷ []))
+
+-- the history has one entry more than the list, which owes these changes to tables that were lent for it
+pub record WasAdded (plan : Plan) (list : List TaggedEntry) (history : List Entry) (lines : Tables) (changes : List LineChange) : Type 0 where
+  pub entry : Entry
+  pub last : history ≡ entries_of list ++ entry ∷ []
+  pub owed : IsOwed plan (entries_of list) entry lines changes
+  pub lent : LendsTouched plan (has_line lines) entry.change.act

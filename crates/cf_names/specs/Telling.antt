@@ -1,0 +1,56 @@
+-- What a call's answer tells its caller, who has seen a beginning of the history: its pass.
+use Rattle.std.specs.Prelude.{◌≡◌, ◌⊎◌, ℕ, ◌+◌, ◌^◌, ◌-◌, ◌≤◌, min, List, [], ◌∷◌, ◌++◌, length}
+use mathlib.Core.List.{IsPrefix}
+use Rattle.cf_calls.specs.declared.call.Call.{Call}
+use Rattle.cf_calls.specs.declared.entry.Entry.{Entry}
+use Rattle.cf_calls.specs.declared.reply.Posted.{Posted}
+use Rattle.cf_calls.specs.declared.reply.Posted.TheVariants as posted
+use Rattle.cf_calls.specs.declared.reply.Reply.{Reply}
+use Rattle.cf_chart.specs.Plan.{Plan}
+use Rattle.cf_model.specs.Step.{body_of, next_of}
+use Rattle.cf_turns.specs.Lists.{TaggedEntry}
+use Rattle.cf_turns.specs.States.{PassState}
+use Rattle.cf_names.specs.Lists.{entries_of}
+
+-- each answer read the word once, and keeps what the pass had seen
+pub record Reads (old new : PassState) : Type 0 where
+  pub table : new.table ≡ old.table
+  pub number : new.number ≡ old.number
+  pub reads : new.reads ≡ old.reads + 1
+  pub seen : IsPrefix old.seen new.seen
+
+-- a reply is of the list that the pass has seen now, which is no shorter than the word that it read in this call
+pub record Replies (old new : PassState) (r : Reply) : Type 0 where
+  pub at : r.at ≡ length new.seen
+  pub fresh : new.last_read ≤ r.at
+  pub faults : new.faults ≡ old.faults
+
+-- the step adds an entry, recorded for this pass, and gives this reply
+pub record Adds (plan : Plan) (old new : PassState) (c : Call) (r : Reply) : Type 0 where
+  pub before : List TaggedEntry
+  pub entry : Entry
+  pub list : new.seen ≡ before ++ (entry, old.number) ∷ []
+  pub seen : IsPrefix old.seen before
+  pub body : body_of plan (entries_of before) c ≡ r.body
+  pub next : next_of plan (entries_of before) c ≡ entries_of new.seen
+  pub places : new.places ≡ old.places ++ r.at ∷ []
+
+-- the step gives this reply, and adds nothing
+pub record Keeps (plan : Plan) (old new : PassState) (c : Call) (r : Reply) : Type 0 where
+  pub body : body_of plan (entries_of new.seen) c ≡ r.body
+  pub next : next_of plan (entries_of new.seen) c ≡ entries_of new.seen
+  pub places : new.places ≡ old.places
+
+-- nothing more is seen, and no place is added
+pub record IsSameSight (old new : PassState) : Type 0 where
+  pub seen : new.seen ≡ old.seen
+  pub places : new.places ≡ old.places
+
+abbrev pub Says : Plan → PassState → PassState → Call → Posted → Type 0
+Says plan old new c (posted.Reply r) = Replies old new r × (Adds plan old new c r ⊎ Keeps plan old new c r)
+Says plan old new c posted.NoMemory = IsSameSight old new × (new.faults ≡ old.faults)
+Says plan old new c posted.Disk = IsSameSight old new × (new.faults ≡ min (old.faults + 1) (2 ^ 64 - 1))
+
+-- what the pass is told by the answer to a call
+abbrev pub Tells : Plan → PassState → PassState → Call → Posted → Type 0
+Tells plan old new c given = Reads old new × Says plan old new c given
