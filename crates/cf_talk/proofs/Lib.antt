@@ -1,0 +1,9 @@
+pub mod Entries
+pub mod Accepting
+pub mod Talking
+pub mod Joining
+pub mod Keeping
+pub mod Briefness
+pub mod Clerking
+pub mod ServeRunning
+pub mod ServeEnding
