@@ -1,0 +1,76 @@
+//! The program `books`: the real ends of what `cf_books::run` works over.
+#![tactic(auto)]
+
+use cf_base::{FileSource, StdSink};
+use cf_books::{Status, run, tell};
+use cf_books_words::{WordsRefused, read_words};
+use std::process::ExitCode;
+use std::{env, io};
+
+const HELP: &str = "\
+books check-chart [FILE]    says what a chart has, or its first fault (FILE: chart.toml)
+books check [FILE]          says what a journal has, or where it is damaged (FILE: fund.journal)
+books list [FILE] [--csv]   prints a row an entry: place, day, desk, key, call, amount, numbers drawn
+books calls [FILE]          prints the entries as calls, which make the journal again
+books chart [FILE]          prints the chart that a journal keeps
+books lines [FILE]          prints its control lines, with their numbers and names
+books --help                prints this
+books --version             prints the version
+
+Each command only reads. docs/BOOKS.md says how a run ends, and what to do then.
+";
+
+const VERSION: &str = "books 1\n";
+
+/// The words after the program's name.
+fn words(rt: &HostRuntime) -> io::Result<Vec<String>> {
+    let words = env::args(rt)?.skip(1).collect(rt.alloc())?;
+    Ok(words)
+}
+
+/// The text that is asked for by a single word.
+fn text_of(words: &[String]) -> Option<&'static str> {
+    match words {
+        [word] if word.as_str() == "--help" => Some(HELP),
+        [word] if word.as_str() == "--version" => Some(VERSION),
+        _ => None,
+    }
+}
+
+/// The status of words that can't be had: they are no text, or there is no memory.
+fn wordless(error: &io::Error) -> Status {
+    if error.kind() == io::ErrorKind::OutOfMemory {
+        Status::NoMemory
+    } else {
+        Status::BadWords
+    }
+}
+
+/// Runs what the words ask for.
+fn run_words(rt: &HostRuntime, words: &[String]) -> Status {
+    if let Some(text) = text_of(words) {
+        return match print!(rt; "{text}") {
+            Ok(()) => Status::Done,
+            Err(_) => Status::WriteFault,
+        };
+    }
+    match read_words(rt.alloc(), words) {
+        Ok(request) => {
+            let mut source = FileSource::new(rt, request.path());
+            let mut out = StdSink::new(rt.stdout());
+            run(rt.alloc(), request.command, &mut source, &mut out)
+        }
+        Err(WordsRefused::BadWords) => Status::BadWords,
+        Err(WordsRefused::NoMemory) => Status::NoMemory,
+    }
+}
+
+fn main(rt: HostRuntime) -> ExitCode {
+    let status = match words(&rt) {
+        Ok(words) => run_words(&rt, words.as_slice()),
+        Err(error) => wordless(&error),
+    };
+    let mut err = StdSink::new(rt.stderr());
+    tell(rt.alloc(), &mut err, status);
+    ExitCode::from(status.code())
+}

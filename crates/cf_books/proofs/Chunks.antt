@@ -1,0 +1,11 @@
+-- Some bytes more of a source.
+use Rattle.std.proofs.Common.{◌≡◌, ℕ, List, Option, sym, subst}
+use Rattle.std.specs.Io.KnownBytes.{Consumes}
+use Rattle.std.proofs.KnownBytes.{Consumes-trans}
+use Rattle.cf_books.specs.Sources.{IsRead, Takes}
+
+pub took_more : (first left left' : Option (List ℕ)) (old new : List ℕ) (count : ℕ) → Consumes first left old → Takes left left' old new count → Consumes first left' new
+took_more first left left' old new count took t = subst (Consumes first left') (sym t.joins) (Consumes-trans first left left' old t.piece took t.took)
+
+pub at_end : (first left left' : Option (List ℕ)) (old new : List ℕ) (count : ℕ) → Consumes first left old → Takes left left' old new count → count ≡ 0 → IsRead first left' new
+at_end first left left' old new count took t none = record { took = took_more first left left' old new count took t; whole = t.end none }

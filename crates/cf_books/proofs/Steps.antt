@@ -1,0 +1,31 @@
+-- One step of a loop over a list.
+use Rattle.std.proofs.Common.{◌≡◌, ℕ, ◌+◌, ◌<◌, Bool, true, false, refl, List, [], ◌∷◌, ◌++◌, length, drop, get_or, sym, ap, ◌∙◌, subst, append_assoc, append-nil, add-one, drop-cons}
+use Rattle.std.specs.Prelude.{Vec}
+use Rattle.std.specs.Global.{Global}
+use Rattle.csv.specs.declared.Writer.{Writer}
+use Rattle.csv.specs.Writing.{row_text}
+use Rattle.cf_books.specs.Listing.{header, header_rows}
+use Rattle.cf_books.specs.Rows.{Adds, AddsAll, Wrote, rows_text, setup}
+
+-- an item and what is behind it
+pub drop-item : {A : Type 0} (xs : List A) (i : ℕ) (x : A) → i < length xs → x ≡ get_or xs i x → x ∷ drop (i + 1) xs ≡ drop i xs
+drop-item xs i x below is = ap (λ y. y ∷ drop (i + 1) xs) is ∙ rw add-one (sym (drop-cons xs i x below))
+
+-- a row more, and those that are left
+pub row_more : (csv : Bool) (text : List ℕ) (row : List (List ℕ)) (rows : List (List (List ℕ))) → (text ++ row_text (setup csv) row) ++ rows_text csv rows ≡ text ++ rows_text csv (row ∷ rows)
+row_more csv text row rows = append_assoc text (row_text (setup csv) row) (rows_text csv rows)
+
+pub one_added : (csv : Bool) (row : List (List ℕ)) (old new : Writer (Vec ℕ Global)) → Adds csv row old new → AddsAll csv (row ∷ []) old new
+one_added csv row old new adds text wrote = subst (λ (t : List ℕ). Wrote csv (text ++ t) new) (sym (append-nil (row_text (setup csv) row))) (adds text wrote)
+
+pub none_added : (csv : Bool) (old : Writer (Vec ℕ Global)) → AddsAll csv [] old old
+none_added csv old text wrote = subst (λ (t : List ℕ). Wrote csv t old) (sym (append-nil text)) wrote
+
+-- two texts, appended one after the other
+pub two_texts : (out a b x y : List ℕ) → a ≡ out ++ x → b ≡ a ++ y → b ≡ out ++ (x ++ y)
+two_texts out a b x y p q = q ∙ ap (λ t. t ++ y) p ∙ append_assoc out x y
+
+-- the names of the columns, and the rows behind them
+pub header_first : (csv : Bool) (rows : List (List (List ℕ))) → rows_text csv (header_rows csv) ++ rows_text csv rows ≡ rows_text csv (header_rows csv ++ rows)
+header_first true rows = ap (λ t. t ++ rows_text true rows) (append-nil (row_text (setup true) header))
+header_first false rows = refl

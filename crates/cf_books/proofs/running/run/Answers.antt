@@ -1,0 +1,38 @@
+use Rattle.std.proofs.Common.{◌≡◌, ◌∙◌, List, ℕ, ap, sym, subst}
+use Rattle.std.specs.Io.KnownBytes.{Appends}
+use Rattle.cf_desk.specs.Sinks.{Wrote}
+use Rattle.cf_books.specs.Answers.{AreLeft, said}
+use Rattle.cf_books.proofs.Ends.{are_left, gave_ends}
+use Rattle.cf_books.proofs.running.run.Goals as goal
+
+pub returns-in-Ok-write_all : goal.returns-in-Ok-write_all
+returns-in-Ok-write_all g c =
+    let left = g.S.Source.left c.args.source.now in
+    let held = g.K.Sink.held c.args.out.now in
+    let held' = g.K.Sink.held c.write_all.new.sink in
+    let bytes = c.as_slice.result.now in
+    let answer = c.in-Ok-answer_of.ensures in
+    let out : (said c.args.command bytes).out ≡ c.as_slice-2.result.now = ap (λ x. x.out) answer ∙ sym c.as_slice-2.ensures.value in
+    gave_ends c.args.command left held held' c.in-Ok-answer_of.answer.status
+    (record {
+      bytes = bytes;
+      all = subst (AreLeft left) (sym c.as_slice.ensures.value) (are_left left _ _ c.in-Ok.ensures);
+      is = ap (λ x. x.status) answer;
+      put = subst (λ (t : List ℕ). Appends held held' t) (sym out) c.in-Ok-write_all.ensures.ok;
+    })
+
+pub returns : goal.returns
+returns g c =
+    let left = g.S.Source.left c.args.source.now in
+    let held = g.K.Sink.held c.args.out.now in
+    let held' = g.K.Sink.held c.write_all.new.sink in
+    let bytes = c.as_slice.result.now in
+    let answer = c.in-Ok-answer_of.ensures in
+    let out : (said c.args.command bytes).out ≡ c.as_slice-2.result.now = ap (λ x. x.out) answer ∙ sym c.as_slice-2.ensures.value in
+    let front = c.in-Err.ensures.err in
+    record {
+      bytes = bytes;
+      all = subst (AreLeft left) (sym c.as_slice.ensures.value) (are_left left _ _ c.in-Ok.ensures);
+      rest = front.0;
+      put = subst (λ (t : List ℕ). Wrote held held' t front.0) (sym out) front.1;
+    }

@@ -1,0 +1,10 @@
+pub mod Again
+pub mod Calls
+pub mod Rows
+pub mod Listing
+pub mod Lines
+pub mod Summary
+pub mod Whole
+pub mod Notices
+pub mod Sources
+pub mod Answers

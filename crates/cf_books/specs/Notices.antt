@@ -1,0 +1,74 @@
+-- What is said on standard error.
+use Rattle.std.specs.Prelude.{ℕ, zero, suc, ◌+◌, List, [], ◌∷◌, ◌++◌, slice_index_or, codes, decimal, Option, Some, None}
+use Rattle.cf_chart.specs.Faults.{word_of}
+use Rattle.cf_chart.specs.declared.fault.ChartFault.{ChartFault}
+use Rattle.cf_chart.specs.declared.fault.ChartFault.TheVariants as fault
+use Rattle.cf_chart.specs.declared.fault.TableName.{TableName}
+use Rattle.cf_chart.specs.declared.fault.TableName.TheVariants as table
+use Rattle.cf_books.specs.declared.status.Status.{Status}
+use Rattle.cf_books.specs.declared.status.Status.TheVariants.{Done, BadWords, ChartRefused, ReadFault, WriteFault, NotFounded, Damaged, NoMemory, Cut}
+
+-- ---- a chart's fault, in the words of `docs/CHART.md`
+
+abbrev pub table_word : TableName → List ℕ
+table_word table.Top = codes "top level"
+table_word table.Function = codes "function"
+table_word table.Fund = codes "fund"
+table_word table.Department = codes "department"
+table_word table.Object = codes "object"
+table_word table.Source = codes "source"
+table_word table.Line = codes "line"
+table_word table.Desk = codes "desk"
+
+-- a table and the place of a row in it, counted from 0
+abbrev pub place_text : TableName → ℕ → List ℕ
+place_text t at = table_word t ++ 32 ∷ decimal at
+
+abbrev pub fault_text : ChartFault → List ℕ
+fault_text (fault.TooLong limit) = codes "longer than " ++ (decimal limit ++ codes " bytes")
+fault_text fault.NotToml = codes "no TOML document"
+fault_text (fault.TooMany t) = codes "too many rows in " ++ table_word t
+fault_text (fault.Missing t at k) = place_text t at ++ (codes " has no " ++ word_of k)
+fault_text (fault.Bad t at k) = place_text t at ++ (codes " has a bad " ++ word_of k)
+fault_text (fault.Twice t at) = place_text t at ++ codes " stands twice"
+fault_text (fault.Window source days) = codes "source " ++ (decimal source ++ (codes " has a window of " ++ (decimal days ++ codes " days")))
+fault_text (fault.General n) = decimal n ++ codes " general funds"
+
+-- ---- a journal's damage
+
+-- the names of the refusals, in the order of the rules
+abbrev pub refusal_names : List (List ℕ)
+refusal_names = codes "DeskUnknown" ∷ codes "Ahead" ∷ codes "KeyReused" ∷ codes "NotThisDesk" ∷ codes "HistoryFull" ∷ codes "AmountRange" ∷ codes "UnknownName" ∷ codes "PeriodClosed" ∷ codes "YearNotOpen" ∷ codes "YearClosed" ∷ codes "Adopted" ∷ codes "NotAdopted" ∷ codes "DocState" ∷ codes "SameHand" ∷ codes "NotOnOrder" ∷ codes "OverOpen" ∷ codes "OverReceivable" ∷ codes "AssetState" ∷ codes "NotDue" ∷ codes "LeaveShort" ∷ codes "MonthOrder" ∷ codes "DebtDue" ∷ codes "WindowOpen" ∷ codes "Exceeds" ∷ codes "CashShort" ∷ []
+
+-- why the office doesn't take an entry: the number and name of the refusal, or 0 for a repeat and for other numbers
+abbrev pub refusal_text : ℕ → List ℕ
+refusal_text zero = codes "its entry is a repeat, or draws other numbers"
+refusal_text (suc n) = codes "its entry is refused: " ++ (decimal (n + 1) ++ 32 ∷ slice_index_or refusal_names n [])
+
+abbrev pub damage_text : Option ℕ → List ℕ
+damage_text None = codes "no record of a journal stands there"
+damage_text (Some n) = refusal_text n
+
+abbrev pub at_text : ℕ → List ℕ
+at_text offset = codes "damaged at " ++ (decimal offset ++ codes ": ")
+
+-- ---- what is said of each end
+
+abbrev pub status_text : Status → List ℕ
+status_text Done = []
+status_text BadWords = codes "bad words"
+status_text (ChartRefused f) = codes "chart refused: " ++ fault_text f
+status_text ReadFault = codes "read fault"
+status_text WriteFault = codes "write fault"
+status_text (NotFounded len) = codes "not founded: the file has " ++ (decimal len ++ codes " bytes")
+status_text (Damaged offset refusal) = at_text offset ++ damage_text refusal
+status_text NoMemory = codes "no memory"
+status_text (Cut offset lost) = at_text offset ++ (codes "what stands before is given, and " ++ (decimal lost ++ codes " bytes are lost"))
+
+abbrev pub line_of : List ℕ → List ℕ
+line_of text = codes "books: " ++ (text ++ 10 ∷ [])
+
+-- nothing is said where all went well
+abbrev pub notice_of : Status → List ℕ
+notice_of Done = []
+notice_of status = line_of (status_text status)

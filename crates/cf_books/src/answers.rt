@@ -1,0 +1,163 @@
+//! What each command answers.
+
+ghost use Rattle.std.specs.Prelude.{◌≡◌, length, None, IfOk};
+ghost use Rattle.std.specs.List.{All};
+ghost use Rattle.cf_book.specs.Recovery.{recovered};
+ghost use Rattle.cf_chart.specs.Reading.{chart_of};
+ghost use Rattle.cf_journal.specs.Records.{HasRecord};
+ghost use Rattle.cf_books.specs.Answers as spec;
+ghost use Rattle.cf_books.specs.Answers.{Answers};
+ghost use Rattle.cf_books.specs.Whole.{parts, whole_of};
+
+use crate::calls::put_calls;
+use crate::judged::judge;
+use crate::lines::lines_text;
+use crate::listing::list_text;
+use crate::status::Status;
+use crate::summary::{put_chart, put_journal};
+use crate::whole::{Whole, read_frames, read_whole};
+use cf_books_words::Command;
+use cf_chart::{Chart, ChartRefused};
+use cf_journal::OpenRefused;
+use std::alloc::{AllocError, Global};
+
+/// What is printed, and how the run ends.
+#[derive(Drop)]
+pub struct Answer {
+    pub out: Vec<u8>,
+    pub status: Status,
+}
+
+/// An answer of nothing.
+fn nothing(alloc: Global, status: Status) -> Answer
+    ensures { spec.view result ≡ spec.nothing status }
+{
+    Answer {
+        out: Vec::new(alloc),
+        status,
+    }
+}
+
+/// What a chart has, or its first fault, which is the one that `found` refuses it for.
+fn chart_answer(alloc: Global, bytes: &[u8]) -> Result<Answer, AllocError>
+    ensures { Answers result (spec.chart_said (chart_of bytes.now)) }
+{
+    match Chart::read(alloc, bytes) {
+        Ok(chart) => {
+            let mut out = Vec::new(alloc);
+            put_chart(&mut out, &chart)?;
+            Ok(Answer {
+                out,
+                status: Status::Done,
+            })
+        }
+        Err(ChartRefused::Fault(fault)) => Ok(nothing(alloc, Status::ChartRefused { fault })),
+        Err(ChartRefused::NoMemory) => Err(AllocError),
+    }
+}
+
+/// The control lines of a chart's bytes, none where it is refused.
+fn lines_in(alloc: Global, chart: &[u8]) -> Result<Vec<u8>, AllocError>
+    ensures { IfOk result (λ v. v.items ≡ spec.lines_in (chart_of chart.now)) }
+{
+    match Chart::read(alloc, chart) {
+        Ok(chart) => lines_text(alloc, &chart),
+        Err(ChartRefused::Fault(_)) => Ok(Vec::new(alloc)),
+        Err(ChartRefused::NoMemory) => Err(AllocError),
+    }
+}
+
+/// What a command prints of a journal.
+fn text_of(alloc: Global, command: Command, whole: &Whole) -> Result<Vec<u8>, AllocError>
+    requires { All HasRecord whole.now.entries.items }
+    ensures { IfOk result (λ v. v.items ≡ spec.text_of command (parts whole.now)) }
+{
+    match command {
+        Command::Calls => {
+            let mut out = Vec::new(alloc);
+            put_calls(&mut out, whole.entries.as_slice())?;
+            Ok(out)
+        }
+        Command::List { csv } => list_text(alloc, csv, whole.entries.as_slice()),
+        Command::Chart => Vec::from_slice(alloc, whole.chart.as_slice()),
+        Command::Lines => lines_in(alloc, whole.chart.as_slice()),
+        Command::CheckChart | Command::Check => Ok(Vec::new(alloc)),
+    }
+}
+
+/// How a run ends over a journal of so many bytes.
+fn end_of(damage: Option<u64>, len: u64) -> Status
+    ensures { result ≡ spec.end_of damage len }
+{
+    match damage {
+        None => Status::Done,
+        Some(offset) => Status::Cut {
+            offset,
+            lost: len.saturating_sub(offset),
+        },
+    }
+}
+
+/// What a command answers of a journal, as far as it is whole.
+fn whole_answer(alloc: Global, command: Command, bytes: &[u8]) -> Result<Answer, AllocError>
+    ensures { Answers result (spec.whole_said command (length bytes.now) (whole_of bytes.now)) }
+{
+    match read_whole(alloc, bytes) {
+        Ok(whole) => {
+            let out = text_of(alloc, command, &whole)?;
+            let status = end_of(whole.damage, bytes.len() as u64);
+            Ok(Answer { out, status })
+        }
+        Err(OpenRefused::NotFounded { len, byte: _ }) => {
+            Ok(nothing(alloc, Status::NotFounded { len }))
+        }
+        Err(OpenRefused::Damaged { offset }) => Ok(nothing(
+            alloc,
+            Status::Damaged {
+                offset,
+                refusal: None,
+            },
+        )),
+        // A disk in memory fails for want of memory alone.
+        Err(OpenRefused::Disk | OpenRefused::NoMemory) => Err(AllocError),
+    }
+}
+
+/// What a journal has whose entries the office takes again.
+fn journal_answer(alloc: Global, bytes: &[u8]) -> Result<Answer, AllocError>
+    requires { spec.refused (recovered bytes.now) ≡ None }
+    ensures { Answers result (spec.check_said (recovered bytes.now)) }
+{
+    let copy = Vec::from_slice(alloc, bytes)?;
+    let Ok((_, entries)) = read_frames(alloc, copy) else {
+        return Err(AllocError);
+    };
+    let mut out = Vec::new(alloc);
+    put_journal(&mut out, entries.as_slice())?;
+    Ok(Answer {
+        out,
+        status: Status::Done,
+    })
+}
+
+/// What a journal has, or why it isn't that of an office.
+fn check_answer(alloc: Global, bytes: &[u8]) -> Result<Answer, AllocError>
+    ensures { Answers result (spec.check_said (recovered bytes.now)) }
+{
+    let copy = Vec::from_slice(alloc, bytes)?;
+    match judge(alloc, copy)? {
+        Some(status) => Ok(nothing(alloc, status)),
+        None => journal_answer(alloc, bytes),
+    }
+}
+
+/// What a command answers of its file's bytes.
+pub fn answer_of(alloc: Global, command: Command, bytes: &[u8]) -> Result<Answer, AllocError>
+    ensures { Answers result (spec.said command bytes.now) }
+{
+    match command {
+        Command::CheckChart => chart_answer(alloc, bytes),
+        Command::Check => check_answer(alloc, bytes),
+        _ => whole_answer(alloc, command, bytes),
+    }
+}

@@ -1,0 +1,21 @@
+//! The commands that check, read and take out a city's books: its chart and its journal. They read bytes and write text,
+//! and change nothing.
+#![tactic(auto)]
+
+mod amounts;
+mod answers;
+mod calls;
+mod judged;
+mod lines;
+mod listing;
+mod notices;
+mod rows;
+mod running;
+mod source;
+mod status;
+mod summary;
+mod whole;
+
+pub use answers::{Answer, answer_of};
+pub use running::{run, tell};
+pub use status::Status;

@@ -1,0 +1,190 @@
+//! What is said on standard error.
+
+ghost use Rattle.std.specs.Prelude.{◌≡◌, ◌++◌, ◌-◌, ◌≤◌, [], slice_index_or, decimal, OnOk};
+ghost use Rattle.cf_chart.specs.Faults.{word_of};
+ghost use Rattle.cf_books.specs.Notices as spec;
+
+use crate::status::Status;
+use cf_chart::{ChartFault, KeyName, TableName};
+use cf_json::parts::put_number;
+use std::alloc::AllocError;
+
+fn table_word(table: TableName) -> &'static str
+    ensures { result.now ≡ spec.table_word table }
+{
+    match table {
+        TableName::Top => "top level",
+        TableName::Function => "function",
+        TableName::Fund => "fund",
+        TableName::Department => "department",
+        TableName::Object => "object",
+        TableName::Source => "source",
+        TableName::Line => "line",
+        TableName::Desk => "desk",
+    }
+}
+
+/// Appends a text.
+fn put_text(out: &mut Vec<u8>, text: &str) -> Result<(), AllocError>
+    ensures { OnOk result (out.new.items ≡ out.old.items ++ text.now) }
+{
+    out.extend_from_slice(text.as_bytes())
+}
+
+/// Appends a text, a number and a text.
+fn put_between(out: &mut Vec<u8>, before: &str, n: u64, after: &str) -> Result<(), AllocError>
+    ensures { OnOk result (out.new.items ≡ out.old.items ++ (before.now ++ (decimal n ++ after.now))) }
+{
+    out.extend_from_slice(before.as_bytes())?;
+    put_number(out, n)?;
+    out.extend_from_slice(after.as_bytes())
+}
+
+/// Appends a table and the place of a row in it.
+fn put_place(out: &mut Vec<u8>, table: TableName, at: u64) -> Result<(), AllocError>
+    ensures { OnOk result (out.new.items ≡ out.old.items ++ spec.place_text table at) }
+{
+    out.extend_from_slice(table_word(table).as_bytes())?;
+    out.push(b' ')?;
+    put_number(out, at)
+}
+
+/// Appends what is wrong with a key of a row.
+fn put_key_fault(
+    out: &mut Vec<u8>,
+    table: TableName,
+    at: u64,
+    wrong: &str,
+    key: KeyName,
+) -> Result<(), AllocError>
+    ensures { OnOk result (out.new.items ≡ out.old.items ++ (spec.place_text table at ++ (wrong.now ++ word_of key))) }
+{
+    put_place(out, table, at)?;
+    out.extend_from_slice(wrong.as_bytes())?;
+    out.extend_from_slice(key.word().as_bytes())
+}
+
+/// Appends a chart's fault.
+fn put_fault(out: &mut Vec<u8>, fault: ChartFault) -> Result<(), AllocError>
+    ensures { OnOk result (out.new.items ≡ out.old.items ++ spec.fault_text fault) }
+{
+    match fault {
+        ChartFault::TooLong { limit } => put_between(out, "longer than ", limit, " bytes"),
+        ChartFault::NotToml => out.extend_from_slice(b"no TOML document"),
+        ChartFault::TooMany { table } => {
+            out.extend_from_slice(b"too many rows in ")?;
+            out.extend_from_slice(table_word(table).as_bytes())
+        }
+        ChartFault::Missing { table, at, key } => put_key_fault(out, table, at, " has no ", key),
+        ChartFault::Bad { table, at, key } => put_key_fault(out, table, at, " has a bad ", key),
+        ChartFault::Twice { table, at } => {
+            put_place(out, table, at)?;
+            out.extend_from_slice(b" stands twice")
+        }
+        ChartFault::Window { source, days } => {
+            put_between(out, "source ", source as u64, " has a window of ")?;
+            put_between(out, "", days as u64, " days")
+        }
+        ChartFault::General { count } => put_between(out, "", count, " general funds"),
+    }
+}
+
+/// The name of the refusal of a number.
+fn refusal_name(number: u8) -> &'static str
+    requires { 1 ≤ number }
+    ensures { result.now ≡ slice_index_or spec.refusal_names (number - 1) [] }
+{
+    match number {
+        1 => "DeskUnknown",
+        2 => "Ahead",
+        3 => "KeyReused",
+        4 => "NotThisDesk",
+        5 => "HistoryFull",
+        6 => "AmountRange",
+        7 => "UnknownName",
+        8 => "PeriodClosed",
+        9 => "YearNotOpen",
+        10 => "YearClosed",
+        11 => "Adopted",
+        12 => "NotAdopted",
+        13 => "DocState",
+        14 => "SameHand",
+        15 => "NotOnOrder",
+        16 => "OverOpen",
+        17 => "OverReceivable",
+        18 => "AssetState",
+        19 => "NotDue",
+        20 => "LeaveShort",
+        21 => "MonthOrder",
+        22 => "DebtDue",
+        23 => "WindowOpen",
+        24 => "Exceeds",
+        25 => "CashShort",
+        _ => "",
+    }
+}
+
+/// Appends why the office doesn't take an entry.
+fn put_refusal(out: &mut Vec<u8>, number: u8) -> Result<(), AllocError>
+    ensures { OnOk result (out.new.items ≡ out.old.items ++ spec.refusal_text number) }
+{
+    if number == 0 {
+        return out.extend_from_slice(b"its entry is a repeat, or draws other numbers");
+    }
+    put_between(out, "its entry is refused: ", number as u64, " ")?;
+    out.extend_from_slice(refusal_name(number).as_bytes())
+}
+
+/// Appends what is damaged.
+fn put_damage(out: &mut Vec<u8>, offset: u64, refusal: Option<u8>) -> Result<(), AllocError>
+    ensures { OnOk result (out.new.items ≡ out.old.items ++ (spec.at_text offset ++ spec.damage_text refusal)) }
+{
+    put_between(out, "damaged at ", offset, ": ")?;
+    match refusal {
+        None => put_text(out, "no record of a journal stands there"),
+        Some(number) => put_refusal(out, number),
+    }
+}
+
+/// Appends what is said of how a run ended.
+fn put_status(out: &mut Vec<u8>, status: Status) -> Result<(), AllocError>
+    ensures { OnOk result (out.new.items ≡ out.old.items ++ spec.status_text status) }
+{
+    match status {
+        Status::Done => Ok(()),
+        Status::BadWords => out.extend_from_slice(b"bad words"),
+        Status::ChartRefused { fault } => {
+            put_text(out, "chart refused: ")?;
+            put_fault(out, fault)
+        }
+        Status::ReadFault => out.extend_from_slice(b"read fault"),
+        Status::WriteFault => out.extend_from_slice(b"write fault"),
+        Status::NotFounded { len } => {
+            put_between(out, "not founded: the file has ", len, " bytes")
+        }
+        Status::Damaged { offset, refusal } => put_damage(out, offset, refusal),
+        Status::NoMemory => out.extend_from_slice(b"no memory"),
+        Status::Cut { offset, lost } => {
+            put_between(out, "damaged at ", offset, ": ")?;
+            put_between(
+                out,
+                "what stands before is given, and ",
+                lost,
+                " bytes are lost",
+            )
+        }
+    }
+}
+
+/// Appends what is said on standard error of how a run ended: a line, or nothing where all went well.
+pub fn put_notice(out: &mut Vec<u8>, status: Status) -> Result<(), AllocError>
+    ensures { OnOk result (out.new.items ≡ out.old.items ++ spec.notice_of status) }
+{
+    if matches!(status, Status::Done) {
+        return Ok(());
+    }
+    out.extend_from_slice(b"books: ")?;
+    put_status(out, status)?;
+    out.push(b'\n')?;
+    Ok(())
+}

@@ -1,0 +1,45 @@
+//! A run: the file's bytes, the answer, and what is said on standard error.
+
+ghost use Rattle.cf_books.specs.Answers.{Ends};
+
+use crate::answers::answer_of;
+use crate::notices::put_notice;
+use crate::source::{Unread, read_all};
+use crate::status::Status;
+use cf_base::{Sink, Source};
+use cf_books_words::Command;
+use cf_desk::write_all;
+use std::alloc::Global;
+
+/// Runs a command over the bytes of its file. The file is only read: nothing else of it can be asked of a source. What
+/// is read of a journal that a desk writes to meanwhile is a state that it had, since an entry counts once its gate is
+/// open, which comes last.
+pub fn run<S: Source, K: Sink>(
+    alloc: Global,
+    command: Command,
+    source: &mut S,
+    out: &mut K,
+) -> Status
+    ensures { Ends command (S.left source.old) (K.held out.old) (K.held out.new) result }
+{
+    let bytes = match read_all(alloc, source) {
+        Ok(bytes) => bytes,
+        Err(Unread::Fault) => return Status::ReadFault,
+        Err(Unread::NoMemory) => return Status::NoMemory,
+    };
+    let Ok(answer) = answer_of(alloc, command, bytes.as_slice()) else {
+        return Status::NoMemory;
+    };
+    match write_all(out, answer.out.as_slice()) {
+        Ok(()) => answer.status,
+        Err(_) => Status::WriteFault,
+    }
+}
+
+/// Says on standard error how a run ended, where there is something to say. A failure there is let be.
+pub fn tell<E: Sink>(alloc: Global, err: &mut E, status: Status) {
+    let mut notice = Vec::new(alloc);
+    if put_notice(&mut notice, status).is_ok() {
+        let _ = write_all(err, notice.as_slice());
+    }
+}

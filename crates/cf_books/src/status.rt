@@ -1,0 +1,44 @@
+//! How a run ends.
+
+use cf_chart::ChartFault;
+
+/// How a run ends.
+#[derive(Clone, Copy)]
+pub enum Status {
+    /// The answer was written whole.
+    Done,
+    /// The words ask for nothing.
+    BadWords,
+    /// The chart has this fault, and no journal is founded with it.
+    ChartRefused { fault: ChartFault },
+    /// The file can't be read.
+    ReadFault,
+    /// The output failed.
+    WriteFault,
+    /// The file, of so many bytes, is no journal.
+    NotFounded { len: u64 },
+    /// The journal isn't what the program leaves: the place of what is wrong, and where that is an entry which the office
+    /// refuses, the number of the refusal. It is 0 for a repeat and for other drawn numbers.
+    Damaged { offset: u64, refusal: Option<u8> },
+    /// There was no memory.
+    NoMemory,
+    /// What stands before the damage was given. So many bytes from there on are lost.
+    Cut { offset: u64, lost: u64 },
+}
+
+impl Status {
+    /// The exit code of the program, which is that of `cityfund` where both end so.
+    pub fn code(self) -> u8 {
+        match self {
+            Status::Done => 0,
+            Status::BadWords => 2,
+            Status::ChartRefused { .. } => 3,
+            Status::ReadFault => 4,
+            Status::WriteFault => 5,
+            Status::NotFounded { .. } => 7,
+            Status::Damaged { .. } => 9,
+            Status::NoMemory => 12,
+            Status::Cut { .. } => 13,
+        }
+    }
+}

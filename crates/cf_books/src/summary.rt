@@ -1,0 +1,116 @@
+//! What a chart has, and what a journal has.
+
+ghost use Rattle.std.specs.Prelude.{◌≡◌, ◌++◌, codes, map, OnOk};
+ghost use Rattle.cf_books.specs.Summary as spec;
+
+use cf_base::day_text;
+use cf_calls::acts::Period;
+use cf_calls::{Act, Entry};
+use cf_chart::Chart;
+use cf_json::parts::put_number;
+use std::alloc::AllocError;
+
+/// Appends a fact with its name.
+#[tactic(auto, unfolding(crate::specs::Summary::fact))]
+fn put_fact(out: &mut Vec<u8>, name: &str, value: &[u8]) -> Result<(), AllocError>
+    ensures { OnOk result (out.new.items ≡ out.old.items ++ spec.fact name.now value.now) }
+{
+    out.extend_from_slice(name.as_bytes())?;
+    out.extend_from_slice(b": ")?;
+    out.extend_from_slice(value)?;
+    out.push(b'\n')?;
+    Ok(())
+}
+
+/// Appends a number with its name.
+#[tactic(auto, unfolding(crate::specs::Summary::count_fact))]
+fn put_count(out: &mut Vec<u8>, name: &str, n: u64) -> Result<(), AllocError>
+    ensures { OnOk result (out.new.items ≡ out.old.items ++ spec.count_fact (name.now, n)) }
+{
+    out.extend_from_slice(name.as_bytes())?;
+    out.extend_from_slice(b": ")?;
+    put_number(out, n)?;
+    out.push(b'\n')?;
+    Ok(())
+}
+
+/// Appends numbers with their names.
+fn put_counts(out: &mut Vec<u8>, facts: &[(&str, u64)]) -> Result<(), AllocError>
+    ensures { OnOk result (out.new.items ≡ out.old.items ++ spec.counts_text (map spec.named facts.now)) }
+{
+    for fact in facts {
+        put_count(out, fact.0, fact.1)?;
+    }
+    Ok(())
+}
+
+/// Appends what a chart has.
+pub fn put_chart(out: &mut Vec<u8>, chart: &Chart) -> Result<(), AllocError>
+    ensures { OnOk result (out.new.items ≡ out.old.items ++ spec.chart_text chart.now) }
+{
+    put_fact(out, "city", chart.city().as_bytes())?;
+    put_counts(
+        out,
+        &[
+            ("first fiscal year", chart.first_year() as u64),
+            ("first month", chart.first_month() as u64),
+            ("functions", chart.functions().len() as u64),
+            ("funds", chart.funds().len() as u64),
+            ("departments", chart.depts().len() as u64),
+            ("objects", chart.objects().len() as u64),
+            ("sources", chart.sources().len() as u64),
+            ("lines", chart.lines().len() as u64),
+            ("desks", chart.desks().len() as u64),
+        ],
+    )
+}
+
+/// Whether an act closes a month, or a fiscal year.
+#[tactic(auto, unfolding(crate::specs::Summary::closes))]
+fn closes(years: bool, act: &Act) -> bool
+    ensures { result ≡ spec.closes years act.now }
+{
+    match act {
+        Act::Close(Period::Month(_)) => !years,
+        Act::Close(Period::Year(_)) => years,
+        _ => false,
+    }
+}
+
+/// How many months, or fiscal years, the entries close.
+fn closed(years: bool, entries: &[Entry]) -> u64
+    ensures { result ≡ spec.closed years entries.now }
+{
+    let mut count = 0;
+    for entry in entries {
+        if closes(years, &entry.change.act) {
+            count += 1;
+        }
+    }
+    count
+}
+
+/// Appends the day of the last entry.
+fn put_last_day(out: &mut Vec<u8>, entries: &[Entry]) -> Result<(), AllocError>
+    ensures { OnOk result (out.new.items ≡ out.old.items ++ spec.fact (codes "last day") (spec.last_day entries.now)) }
+{
+    match entries.last() {
+        Some(entry) => put_fact(out, "last day", &day_text(entry.change.on)),
+        None => put_fact(out, "last day", b"none"),
+    }
+}
+
+/// Appends what the entries of a journal come to.
+pub fn put_journal(out: &mut Vec<u8>, entries: &[Entry]) -> Result<(), AllocError>
+    ensures { OnOk result (out.new.items ≡ out.old.items ++ spec.journal_text entries.now) }
+{
+    put_last_day(out, entries)?;
+    put_counts(
+        out,
+        &[
+            ("entries", entries.len() as u64),
+            ("closed months", closed(false, entries)),
+            ("closed years", closed(true, entries)),
+        ],
+    )
+}

@@ -1,0 +1,79 @@
+//! What is whole of a journal.
+
+ghost use Rattle.std.specs.Prelude.{◌≡◌, Some, IfOk};
+ghost use Rattle.std.specs.List.{All};
+ghost use Rattle.cf_journal.specs.Frames.{frames};
+ghost use Rattle.cf_journal.specs.Records.{HasRecord};
+ghost use Rattle.cf_journal.specs.declared.refused.OpenRefused.TheVariants as refused;
+ghost use Rattle.cf_books.specs.Whole as spec;
+ghost use Rattle.cf_books.specs.Whole.{ReadsFrames, ReadsWhole};
+
+use cf_calls::Entry;
+use cf_disk::MemDisk;
+use cf_journal::{OpenRefused, open};
+use std::alloc::{AllocError, Global};
+
+/// A journal's chart and entries as far as they are whole.
+#[derive(Drop)]
+pub struct Whole {
+    pub chart: Vec<u8>,
+    pub entries: Vec<Entry>,
+    /// The place of the damage behind the entries, where there is one.
+    pub damage: Option<u64>,
+}
+
+/// The chart and the entries that a journal's bytes are.
+pub fn read_frames(alloc: Global, bytes: Vec<u8>) -> Result<(Vec<u8>, Vec<Entry>), OpenRefused>
+    ensures answer { ReadsFrames result (frames bytes.items) }
+    ensures records { IfOk result (λ x. All HasRecord x.1.items) }
+{
+    let mut disk = MemDisk::new(alloc, bytes)?;
+    let (_, chart, entries) = open(alloc, &mut disk)?;
+    Ok((chart, entries))
+}
+
+/// The bytes before a place, with a closed gate there.
+fn before(alloc: Global, at: u64, bytes: &[u8]) -> Result<Vec<u8>, AllocError>
+    ensures { IfOk result (λ v. v.items ≡ spec.before at bytes.now) }
+{
+    let len = (at as usize).min(bytes.len());
+    let mut front = Vec::from_slice(alloc, &bytes[..len])?;
+    front.push(0)?;
+    Ok(front)
+}
+
+/// What stands before the damage at a place.
+fn read_before(alloc: Global, at: u64, bytes: &[u8]) -> Result<Whole, OpenRefused>
+    ensures answer { ReadsWhole result (spec.parts_or (Some at) (refused.Damaged at) (frames (spec.before at bytes.now))) }
+    ensures records { IfOk result (λ w. All HasRecord w.entries.items) }
+{
+    let front = before(alloc, at, bytes)?;
+    match read_frames(alloc, front) {
+        Ok((chart, entries)) => Ok(Whole {
+            chart,
+            entries,
+            damage: Some(at),
+        }),
+        Err(OpenRefused::NoMemory) => Err(OpenRefused::NoMemory),
+        Err(OpenRefused::Disk) => Err(OpenRefused::Disk),
+        Err(_) => Err(OpenRefused::Damaged { offset: at }),
+    }
+}
+
+/// What is whole of a journal's bytes: all of it, or what stands before the damage. It is refused where there is no
+/// journal, or no chart before the damage.
+pub fn read_whole(alloc: Global, bytes: &[u8]) -> Result<Whole, OpenRefused>
+    ensures answer { ReadsWhole result (spec.whole_of bytes.now) }
+    ensures records { IfOk result (λ w. All HasRecord w.entries.items) }
+{
+    let copy = Vec::from_slice(alloc, bytes)?;
+    match read_frames(alloc, copy) {
+        Ok((chart, entries)) => Ok(Whole {
+            chart,
+            entries,
+            damage: None,
+        }),
+        Err(OpenRefused::Damaged { offset }) => read_before(alloc, offset, bytes),
+        Err(why) => Err(why),
+    }
+}
