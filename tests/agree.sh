@@ -3,9 +3,9 @@
 #
 #     tests/agree.sh [TALKS [CALLS [FIRST]]]
 #
-# A talk through the last fifty fiscal years, and 100 talks of 1,500 calls where nothing else is said, from the seed FIRST (1) on. It
-# prints the calls that were compared, and the first lines of each talk that differs, with its seed. Before all
-# that the office answers the stored talks of examples/, and prints their statements, which needs no program, and the quotes of docs/
+# Generated runs of some sizes, a talk through the last fifty fiscal years, and 100 talks of 1,500 calls where nothing else is said,
+# from the seed FIRST (1) on. It prints the calls that were compared, and the first lines of each talk that differs, with its seed.
+# Before all that the office answers the stored talks of examples/, and prints their statements, which needs no program, and the quotes of docs/
 # are looked up in them: `tests/agree.sh 0` does this alone.
 cd "$(dirname "$0")/.." || exit 1
 top=$(pwd)
@@ -58,6 +58,10 @@ compare() {
 
 python3 tests/office/last_years.py "$scratch/talk" || exit 1
 compare "the last years"
+for count in 1 2 3 40 1000 5000; do
+    python3 tests/office/generated.py examples/milltown/chart.toml "$count" > "$scratch/generated"
+    "$program" generate "$count" | cmp -s - "$scratch/generated" || { echo "generate $count differs"; differing=$((differing + 1)); }
+done
 seed=$first
 while [ "$seed" -lt $((first + talks)) ]; do
     python3 tests/office/talks.py "$seed" "$calls" "$scratch/talk" || exit 1

@@ -1,7 +1,7 @@
 #!/bin/sh
 # Runs the examples through the launcher and compares what it prints with the replies beside them: each talk of
 # examples/ over a journal of its own, founded with the chart of Rivertown, those of examples/milltown/ with the chart of
-# Milltown, and the day of examples/two-runs/ by two desks, one after the other, over one journal. The journal of each talk
+# Milltown, with the statements that stand beside a talk, and the day of examples/two-runs/ by two desks, one after the other, over one journal. The journal of each talk
 # is read by its format alone (journal.py). Then what founding and opening refuse, and the launcher with stubs (launcher.sh).
 cd "$(dirname "$0")/.." || exit 1
 top=$(pwd)
@@ -44,6 +44,21 @@ talk() {
     verdict "$1: status $status" $?
 }
 
+# statements TALK: each stored statement beside a talk is what a report over its journal prints, as text or as records.
+statements() {
+    for report in "${1%.jsonl}".reports/*; do
+        [ -e "$report" ] || continue
+        name=$(basename "$report")
+        kind=${name#*-}
+        set -- "${name%%-*}" "${kind%.*}"
+        [ "${kind#*.}" = txt ] || set -- "$@" --csv
+        (cd "$scratch" && "$city/cityfund" report "$@" > got)
+        status=$?
+        [ "$status" -eq 0 ] && diff "$scratch/got" "$report"
+        verdict "report $* is $report: status $status" $?
+    done
+}
+
 # fresh CITY: no journal, and the city's chart.
 fresh() {
     rm -f "$scratch/fund.journal"
@@ -59,7 +74,15 @@ for lines in examples/*.jsonl examples/milltown/*.jsonl; do
     talk "$lines" "${lines%.jsonl}.replies"
     python3 tests/journal.py "$scratch/fund.journal" "$lines" "${lines%.jsonl}.replies"
     verdict "the journal of $lines, read by its format" $?
+    statements "$lines"
 done
+
+# A large run, which needs no journal: it prints the same twice.
+mkdir "$scratch/run"
+(cd "$scratch/run" && "$city/cityfund" generate 100000 > first && "$city/cityfund" generate 100000 > second && cmp first second)
+verdict "generate 100000 twice" $?
+[ "$(head -n 1 "$scratch/run/first" | tr -s ' ')" = "Entries 100007" ] && [ "$(ls "$scratch/run" | wc -l)" -eq 2 ]
+verdict "the lines of generate 100000, and no other file" $?
 
 fresh rivertown
 expect "found for two runs" 0 founded found
@@ -73,6 +96,7 @@ expect "found without a chart" 4 "cityfund: read fault" found
 cp examples/rivertown/chart.toml "$scratch/chart.toml"
 expect "found again" 8 "cityfund: already founded" found
 expect "other words" 2 "cityfund: bad words" desk found
+expect "words of no report" 2 "cityfund: bad words" report 02026 balance
 expect "a desk without lines" 0 "" desk
 cmp -s "$scratch/fund.journal" "$scratch/before"
 verdict "the journal stays" $?
@@ -85,6 +109,7 @@ exec 3> "$scratch/lines"
 printf '%s\n' '{"call":"line","line":3,"year":2026}' >&3
 until [ -s "$scratch/got" ] || ! kill -0 $! 2> /dev/null; do sleep 0.1; done
 expect "a second desk" 6 "cityfund: disk fault" desk
+expect "a report beside a desk" 6 "cityfund: disk fault" report 2026 balance
 exec 3>&-
 wait $!
 verdict "the first desk goes on" $?
@@ -103,9 +128,11 @@ verdict "the journal without a first byte stays" $?
 # Another version of the journal.
 printf '\002' | dd of="$scratch/fund.journal" bs=1 seek=1 conv=notrunc 2> /dev/null
 expect "another version" 9 "cityfund: damaged at 1" desk
+expect "a report of another version" 9 "cityfund: damaged at 1" report 2026 balance
 
 fresh rivertown
 expect "a desk without a journal" 7 "cityfund: not founded" desk
+expect "a report without a journal" 7 "cityfund: not founded" report 2026 balance
 [ ! -e "$scratch/fund.journal" ]
 verdict "no journal is made" $?
 # A property tax window of 61 days breaks the chart's rule of 60 (GASB Codification P70).
@@ -115,6 +142,8 @@ expect "a desk after a refused chart" 7 "cityfund: not founded" desk
 
 sh tests/launcher.sh
 verdict "the launcher" $?
+sh tests/books.sh
+verdict "the program books" $?
 
 echo "examples: $passed passed, $failed failed"
 [ "$failed" -eq 0 ]

@@ -22,9 +22,16 @@ expect() {
     fi
 }
 
-# rt STATUS NAME: from now on rt builds the program NAME and ends with this status; where the name is empty it builds none.
+# rt STATUS NAME: from now on rt builds the program NAME and ends with this status, for `books` with 4 in place of 7; where
+# the name is empty it builds none.
 rt() {
-    printf '#!/bin/sh\n[ -z "%s" ] || { mkdir -p out; cp %s out/cityfund; }\nexit %s\n' "$2" "$scratch/$2" "$1" > "$scratch/kit/rt"
+    cat > "$scratch/kit/rt" << STUB
+#!/bin/sh
+name=\$(basename "\$PWD")
+[ -z "$2" ] || { mkdir -p out; cp "$scratch/$2" "out/\$name"; }
+[ "\$name" != books ] || [ $1 -ne 7 ] || exit 4
+exit $1
+STUB
     chmod +x "$scratch/kit/rt"
 }
 
@@ -34,40 +41,43 @@ program() {
     chmod +x "$scratch/$1"
 }
 
-mkdir -p "$scratch/kit" "$scratch/desk" "$city/crates/cityfund/src"
-cp build cityfund "$city/"
-echo 'cityfund:' > "$city/crates.txt"
+mkdir -p "$scratch/kit" "$scratch/desk" "$city/crates/cityfund/src" "$city/crates/books/src"
+cp build cityfund books "$city/"
+printf 'cityfund:\nbooks:\n' > "$city/crates.txt"
 : > "$city/crates/cityfund/src/main.rt"
+: > "$city/crates/books/src/main.rt"
 program old
 program new
 
 expect "no program" 1 "cityfund: there is no program yet: run $city/build" "$city/cityfund" desk
+expect "no program of books" 1 "books: there is no program yet: run $city/build" "$city/books" check
 rt 1 ''
-expect "a first build that fails" 1 "build: failed: rt ended with status 1; out/cityfund is as it was" "$city/build"
+expect "a first build that fails" 1 "build: failed: rt ended with status 1; the programs of out/ are as they were" "$city/build"
 expect "still no program" 1 "cityfund: there is no program yet: run $city/build" "$city/cityfund" desk
 rt 7 old
-expect "a first build" 0 "build: built out/cityfund" "$city/build"
+expect "a first build" 0 "build: built out/cityfund and out/books" "$city/build"
 expect "the program runs" 0 "old desk" "$city/cityfund" desk
 expect "nothing is said before it" 0 "old desk" sh -c "'$city/cityfund' desk 2>&1 | head -n 1"
 touch "$city/crates/cityfund/src/main.rt"
 expect "a newer source is told" 0 "cityfund: a source is newer than this program: $city/build makes a new one" \
     sh -c "'$city/cityfund' desk 2>&1 > out"
 rt 1 ''
-expect "a later build that fails" 1 "build: failed: rt ended with status 1; out/cityfund is as it was" "$city/build"
+expect "a later build that fails" 1 "build: failed: rt ended with status 1; the programs of out/ are as they were" "$city/build"
 expect "the old program runs" 0 "old desk" "$city/cityfund" desk
 expect "and isn't taken for the new one" 0 "cityfund: a source is newer than this program: $city/build makes a new one" \
     sh -c "'$city/cityfund' desk 2>&1 > out"
 rt 127 ''
-expect "a build without rt" 1 "build: failed: rt ended with status 127; out/cityfund is as it was" "$city/build"
+expect "a build without rt" 1 "build: failed: rt ended with status 127; the programs of out/ are as they were" "$city/build"
 printf '#!/bin/sh\nexit 3\n' > "$scratch/broken"
 chmod +x "$scratch/broken"
 rt 7 broken
-expect "a program that doesn't run" 1 "build: failed: the program that was built doesn't run; out/cityfund is as it was" "$city/build"
+expect "a program that doesn't run" 1 "build: failed: the program that was built doesn't run; the programs of out/ are as they were" "$city/build"
 expect "the old program still runs" 0 "old desk" "$city/cityfund" desk
 rt 7 new
-expect "a later build" 0 "build: built out/cityfund" "$city/build"
+expect "a later build" 0 "build: built out/cityfund and out/books" "$city/build"
 expect "the new program runs" 0 "new desk" sh -c "'$city/cityfund' desk 2>&1 | head -n 1"
-[ "$(ls "$city/out")" = cityfund ]
+expect "and that of books" 0 "new list -x" sh -c "'$city/books' list -x 2>&1 | head -n 1"
+[ "$(ls "$city/out" | xargs)" = "books cityfund" ]
 expect "nothing is left beside it" 0 "" test $? -eq 0
 
 printf '\003\001entries' > "$scratch/desk/fund.journal"

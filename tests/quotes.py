@@ -34,17 +34,17 @@ def unknown_quotes(page, pairs):
 
 
 def broken_statements(page, statements):
-    """Titles of statements that are quoted, and don't go on as the stored statement does."""
+    """Titles of statements that are quoted, and don't go on as a stored statement of that title does."""
     lines = lines_of(page)
     for number, line in enumerate(lines):
-        whole = statements.get(line[4:]) if line.startswith("    ") else None
-        if whole and [text[4:] for text in lines[number : number + len(whole)]] != whole:
+        titled = [whole for whole in statements if line == "    " + whole[0]]
+        if titled and not any([text[4:] for text in lines[number : number + len(whole)]] == whole for whole in titled):
             yield number + 1
 
 
 def main():
     pairs = set(stored_pairs())
-    statements = {lines_of(name)[0]: lines_of(name) for name in glob.glob("examples/**/*.reports/*.txt", recursive=True)}
+    statements = [lines_of(name) for name in glob.glob("examples/**/*.reports/*.txt", recursive=True)]
     faults = 0
     for page in sorted(glob.glob("docs/*.md")):
         for number in [*unknown_quotes(page, pairs), *broken_statements(page, statements)]:

@@ -1,0 +1,43 @@
+"""A long journal, written as its format says (docs/JOURNAL.md): read by the scripts that open one."""
+import datetime
+import os
+import struct
+
+
+def day(year, month, date):
+    return (datetime.date(year, month, date) - datetime.date(1970, 1, 1)).days
+
+
+def head(kind, desk, key, on):
+    """What each entry begins with: its kind, desk, key and day."""
+    return struct.pack(">BHB", kind, desk, len(key)) + key.encode() + struct.pack(">I", on)
+
+
+def adoption(line, amount):
+    return head(1, 1, "b", day(2025, 7, 1)) + struct.pack(">HHHHQH", 1, 2026, 1, line, amount, 0)
+
+
+def voucher(number):
+    return (head(9, 4, f"v{number}", day(2025, 7, 5))
+            + struct.pack(">IBH", 77, 0, 1)             # vendor, pay back, how many items
+            + struct.pack(">HHHQB", 1, 20, 510, 1, 0)   # fund, department, object, amount, no order item
+            + struct.pack(">II", number, 1))            # its number, and its first asset's
+
+
+def record(payload):
+    return b"\x01" + struct.pack(">I", len(payload)) + payload
+
+
+def write(vouchers):
+    """Writes fund.journal under the chart chart.toml: an adoption, and so many direct vouchers of one item. Says its size."""
+    with open("chart.toml", "rb") as file:
+        chart = file.read()
+    with open("fund.journal", "wb") as file:
+        file.write(b"\x01\x01" + struct.pack(">I", len(chart)) + chart)
+        file.write(record(adoption(3, 1_000_000_000)))
+        for number in range(1, vouchers + 1):
+            file.write(record(voucher(number)))
+        file.write(b"\x00")
+        file.flush()
+        os.fsync(file.fileno())
+    return os.path.getsize("fund.journal")
