@@ -1,5 +1,6 @@
 -- What contracts see of the assets by number, and what they keep.
 use Rattle.std.specs.Prelude.{◌≡◌, ℕ, ◌+◌, ◌<◌, ◌≤◌, true, List, length, slice_index_or, slice_set, is_some, zero, suc}
+use Rattle.cf_base.specs.Limits.{last_fiscal_year}
 use Rattle.cf_assets.specs.declared.rows.AssetRow.{AssetRow}
 use Rattle.cf_assets.specs.declared.rows.StageNow.TheVariants.{Held}
 use Rattle.cf_model.specs.Assets.{Asset, Stage, held, depreciation}
@@ -34,7 +35,7 @@ pub record IsNew (r : AssetRow) (i : Inventory) : Type 0 where
   pub held : r.stage ≡ Held
   pub cost : r.cost ≤ 10000000000000
   pub from : 1970 ≤ r.year
-  pub to : r.year ≤ 2200
+  pub to : r.year ≤ last_fiscal_year
   pub early : i.closed ≤ r.service
 
 -- the asset at a place is held

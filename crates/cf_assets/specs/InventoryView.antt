@@ -1,6 +1,7 @@
 -- What the fields stand for.
 use Rattle.std.specs.Prelude.{◌≡◌, ℕ, ◌+◌, ◌-◌, ◌<◌, ◌≤◌, min, List, length, map, slice_index_or, sum_by}
 use Rattle.std.specs.Vec.{vec_capacity}
+use Rattle.cf_base.specs.Limits.{most_entries}
 use Rattle.cf_assets.specs.declared.inventory.Inventory.TheInside.{Inside}
 use Rattle.cf_assets.specs.Inventory.{Inventory}
 use Rattle.cf_assets.specs.Rows.{view_asset, AreRows}
@@ -22,7 +23,7 @@ AreWorn assets worn = (n : ℕ) → n < length worn → slice_index_or worn n 0 
 
 pub record IsSound (a : Inside) : Type 0 where
   pub few : length a.rows.items ≤ 33554432
-  pub months : length a.worn.items ≤ 1048576
+  pub months : length a.worn.items ≤ most_entries
   pub rows : AreRows (length a.worn.items) a.rows.items
   pub serving : ServeAll (length a.worn.items) a.rows.items a.serving.items
   pub worn : AreWorn (map view_asset a.rows.items) a.worn.items

@@ -1,6 +1,7 @@
 -- What the register's fields stand for.
 use Rattle.std.specs.Prelude.{◌-◌, ◌*◌, ◌≤◌, length}
 use Rattle.std.specs.Vec.{vec_capacity}
+use Rattle.cf_base.specs.Limits.{most_entries}
 use Rattle.cf_assets.specs.declared.assets.Assets.TheInside.{Inside}
 use Rattle.cf_assets.specs.Extents.{AreExtents}
 use Rattle.cf_assets.specs.Register.{Register}
@@ -20,7 +21,7 @@ register_of a = record {
 
 -- each act adds at most one voucher of at most 32 assets, or one month
 pub record IsSound (a : Inside) : Type 0 where
-  pub acts : a.acts ≤ 1048576
+  pub acts : a.acts ≤ most_entries
   pub few : length a.inventory.assets ≤ 32 * a.acts
   pub closed : a.inventory.closed ≤ a.acts
   pub vouchers : length a.vouchers.items ≤ a.acts

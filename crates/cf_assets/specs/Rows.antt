@@ -1,5 +1,6 @@
 -- What the register's rows stand for.
 use Rattle.std.specs.Prelude.{◌≡◌, ℕ, ◌+◌, ◌<◌, ◌≤◌, List, length, slice_index_or, None}
+use Rattle.cf_base.specs.Limits.{last_fiscal_year}
 use Rattle.cf_assets.specs.declared.rows.AssetRow.{AssetRow}
 use Rattle.cf_assets.specs.declared.rows.StageNow.{StageNow}
 use Rattle.cf_assets.specs.declared.rows.StageNow.TheVariants.{Held, Void, Disposed}
@@ -33,7 +34,7 @@ pub record IsRow (closed k : ℕ) (r : AssetRow) : Type 0 where
   pub number : r.number ≡ k + 1
   pub cost : r.cost ≤ 10000000000000
   pub from : 1970 ≤ r.year
-  pub to : r.year ≤ 2200
+  pub to : r.year ≤ last_fiscal_year
   pub stage : IsStage closed r.stage
 
 abbrev pub AreRows : ℕ → List AssetRow → Type 0

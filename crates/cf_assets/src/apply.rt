@@ -3,6 +3,7 @@
 ghost use Rattle.std.specs.Prelude.{◌≡◌, ◌<◌, ◌≤◌, ◌+◌, ◌++◌, None, true, map, OnOk};
 ghost use Rattle.cf_assets.specs.Register.{HasRoomFor, HasRoomForAsset, HasRoomForClose, IsNext, IsNextAsset, IsOf, IsTimely};
 ghost use Rattle.cf_base.specs.Calendar.{is_day};
+ghost use Rattle.cf_base.specs.Limits.{most_entries};
 ghost use Rattle.cf_calls.specs.Form.{IsActInForm};
 ghost use Rattle.cf_calls.specs.declared.acts.Act.TheVariants as act;
 ghost use Rattle.cf_model.specs.Assets.{asset_step, assets_by};
@@ -49,7 +50,7 @@ impl Assets {
         requires allowed { (s : Registers) → IsOf s self.old → asset_refusal s on act.now ≡ None }
         requires drawn { IsNext act.now drawn self.old }
         requires timely { IsTimely chart.now self.old.closed on act.now }
-        requires few { self.old.acts < 1048576 }
+        requires few { self.old.acts < most_entries }
         ensures assets { self.new.assets ≡ map (asset_step chart.now self.old.closed on act.now) self.old.assets ++ assets_by chart.now on act.now drawn }
         ensures closed { self.new.closed ≡ closed_after act.now self.old.closed }
         ensures vouchers { self.new.vouchers ≡ self.old.vouchers + draws_voucher act.now }
@@ -71,7 +72,7 @@ impl Assets {
         requires allowed { (s : Registers) → IsOf s self.old → asset_refusal s on (act.Asset what.now) ≡ None }
         requires drawn { IsNextAsset what.now drawn self.old }
         requires early { self.old.closed ≤ number_of_day chart.now on }
-        requires few { self.old.acts < 1048576 }
+        requires few { self.old.acts < most_entries }
         ensures assets { self.new.assets ≡ map (asset_step chart.now self.old.closed on (act.Asset what.now)) self.old.assets ++ assets_by chart.now on (act.Asset what.now) drawn }
         ensures closed { self.new.closed ≡ self.old.closed }
         ensures vouchers { self.new.vouchers ≡ self.old.vouchers }
@@ -86,7 +87,7 @@ impl Assets {
     /// Closes a month; the close of a year leaves assets as they are.
     fn close(&mut self, period: &Period)
         requires reserved { HasRoomForClose period.now self.old.room }
-        requires few { self.old.acts < 1048576 }
+        requires few { self.old.acts < most_entries }
         ensures assets { self.new.assets ≡ self.old.assets }
         ensures closed { self.new.closed ≡ closed_after (act.Close period.now) self.old.closed }
         ensures vouchers { self.new.vouchers ≡ self.old.vouchers }

@@ -2,6 +2,7 @@
 
 ghost use Rattle.std.specs.Prelude.{◌≡◌, ◌≤◌, ◌+◌, ℕ, [], length, slice_index_or, option_to_list, ◌==◌};
 ghost use Rattle.std.specs.List.{filter};
+ghost use Rattle.cf_base.specs.Limits.{most_entries};
 ghost use Rattle.cf_assets.specs.Readers.{asset_now_at, look_shown};
 ghost use Rattle.cf_assets.specs.Rows.{view_stage};
 ghost use Rattle.cf_model.specs.AssetsShown as shown;
@@ -71,7 +72,7 @@ impl Assets {
     /// How many acts were applied.
     pub fn acts(&self) -> u32
         ensures value { result ≡ self.now.acts }
-        ensures most { result ≤ 1048576 }
+        ensures most { result ≤ most_entries }
     {
         self.acts
     }
@@ -79,7 +80,7 @@ impl Assets {
     /// How many months are closed.
     pub fn closed(&self) -> u32
         ensures value { result ≡ self.now.closed }
-        ensures most { result ≤ 1048576 }
+        ensures most { result ≤ most_entries }
     {
         self.inventory.closed()
     }

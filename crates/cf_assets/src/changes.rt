@@ -2,6 +2,7 @@
 
 ghost use Rattle.std.specs.Prelude.{◌≡◌, ◌≤◌, ◌<◌, ◌^◌, ◌-ℤ◌, pos};
 ghost use Rattle.std.specs.List.{AllByRecursion};
+ghost use Rattle.cf_base.specs.Limits.{last_fiscal_year};
 ghost use Rattle.cf_assets.specs.Changes.{asset_changes};
 ghost use Rattle.cf_calls.specs.Form.{IsYear};
 ghost use Rattle.cf_model.specs.Assets as spec;
@@ -58,7 +59,7 @@ impl Assets {
 
 /// How many of the closed months are of fiscal years up to a year.
 fn closed_through(chart: &Chart, closed: u32, year: u16) -> u32
-    requires { year ≤ 2200 }
+    requires { year ≤ last_fiscal_year }
     ensures value { result ≡ closed_to chart.now closed year }
     ensures within { result ≤ closed }
     ensures first { 1971 ≤ chart.now.first_year }

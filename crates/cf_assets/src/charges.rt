@@ -1,6 +1,7 @@
 //! Depreciation of assets, and what the close of a month charges.
 
 ghost use Rattle.std.specs.Prelude.{◌≡◌, ◌≤◌, ◌<◌, ◌+◌, ℕ, map, sum_by, length, slice_index_or, ◌==◌, ◌^◌, if◌then◌else◌, true, MatchOption, replicate};
+ghost use Rattle.cf_base.specs.Limits.{most_entries};
 ghost use Rattle.cf_chart.specs.Rising.{is_rising};
 ghost use Rattle.cf_chart.specs.declared.rows.Function.{Function as FunctionRow};
 ghost use Rattle.cf_model.specs.Assets as spec;
@@ -49,7 +50,7 @@ pub fn depreciation_of(row: &AssetRow, months: u32) -> u64
 /// What the close of the next month charges for an asset.
 pub fn charge_of(row: &AssetRow, closed: u32) -> u64
     requires cost { row.now.cost ≤ 10000000000000 }
-    requires few { closed ≤ 1048576 }
+    requires few { closed ≤ most_entries }
     ensures value { result ≡ charge closed (view_asset row.now) }
     ensures small { result ≤ 10000000000000 }
 {
@@ -61,7 +62,7 @@ pub fn total_charge(rows: &[AssetRow], serving: &[u32], closed: u32) -> u128
     requires rows { AreRows closed rows.now }
     requires serving { ServeAll closed rows.now serving.now }
     requires count { length rows.now ≤ 33554432 }
-    requires few { closed ≤ 1048576 }
+    requires few { closed ≤ most_entries }
     ensures { result ≡ sum_by (charge closed) (map view_asset rows.now) }
 {
     let mut total = 0;
@@ -123,7 +124,7 @@ pub fn function_charges(
     requires rows { AreRows closed rows.now }
     requires serving { ServeAll closed rows.now serving.now }
     requires count { length rows.now ≤ 33554432 }
-    requires months { closed ≤ 1048576 }
+    requires months { closed ≤ most_entries }
     requires few { length functions.now ≤ 64 }
     requires rising { is_rising (λ f. f.id) functions.now ≡ true }
     ensures charges { AreCharges closed (map view_asset rows.now) functions.now result }

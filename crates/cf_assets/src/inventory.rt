@@ -3,6 +3,7 @@
 ghost use Rattle.std.specs.Prelude.{◌≡◌, ◌≤◌, ◌<◌, ◌+◌, ◌∷◌, ◌++◌, ℕ, [], None, true, is_some, length, slice_index_or, OnOk, IfSome, option_map, option_to_list, ◌==◌, vec_len};
 ghost use Rattle.std.specs.List.{filter};
 ghost use Rattle.std.specs.Vec.{vec_capacity};
+ghost use Rattle.cf_base.specs.Limits.{last_fiscal_year, most_entries};
 ghost use Rattle.cf_chart.specs.Rising.{is_rising};
 ghost use Rattle.cf_assets.specs.Charges.{AreCharges};
 ghost use Rattle.cf_assets.specs.Inventory.{AreNumbered, StagesOne, worn_at};
@@ -75,7 +76,7 @@ impl Inventory {
     /// How many months are closed.
     pub fn closed(&self) -> u32
         ensures value { result ≡ self.now.closed }
-        ensures most { result ≤ 1048576 }
+        ensures most { result ≤ most_entries }
     {
         self.worn.len() as u32
     }
@@ -168,7 +169,7 @@ impl Inventory {
         requires within { at < length self.old.assets }
         requires held { spec.IsHeldAt at self.old }
         requires from { 1970 ≤ year }
-        requires to { year ≤ 2200 }
+        requires to { year ≤ last_fiscal_year }
         ensures assets { StagesOne at (disposed year self.old.closed) self.old.assets self.new.assets }
         ensures closed { self.new.closed ≡ self.old.closed }
     {
@@ -181,7 +182,7 @@ impl Inventory {
 
     /// Closes a month: each asset in service is charged. It takes no memory.
     pub fn close(&mut self)
-        requires few { self.old.closed < 1048576 }
+        requires few { self.old.closed < most_entries }
         requires room { 1 ≤ self.old.months }
         ensures assets { self.new.assets ≡ self.old.assets }
         ensures closed { self.new.closed ≡ self.old.closed + 1 }

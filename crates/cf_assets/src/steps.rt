@@ -8,6 +8,7 @@ ghost use Rattle.cf_assets.specs.Extents.{AreExtents};
 ghost use Rattle.cf_assets.specs.Rows.{view_asset};
 ghost use Rattle.cf_assets.specs.Inventory.{StagesOne};
 ghost use Rattle.cf_base.specs.Calendar.{is_day};
+ghost use Rattle.cf_base.specs.Limits.{last_fiscal_year, most_entries};
 ghost use Rattle.cf_model.specs.Assets as spec;
 ghost use Rattle.cf_model.specs.Assets.{void, new_asset, bought, life_if};
 ghost use Rattle.cf_model.specs.Calendar.{year_of_day};
@@ -40,7 +41,7 @@ pub struct Title {
 impl Assets {
     /// Counts an act that is none of the register's own.
     pub(crate) fn count_act(&mut self)
-        requires few { self.old.acts < 1048576 }
+        requires few { self.old.acts < most_entries }
         ensures assets { self.new.assets ≡ self.old.assets }
         ensures closed { self.new.closed ≡ self.old.closed }
         ensures vouchers { self.new.vouchers ≡ self.old.vouchers }
@@ -64,7 +65,7 @@ impl Assets {
         requires drawn { IsNextVoucher drawn self.old }
         requires early { self.old.closed ≤ number_of_day chart.now on }
         requires year { chart.now.first_year + (if invoice.now.back then 1 else 0) ≤ year_of_day chart.now on }
-        requires few { self.old.acts < 1048576 }
+        requires few { self.old.acts < most_entries }
         ensures assets { self.new.assets ≡ self.old.assets ++ bought chart.now drawn.number on (if invoice.now.back then year_of_day chart.now on - 1 else year_of_day chart.now on) drawn.second invoice.now.items }
         ensures closed { self.new.closed ≡ self.old.closed }
         ensures vouchers { self.new.vouchers ≡ self.old.vouchers + 1 }
@@ -89,7 +90,7 @@ impl Assets {
     /// Voids the assets of a voucher.
     pub(crate) fn void_voucher(&mut self, voucher: u32)
         requires allowed { first_refusal (rules.voided_asset self.old.closed) (filter (λ a. is_number a.voucher voucher) self.old.assets) ≡ None }
-        requires few { self.old.acts < 1048576 }
+        requires few { self.old.acts < most_entries }
         ensures assets { self.new.assets ≡ map (voids voucher) self.old.assets }
         ensures closed { self.new.closed ≡ self.old.closed }
         ensures vouchers { self.new.vouchers ≡ self.old.vouchers }
@@ -106,7 +107,7 @@ impl Assets {
         requires amount { gift.now.amount ≤ 10000000000000 }
         requires number { number ≡ length self.old.assets + 1 }
         requires early { self.old.closed ≤ number_of_day chart.now on }
-        requires few { self.old.acts < 1048576 }
+        requires few { self.old.acts < most_entries }
         ensures assets { self.new.assets ≡ self.old.assets ++ new_asset chart.now None on (year_of_day chart.now on) number gift.now.dept gift.now.object gift.now.amount ∷ [] }
         ensures closed { self.new.closed ≡ self.old.closed }
         ensures vouchers { self.new.vouchers ≡ self.old.vouchers }
@@ -127,7 +128,7 @@ impl Assets {
     pub(crate) fn dispose(&mut self, chart: &Chart, on: Day, number: u32)
         requires day { is_day on ≡ true }
         requires allowed { first_refusal (rules.disposed_asset on) (filter (λ a. a.number == number) self.old.assets) ≡ None }
-        requires few { self.old.acts < 1048576 }
+        requires few { self.old.acts < most_entries }
         ensures assets { self.new.assets ≡ map (disposes number (year_of_day chart.now on) self.old.closed) self.old.assets }
         ensures closed { self.new.closed ≡ self.old.closed }
         ensures vouchers { self.new.vouchers ≡ self.old.vouchers }
@@ -140,7 +141,7 @@ impl Assets {
     /// Closes the next month.
     pub(crate) fn close_month(&mut self)
         requires room { 1 ≤ self.old.room.months }
-        requires few { self.old.acts < 1048576 }
+        requires few { self.old.acts < most_entries }
         ensures assets { self.new.assets ≡ self.old.assets }
         ensures closed { self.new.closed ≡ self.old.closed + 1 }
         ensures vouchers { self.new.vouchers ≡ self.old.vouchers }
@@ -219,7 +220,7 @@ fn buy_all(inventory: &mut Inventory, chart: &Chart, title: Title, items: &[Vouc
     requires titled { IsTitled chart.now title }
     requires voucher { is_some title.voucher ≡ true }
     requires from { 1970 ≤ title.year }
-    requires to { title.year ≤ 2200 }
+    requires to { title.year ≤ last_fiscal_year }
     requires early { inventory.old.closed ≤ title.service }
     requires amounts { AreMost items.now }
     requires room { length items.now ≤ inventory.old.room }

@@ -1,6 +1,7 @@
 //! The sums of assets by fiscal year and by closed month.
 
 ghost use Rattle.std.specs.Prelude.{◌≡◌, ◌≤◌, ◌+◌, ◌-◌, sum_by};
+ghost use Rattle.cf_base.specs.Limits.{last_fiscal_year};
 ghost use Rattle.cf_assets.specs.Inventory.{AreKept};
 ghost use Rattle.cf_assets.specs.Years.{bought_in, given_in, book_in, sum_to};
 ghost use Rattle.cf_model.specs.Assets.{depreciation};
@@ -30,7 +31,7 @@ impl Inventory {
     /// What a fiscal year has.
     pub fn year_sums(&self, year: u16) -> YearSums
         requires from { 1970 ≤ year }
-        requires to { year ≤ 2200 }
+        requires to { year ≤ last_fiscal_year }
         ensures bought { result.bought ≡ sum_by (bought_in year) self.now.assets }
         ensures given { result.given ≡ sum_by (given_in year) self.now.assets }
         ensures gone { result.gone ≡ sum_by (book_in self.now.closed year) self.now.assets }
@@ -47,7 +48,7 @@ impl Inventory {
 
     /// The cost of what was bought and given in the fiscal years up to a year, in cents.
     pub fn acquired_through(&self, year: u16) -> u128
-        requires { year ≤ 2200 }
+        requires { year ≤ last_fiscal_year }
         ensures value { result ≡ sum_to (λ y. sum_by (bought_in y) self.now.assets) (year - 1969) + sum_to (λ y. sum_by (given_in y) self.now.assets) (year - 1969) }
         ensures most { result ≤ 155021475840000000000000 }
         ensures first { AreKept self.now.assets }
@@ -57,7 +58,7 @@ impl Inventory {
 
     /// The book value of what was disposed of in the fiscal years up to a year, in cents.
     pub fn gone_through(&self, year: u16) -> u128
-        requires { year ≤ 2200 }
+        requires { year ≤ last_fiscal_year }
         ensures value { result ≡ sum_to (λ y. sum_by (book_in self.now.closed y) self.now.assets) (year - 1969) }
         ensures most { result ≤ 77510737920000000000000 }
     {

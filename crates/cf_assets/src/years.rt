@@ -1,6 +1,7 @@
 //! Amounts of the fiscal years from 1970 to 2200, one after another.
 
 ghost use Rattle.std.specs.Prelude.{◌≡◌, ◌≤◌, ◌<◌, ◌+◌, ◌-◌, ◌^◌, sum};
+ghost use Rattle.cf_base.specs.Limits.{last_fiscal_year};
 ghost use Rattle.cf_assets.specs.Years as spec;
 ghost use Rattle.cf_assets.specs.Years.{cell_of, with_cell, sum_through};
 
@@ -17,7 +18,7 @@ pub fn no_years() -> [u128; YEARS]
 /// Adds an amount to a year.
 pub fn raise(cells: &mut [u128; YEARS], year: u16, amount: u64)
     requires from { 1970 ≤ year }
-    requires to { year ≤ 2200 }
+    requires to { year ≤ last_fiscal_year }
     requires fits { cell_of cells.old year + amount < 2 ^ 128 }
     ensures { cells.new ≡ with_cell cells.old year (cell_of cells.old year + amount) }
 {
@@ -27,7 +28,7 @@ pub fn raise(cells: &mut [u128; YEARS], year: u16, amount: u64)
 /// Takes an amount from a year.
 pub fn lower(cells: &mut [u128; YEARS], year: u16, amount: u64)
     requires from { 1970 ≤ year }
-    requires to { year ≤ 2200 }
+    requires to { year ≤ last_fiscal_year }
     requires enough { amount ≤ cell_of cells.old year }
     ensures { cells.new ≡ with_cell cells.old year (cell_of cells.old year - amount) }
 {
@@ -37,7 +38,7 @@ pub fn lower(cells: &mut [u128; YEARS], year: u16, amount: u64)
 /// The amount of a year.
 pub fn amount_in(cells: &[u128; YEARS], year: u16) -> u128
     requires from { 1970 ≤ year }
-    requires to { year ≤ 2200 }
+    requires to { year ≤ last_fiscal_year }
     ensures { result ≡ cell_of cells.now year }
 {
     cells[usize::from(year) - 1970]

@@ -4,15 +4,16 @@ use Rattle.jiff.specs.Words.{days_in_month}
 use Rattle.jiff_core.specs.Calendar.{days_from_civil}
 use Rattle.cf_base.specs.declared.calendar.Day.{Day}
 use Rattle.cf_base.specs.declared.calendar.Month.{Month}
+use Rattle.cf_base.specs.Limits.{last_fiscal_year, last_year}
 
 -- a day that the office knows: a civil date from 1970-01-01 to 2199-12-31
 abbrev pub is_day : Day → Bool
-is_day d = nat_le 1970 d.year && nat_le d.year 2199 && nat_le 1 d.month && nat_le d.month 12 && nat_le 1 d.day && nat_le d.day (days_in_month (pos d.year) d.month)
+is_day d = nat_le 1970 d.year && nat_le d.year last_year && nat_le 1 d.month && nat_le d.month 12 && nat_le 1 d.day && nat_le d.day (days_in_month (pos d.year) d.month)
 
 -- a month of these years, or, as the last answer, of 2200
 pub record IsMonth (m : Month) : Type 0 where
   pub from : 1970 ≤ m.year
-  pub to : m.year ≤ 2200
+  pub to : m.year ≤ last_fiscal_year
   pub first : 1 ≤ m.month
   pub last : m.month ≤ 12
 
@@ -62,7 +63,7 @@ month_written text = record { year = 100 * pair_at text 0 + pair_at text 2; mont
 
 -- a month that a call may state: from 1970-01 to 2199-12
 abbrev pub is_call_month : Month → Bool
-is_call_month m = nat_le 1970 m.year && nat_le m.year 2199 && nat_le 1 m.month && nat_le m.month 12
+is_call_month m = nat_le 1970 m.year && nat_le m.year last_year && nat_le 1 m.month && nat_le m.month 12
 
 abbrev pub month_if : Month → Option Month
 month_if m = if is_call_month m then Some m else None

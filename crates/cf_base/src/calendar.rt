@@ -4,7 +4,9 @@ ghost use Rattle.std.specs.Prelude.{◌≡◌, ◌+◌, ◌-◌, ◌*◌, ◌<�
 ghost use Rattle.jiff.specs.Words.{IsBetween};
 ghost use Rattle.cf_base.specs.Calendar.{IsMonth, is_day, is_digit, day_if, day_of_text, day_written, is_day_form, is_month_form, month_of_text, are_digits, pair_at, month_of_day, year_of_month, day_number, day_of_number};
 ghost use Rattle.cf_base.specs.Calendar as spec;
+ghost use Rattle.cf_base.specs.Limits.{last_fiscal_year, last_year};
 
+use crate::limits::LAST_YEAR;
 use jiff::civil::Date;
 use jiff_core::civil::Date as CivilDate;
 
@@ -96,7 +98,7 @@ pub fn month_at(number: i32) -> Month
 /// calendar year. Otherwise it is the calendar year for the months before `first_month` and the one after
 /// for the others (own rule).
 pub fn fiscal_year(first_month: u8, month: Month) -> u16
-    requires { month.year ≤ 2200 }
+    requires { month.year ≤ last_fiscal_year }
     ensures { result ≡ year_of_month first_month month }
 {
     if first_month == 1 || month.month < first_month {
@@ -113,7 +115,7 @@ fn day_at(year: u16, month: u8, day: u8) -> Option<Day>
     requires day { day < 100 }
     ensures { result ≡ day_if (record { year = year; month = month; day = day }) }
 {
-    if 1970 <= year && year <= 2199 && is_civil(year, month, day) {
+    if 1970 <= year && year <= LAST_YEAR && is_civil(year, month, day) {
         Some(Day { year, month, day })
     } else {
         None
@@ -122,7 +124,7 @@ fn day_at(year: u16, month: u8, day: u8) -> Option<Day>
 
 /// Whether the calendar has the date.
 fn is_civil(year: u16, month: u8, day: u8) -> bool
-    requires year { 1970 ≤ year × year ≤ 2199 }
+    requires year { 1970 ≤ year × year ≤ last_year }
     requires month { month < 100 }
     requires day { day < 100 }
     ensures { result ≡ is_day (record { year = year; month = month; day = day }) }
@@ -198,7 +200,7 @@ pub fn read_month(text: &[u8]) -> Option<Month>
     }
     let year = 100 * digits_at(text, 0) as u16 + digits_at(text, 2) as u16;
     let month = digits_at(text, 5);
-    if 1970 <= year && year <= 2199 && 1 <= month && month <= 12 {
+    if 1970 <= year && year <= LAST_YEAR && 1 <= month && month <= 12 {
         Some(Month { year, month })
     } else {
         None

@@ -3,6 +3,7 @@
 
 mod amounts;
 mod calendar;
+mod limits;
 mod memory;
 mod money;
 mod outside;
@@ -15,6 +16,7 @@ pub use amounts::{money_text, read_money};
 pub use calendar::{
     Day, Month, day_text, fiscal_year, month_at, month_of, month_text, read_day, read_month,
 };
+pub use limits::{LAST_FISCAL_YEAR, LAST_YEAR, MOST_ENTRIES};
 pub use memory::{MemSink, MemSource};
 pub use money::{Cents, MOST_CENTS};
 pub use outside::{Failed, Sink, Source};

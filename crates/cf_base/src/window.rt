@@ -3,6 +3,7 @@
 ghost use Rattle.std.specs.Prelude.{◌≡◌, ◌≤◌, ◌+◌, true};
 ghost use Rattle.cf_base.specs.Calendar.{is_day, month_of_day, next_day, year_of_month};
 ghost use Rattle.cf_base.specs.Windows as spec;
+ghost use Rattle.cf_base.specs.Limits.{last_year};
 
 use crate::calendar::Day;
 use jiff_core::civil::days_in_month;
@@ -12,7 +13,7 @@ pub fn year_end(first_month: u8, year: u16) -> Day
     requires first { 1 ≤ first_month }
     requires last { first_month ≤ 12 }
     requires from { 1971 ≤ year }
-    requires to { year ≤ 2199 }
+    requires to { year ≤ last_year }
     ensures value { result ≡ spec.year_end first_month year }
     ensures day { is_day result ≡ true }
 

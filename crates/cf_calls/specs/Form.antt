@@ -5,6 +5,7 @@ use Rattle.cf_base.specs.declared.calendar.Day.{Day}
 use Rattle.cf_base.specs.declared.calendar.Month.{Month}
 use Rattle.cf_base.specs.Calendar.{is_day}
 use Rattle.cf_base.specs.Money.{is_amount}
+use Rattle.cf_base.specs.Limits.{last_year}
 use Rattle.cf_calls.specs.declared.acts.Act.{Act}
 use Rattle.cf_calls.specs.declared.acts.Act.TheVariants.{Adopt, Amend, Transfer, Requisition, Withdraw, Order, ChangeOrder, CancelOrder, Voucher, VoidVoucher, Pay, Bill, Collect, Receive, WriteOff, Asset, Issue, PayDue, Leave, Interfund, Close}
 use Rattle.cf_calls.specs.declared.acts.Adoption.{Adoption}
@@ -66,12 +67,12 @@ is_charge_form (OnOrder i o h) = is_liquidation_form h
 -- a year that a call may state
 pub record IsYear (y : ℕ) : Type 0 where
   pub from : 1971 ≤ y
-  pub to : y ≤ 2199
+  pub to : y ≤ last_year
 
 -- a month that a call may state
 pub record IsCallMonth (m : Month) : Type 0 where
   pub from : 1970 ≤ m.year
-  pub to : m.year ≤ 2199
+  pub to : m.year ≤ last_year
   pub first : 1 ≤ m.month
   pub last : m.month ≤ 12
 
@@ -105,7 +106,7 @@ pub record IsIssueForm (on : Day) (i : BondIssue) : Type 0 where
   pub every : is_period i.every ≡ true
   pub principals : IsCount 1 120 (length i.principals)
   pub total : sum i.principals ≡ i.amount
-  pub last_due : month_number on.year on.month + i.every * length i.principals ≤ month_number 2199 12
+  pub last_due : month_number on.year on.month + i.every * length i.principals ≤ month_number last_year 12
 
 pub record IsVoucherForm (items : List VoucherItem) : Type 0 where
   pub count : IsCount 1 32 (length items)

@@ -1,6 +1,7 @@
 -- The fields of each act, in the order of its payload, with the rules of form where they speak.
 use Rattle.std.specs.Prelude.{ℕ, zero, suc, ◌+◌, ◌*◌, ◌==◌, ◌&&◌, not, nat_le, sum, length, List, ◌++◌, true, false, Bool, Option, Some, None, is_some, unwrap_or, Result, Ok}
 use Rattle.cf_base.specs.declared.calendar.Day.{Day}
+use Rattle.cf_base.specs.Limits.{last_year}
 use Rattle.cf_calls.specs.declared.acts.Act.{Act}
 use Rattle.cf_calls.specs.declared.acts.Act.TheVariants.{Adopt, Amend, Transfer, Requisition, Withdraw, Order, ChangeOrder, CancelOrder, Voucher, VoidVoucher, Pay, Bill, Collect, Receive, WriteOff, Asset, Issue, PayDue, Leave, Interfund, Close}
 use Rattle.cf_calls.specs.declared.acts.Adoption.{Adoption}
@@ -141,7 +142,7 @@ voucher_numbers = kept (is_distinct same_number) (list 1 64 word)
 -- they sum to the amount of the issue, and the last is due by the end of 2199
 abbrev pub is_repayment : Day → ℕ → ℕ → List ℕ → Bool
 is_repayment on amount every principals =
-    (sum principals == amount) && nat_le (month_number on.year on.month + every * length principals) (month_number 2199 12)
+    (sum principals == amount) && nat_le (month_number on.year on.month + every * length principals) (month_number last_year 12)
 
 abbrev pub principals : Day → ℕ → ℕ → Format (List ℕ)
 principals on amount every = kept (is_repayment on amount every) (list 1 120 most_amount)

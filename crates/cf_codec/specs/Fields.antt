@@ -5,6 +5,7 @@ use Rattle.cf_base.specs.declared.calendar.Day.{Day}
 use Rattle.cf_base.specs.declared.calendar.Month.{Month}
 use Rattle.cf_base.specs.Calendar.{day_number, day_of_number}
 use Rattle.cf_base.specs.Money.{is_amount}
+use Rattle.cf_base.specs.Limits.{last_year}
 use Rattle.cf_calls.specs.Form.{is_key, is_most}
 use Rattle.cf_codec.specs.Formats.{Format, number, kept, converted, is_between, field, ◌>>=◌, done}
 
@@ -39,7 +40,7 @@ flag = converted flag_value flag_code byte
 
 -- a fiscal year that a call may state
 abbrev pub year : Format ℕ
-year = kept (is_between 1971 2199) half
+year = kept (is_between 1971 last_year) half
 
 -- an amount of 1 to 10^13 cents
 abbrev pub amount : Format ℕ
@@ -68,7 +69,7 @@ signed = do
 -- a month that a call may state
 abbrev pub month : Format Month
 month = do
-  year ← field (λ m. m.year) (kept (is_between 1970 2199) half)
+  year ← field (λ m. m.year) (kept (is_between 1970 last_year) half)
   month ← field (λ m. m.month) (kept (is_between 1 12) byte)
   done (record { year = year; month = month })
 

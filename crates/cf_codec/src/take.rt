@@ -11,7 +11,7 @@ ghost use Rattle.cf_codec.specs.Kinds as kinds;
 
 use crate::fault::Refused;
 use crate::kind::{kind_value, move_value};
-use cf_base::{Cents, Day, MOST_CENTS, Month};
+use cf_base::{Cents, Day, LAST_YEAR, MOST_CENTS, Month};
 use cf_calls::acts::FundMoveKind;
 use cf_calls::{ActKind, Key};
 use std::alloc::Global;
@@ -127,7 +127,7 @@ pub fn take_between(least: u16, most: u16, bytes: &[u8]) -> Result<(u16, &[u8]),
 pub fn take_year(bytes: &[u8]) -> Result<(u16, &[u8]), Refused>
     ensures { Gives (λ x. (x.0, x.1.now)) result (spec.year.read bytes.now) }
 {
-    take_between(1971, 2199, bytes)
+    take_between(1971, LAST_YEAR, bytes)
 }
 
 /// An amount from 1 to 10,000,000,000,000 cents.
@@ -168,7 +168,7 @@ pub fn take_signed(bytes: &[u8]) -> Result<(i64, &[u8]), Refused>
 pub fn take_month(bytes: &[u8]) -> Result<(Month, &[u8]), Refused>
     ensures { Gives (λ x. (x.0, x.1.now)) result (spec.month.read bytes.now) }
 {
-    let (year, rest) = take_between(1970, 2199, bytes)?;
+    let (year, rest) = take_between(1970, LAST_YEAR, bytes)?;
     let (month, after) = take_byte(rest)?;
     let (month, after) = or_faulty((1 <= month && month <= 12).then_some(month), after, rest)?;
     Ok((Month { year, month }, after))

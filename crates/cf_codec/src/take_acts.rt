@@ -2,6 +2,7 @@
 //! the act and the bytes after it.
 
 ghost use Rattle.std.specs.Prelude.{◌≡◌, ◌≤◌, ◌+◌, ◌*◌, ◌<◌, nat_le, sum, length};
+ghost use Rattle.cf_base.specs.Limits.{last_year};
 ghost use Rattle.cf_calls.specs.Form.{is_period, month_number};
 ghost use Rattle.cf_codec.specs.Acts as spec;
 ghost use Rattle.cf_codec.specs.Answers.{Gives};
@@ -17,7 +18,7 @@ use crate::take::{
     faulty, or_faulty, take_amount, take_between, take_byte, take_flag, take_half, take_month,
     take_most_amount, take_move_kind, take_one_of, take_signed, take_word, take_year,
 };
-use cf_base::Day;
+use cf_base::{Day, LAST_YEAR};
 use cf_calls::acts::{
     Adoption, Amendment, AssetAct, BillAmount, BondIssue, DebtPayment, Disposal, Donation,
     FundMove, LeaveAct, LeaveAmount, LeaveMaturity, LineTransfer, NewBill, NewOrder,
@@ -238,10 +239,10 @@ fn total(principals: &[u64]) -> u128
 
 /// Whether the last of so many payments, `every` months apart, is due by the end of 2199.
 fn is_due_in_time(on: Day, every: u16, payments: usize) -> bool
-    ensures { result ≡ nat_le (month_number on.year on.month + every * payments) (month_number 2199 12) }
+    ensures { result ≡ nat_le (month_number on.year on.month + every * payments) (month_number last_year 12) }
 {
     let issued = 12 * u128::from(on.year) + u128::from(on.month);
-    issued + u128::from(every) * payments as u128 <= 12 * 2199 + 12
+    issued + u128::from(every) * payments as u128 <= 12 * u128::from(LAST_YEAR) + 12
 }
 
 /// Whether the principals repay the amount in time.

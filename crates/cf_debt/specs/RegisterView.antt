@@ -2,6 +2,7 @@
 use Rattle.std.specs.Prelude.{◌≡◌, ℕ, ◌-◌, ◌*◌, ◌/◌, ◌<◌, ◌≤◌, min, if◌then◌else◌, Bool, nat_lt, nat_le, List, length, map, get_or, sum, sum_by, pos, ◌-ℤ◌}
 use Rattle.std.specs.List.{filter}
 use Rattle.std.specs.Vec.{vec_capacity}
+use Rattle.cf_base.specs.Limits.{most_entries}
 use Rattle.cf_debt.specs.declared.debt.Debt.TheInside.{Inside}
 use Rattle.cf_debt.specs.declared.rows.BondRow.{BondRow}
 use Rattle.cf_debt.specs.Accounts.{Accounts, accounts_of, left_in}
@@ -67,7 +68,7 @@ AreLeft leave table = (fund dept : ℕ) → pos (left_in table fund dept) ≡ le
 
 -- each act adds at most 10^13 cents to what is issued, paid, earned or taken, and a close at most 2 * 10^13 a bond to the interest
 pub record IsSmall (a : Inside) : Type 0 where
-  pub acts : a.acts ≤ 1048576
+  pub acts : a.acts ≤ most_entries
   pub bonds : length a.bonds.items ≤ a.acts
   pub closed : a.closed ≤ 2760
   pub issued : sum a.issued ≤ 10000000000000 * a.acts

@@ -2,6 +2,7 @@
 
 ghost use Rattle.std.specs.Prelude.{◌≡◌, ◌<◌, ◌+◌, ◌++◌, None, true, length, OnOk};
 ghost use Rattle.cf_base.specs.Calendar.{is_day};
+ghost use Rattle.cf_base.specs.Limits.{most_entries};
 ghost use Rattle.cf_calls.specs.Form.{IsActInForm, IsPeriodForm};
 ghost use Rattle.cf_calls.specs.declared.acts.Act.TheVariants as act;
 ghost use Rattle.cf_debt.specs.Register.{HasRoomFor, HasRoomForLeave, HasRoomToChange, HasRoomToIssue, IsEarlyIssue, IsThere, debt_draws, debts_of, entry_for, registers_with};
@@ -67,7 +68,7 @@ impl Debt {
         requires there { IsThere self.old.debts.bonds act.now }
         requires early { IsEarlyIssue chart.now self.old.debts on act.now }
         requires allowed { debt_refusal chart.now (registers_with self.old.debts) on act.now ≡ None }
-        requires few { self.old.acts < 1048576 }
+        requires few { self.old.acts < most_entries }
         ensures drawn { result ≡ debt_draws self.old.debts.bonds act.now }
         ensures debts { self.new.debts ≡ debts_of (registers_step chart.now (registers_with self.old.debts) (entry_for desk on act.now result)) }
         ensures acts { self.new.acts ≡ self.old.acts + 1 }
@@ -87,7 +88,7 @@ impl Debt {
         requires form { IsPeriodForm period.now }
         requires next { order_refusal chart.now (registers_with self.old.debts) (act.Close period.now) ≡ None }
         requires paid { unpaid_refusal chart.now (registers_with self.old.debts) (act.Close period.now) ≡ None }
-        requires few { self.old.acts < 1048576 }
+        requires few { self.old.acts < most_entries }
         ensures debts { self.new.debts ≡ record self.old.debts { closed = closed_after (act.Close period.now) self.old.debts.closed } }
         ensures acts { self.new.acts ≡ self.old.acts + 1 }
     {
@@ -102,7 +103,7 @@ impl Debt {
         requires day { is_day on ≡ true }
         requires amounts { amount_refusal (act.Leave leave.now) ≡ None }
         requires allowed { leave_refusal (registers_with self.old.debts) (act.Leave leave.now) ≡ None }
-        requires few { self.old.acts < 1048576 }
+        requires few { self.old.acts < most_entries }
         ensures debts { self.new.debts ≡ record self.old.debts {
           leave = self.old.debts.leave ++ leave_by chart.now on (act.Leave leave.now);
         } }

@@ -1,6 +1,7 @@
 //! The register of bonds and of leave.
 
 ghost use Rattle.std.specs.Prelude.{◌≡◌, ◌<◌, ◌≤◌, List, length, sum_by, is_some, MatchOption, None};
+ghost use Rattle.cf_base.specs.Limits.{most_entries};
 ghost use Rattle.cf_debt.specs.Register.{debt_draws, debts_of, due_now};
 ghost use Rattle.cf_debt.specs.Register.{due_of as spec_due_of};
 ghost use Rattle.cf_debt.specs.RegisterView.{HasBonds};
@@ -112,7 +113,7 @@ impl Debt {
     /// How many acts were applied.
     pub fn acts(&self) -> u32
         ensures value { result ≡ self.now.acts }
-        ensures most { result ≤ 1048576 }
+        ensures most { result ≤ most_entries }
     {
         self.acts
     }
@@ -236,7 +237,7 @@ pub(crate) fn interest_of(
     closed: u16,
 ) -> u128
     requires bonds { HasBonds closed (view_payments payments.now) bonds.now live.now }
-    requires few { length bonds.now ≤ 1048576 }
+    requires few { length bonds.now ≤ most_entries }
     requires months { closed < 65535 }
     ensures value { result ≡ sum_by (interest_charge closed) (view_bonds (view_payments payments.now) bonds.now) }
     ensures most { result ≤ 20971520000000000000 }

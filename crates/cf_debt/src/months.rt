@@ -3,6 +3,7 @@
 ghost use Rattle.std.specs.Prelude.{◌≡◌, ◌≤◌, ◌+◌, ◌-◌, ℕ, true};
 ghost use Rattle.cf_calls.specs.Form.{IsCallMonth, month_number};
 ghost use Rattle.cf_base.specs.Calendar.{is_day};
+ghost use Rattle.cf_base.specs.Limits.{last_fiscal_year, last_year};
 ghost use Rattle.cf_model.specs.Calendar.{year_of_day};
 ghost use Rattle.cf_model.specs.Months as spec;
 ghost use Rattle.cf_model.specs.RegisterRules.{month_at as spec_month_at};
@@ -30,7 +31,7 @@ pub fn number_of(chart: &Chart, on: Day) -> u16
     requires { is_day on ≡ true }
     ensures value { result ≡ spec.number_of_day chart.now on }
     ensures most { result ≤ 2759 }
-    ensures later { (count : ℕ) → month_number on.year on.month + count ≤ month_number 2199 12 → result + count ≤ 2759 }
+    ensures later { (count : ℕ) → month_number on.year on.month + count ≤ month_number last_year 12 → result + count ≤ 2759 }
 {
     (12 * on.year + u16::from(on.month)).saturating_sub(start_month(chart))
 }
@@ -67,7 +68,7 @@ pub fn year_at(chart: &Chart, number: u16) -> u16
 
 /// How many fiscal years of the chart there are up to a year.
 pub fn years_to(chart: &Chart, year: u16) -> u16
-    requires { year ≤ 2200 }
+    requires { year ≤ last_fiscal_year }
     ensures { result ≡ year + 1 - chart.now.first_year }
 {
     (year + 1).saturating_sub(chart.first_year())
@@ -78,7 +79,7 @@ pub fn year_of(chart: &Chart, on: Day) -> u16
     requires { is_day on ≡ true }
     ensures value { result ≡ year_of_day chart.now on }
     ensures from { 1970 ≤ result }
-    ensures to { result ≤ 2200 }
+    ensures to { result ≤ last_fiscal_year }
 {
     fiscal_year(chart.first_month(), month_of(on))
 }

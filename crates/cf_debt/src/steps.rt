@@ -3,6 +3,7 @@
 ghost use Rattle.std.specs.Prelude.{◌≡◌, ◌≤◌, ◌<◌, ◌+◌, ◌∷◌, ◌++◌, ℕ, [], length, None, true, false, map, slice_index_or, slice_set};
 ghost use Rattle.std.specs.Vec.{vec_capacity};
 ghost use Rattle.cf_base.specs.Calendar.{is_day};
+ghost use Rattle.cf_base.specs.Limits.{last_fiscal_year, most_entries};
 ghost use Rattle.cf_calls.specs.Form.{IsCallMonth, IsIssueForm};
 ghost use Rattle.cf_calls.specs.declared.acts.Act.TheVariants as act;
 ghost use Rattle.cf_debt.specs.Register.{HasRoomToIssue, HasRoomForLeave, unpaid_of};
@@ -30,7 +31,7 @@ use cf_chart::Chart;
 impl Debt {
     /// Counts an act that is none of the register's own.
     pub(crate) fn count_act(&mut self)
-        requires few { self.old.acts < 1048576 }
+        requires few { self.old.acts < most_entries }
         ensures debts { self.new.debts ≡ self.old.debts }
         ensures acts { self.new.acts ≡ self.old.acts + 1 }
     {
@@ -45,7 +46,7 @@ impl Debt {
         requires amount { issue.now.amount ≤ 10000000000000 }
         requires early { self.old.debts.closed ≤ number_of_day chart.now on }
         requires room { HasRoomToIssue (length issue.now.principals) self.old }
-        requires few { self.old.acts < 1048576 }
+        requires few { self.old.acts < most_entries }
         ensures debts { self.new.debts ≡ record self.old.debts {
           bonds = self.old.debts.bonds ++ bonds_by chart.now on (act.Issue issue.now) (record { number = number; second = 0 });
         } }
@@ -69,7 +70,7 @@ impl Debt {
     /// Pays the next payment of a bond.
     pub(crate) fn pay(&mut self, debt_payment: &DebtPayment)
         requires left { CanPay debt_payment.now.bond self.old.debts }
-        requires few { self.old.acts < 1048576 }
+        requires few { self.old.acts < most_entries }
         ensures debts { self.new.debts ≡ record self.old.debts {
           bonds = map (bond_step (act.PayDue debt_payment.now)) self.old.debts.bonds;
         } }
@@ -92,7 +93,7 @@ impl Debt {
         requires form { IsCallMonth month }
         requires next { month ≡ month_at chart.now self.old.debts.closed }
         requires paid { first_refusal (unpaid_of chart.now self.old.debts.closed) self.old.debts.bonds ≡ None }
-        requires few { self.old.acts < 1048576 }
+        requires few { self.old.acts < most_entries }
         ensures debts { self.new.debts ≡ record self.old.debts { closed = self.old.debts.closed + 1 } }
         ensures acts { self.new.acts ≡ self.old.acts + 1 }
     {
@@ -108,10 +109,10 @@ impl Debt {
     pub(crate) fn earn(&mut self, row: LeaveRow)
         requires earned { row.is_earned ≡ true }
         requires from { 1970 ≤ row.year }
-        requires to { row.year ≤ 2200 }
+        requires to { row.year ≤ last_fiscal_year }
         requires amount { row.amount ≤ 10000000000000 }
         requires room { HasRoomForLeave row.fund row.dept self.old }
-        requires few { self.old.acts < 1048576 }
+        requires few { self.old.acts < most_entries }
         ensures debts { self.new.debts ≡ record self.old.debts { leave = self.old.debts.leave ++ view_leave row ∷ [] } }
         ensures acts { self.new.acts ≡ self.old.acts + 1 }
     {
@@ -130,11 +131,11 @@ impl Debt {
     pub(crate) fn take(&mut self, row: LeaveRow)
         requires taken { row.is_earned ≡ false }
         requires from { 1970 ≤ row.year }
-        requires to { row.year ≤ 2200 }
+        requires to { row.year ≤ last_fiscal_year }
         requires left { row.amount ≤ leave_of row.fund row.dept self.old.debts.leave }
         requires amount { row.amount ≤ 10000000000000 }
         requires room { HasRoomForLeave row.fund row.dept self.old }
-        requires few { self.old.acts < 1048576 }
+        requires few { self.old.acts < most_entries }
         ensures debts { self.new.debts ≡ record self.old.debts { leave = self.old.debts.leave ++ view_leave row ∷ [] } }
         ensures acts { self.new.acts ≡ self.old.acts + 1 }
     {

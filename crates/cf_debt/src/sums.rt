@@ -1,6 +1,7 @@
 //! Sums by fiscal year, for the reconciliation (GASB Statement 34).
 
 ghost use Rattle.std.specs.Prelude.{◌≡◌, ◌≤◌, ◌<◌, ◌^◌, ◌-ℤ◌, pos, unsigned_abs};
+ghost use Rattle.cf_base.specs.Limits.{last_fiscal_year};
 ghost use Rattle.cf_debt.specs.Register.{registers_with, debt_changes};
 ghost use Rattle.cf_model.specs.Items as items;
 
@@ -22,7 +23,7 @@ impl Debt {
     /// Bonds payable through a fiscal year up to 2200, in cents: what was issued, less the principal paid of payments
     /// that were due.
     pub fn principal_left(&self, chart: &Chart, year: u16) -> i128
-        requires { year ≤ 2200 }
+        requires { year ≤ last_fiscal_year }
         ensures value { result ≡ items.bonds chart.now year (registers_with self.now.debts) }
         ensures small { unsigned_abs result < 2 ^ 100 }
     {
@@ -34,7 +35,7 @@ impl Debt {
     /// Accrued interest through a fiscal year up to 2200, in cents: what was charged for its closed months, less the
     /// coupons paid of payments that were due. It may be below zero.
     pub fn accrued(&self, chart: &Chart, year: u16) -> i128
-        requires { year ≤ 2200 }
+        requires { year ≤ last_fiscal_year }
         ensures value { result ≡ items.accrued chart.now year (registers_with self.now.debts) }
         ensures small { unsigned_abs result < 2 ^ 100 }
     {
@@ -56,7 +57,7 @@ impl Debt {
     /// What bonds add to the change of a fiscal year from 1971 to 2200.
     pub fn year_changes(&self, chart: &Chart, year: u16) -> DebtChanges
         requires from { 1971 ≤ year }
-        requires to { year ≤ 2200 }
+        requires to { year ≤ last_fiscal_year }
         ensures { result ≡ debt_changes chart.now year (registers_with self.now.debts) }
     {
         let issued = total_of(&self.issued, year - 1969);

@@ -3,6 +3,7 @@
 
 ghost use Rattle.std.specs.Prelude.{◌≡◌, ◌+◌, ◌<◌, ◌≤◌, ◌++◌, ◌∷◌, ℕ, List, [], length};
 ghost use Rattle.std.specs.List.{count_by};
+ghost use Rattle.cf_base.specs.Limits.{most_entries};
 ghost use Rattle.cf_model.specs.Step.{IsLegal};
 ghost use Rattle.cf_model.specs.Stripes.{entry_touches};
 ghost use Rattle.cf_names.specs.Closing.{HasFirst};
@@ -141,7 +142,7 @@ fn record_one<N: City>(
     pass: &mut HallPass<N>,
 )
     requires own { (turns.now ≡ N.table) × (recorder.old.table ≡ N.table) }
-    requires few { length recorder.old.list < 1048576 }
+    requires few { length recorder.old.list < most_entries }
     ensures list { recorder.new.list ≡ recorder.old.list ++ (entry.now, pass.old.number) ∷ [] }
     ensures recorder { SameRecorder recorder.old recorder.new }
     ensures totals { totals.new ≡ record totals.old { accepted = totals.old.accepted + 1 } }
@@ -162,7 +163,7 @@ pub(crate) fn record_all<N: City>(
 )
     requires own { (turns.now ≡ N.table) × (recorder.old.table ≡ N.table) }
     requires empty { recorder.old.list ≡ [] }
-    requires few { length entries.now ≤ 1048576 }
+    requires few { length entries.now ≤ most_entries }
     requires fresh { (pass.old.seen ≡ []) × (pass.old.places ≡ []) }
     ensures list { entries_of recorder.new.list ≡ entries.now }
     ensures recorder { SameRecorder recorder.old recorder.new }
@@ -178,7 +179,7 @@ pub(crate) fn record_all<N: City>(
 
 /// How many entries touch a stripe.
 fn count_touched(chart: &Chart, stripe: usize, entries: &[Entry]) -> u64
-    requires { length entries.now ≤ 1048576 }
+    requires { length entries.now ≤ most_entries }
     ensures { result ≡ count_by (entry_touches chart.now stripe) entries.now }
 {
     let mut count = 0;
@@ -201,7 +202,7 @@ pub(crate) fn begin<N: City>(
 ) -> Recording<N>
     requires own { (turns.now ≡ N.table) × (recorder.table ≡ N.table) }
     requires chart { chart.now ≡ N.plan }
-    requires few { length entries.now ≤ 1048576 }
+    requires few { length entries.now ≤ most_entries }
     requires list { entries_of recorder.list ≡ entries.now }
     requires legal { IsLegal N.plan entries.now }
     requires counts { (k : ℕ) → k < 8 → total_at counts k ≡ 0 }

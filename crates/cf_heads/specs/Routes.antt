@@ -7,6 +7,7 @@ use Rattle.std.specs.Str.{bytes_eq}
 use Rattle.std.specs.Str.Parse.{digits_value}
 use Rattle.cf_base.specs.declared.statement.Kind.{Kind}
 use Rattle.cf_base.specs.declared.statement.Kind.TheVariants as kind
+use Rattle.cf_base.specs.Limits.{last_year}
 use Rattle.cf_heads.specs.Fields.{is_number, parts}
 use Rattle.cf_heads.specs.declared.route.Route.{Route}
 use Rattle.cf_heads.specs.declared.route.Route.TheVariants.{Calls, Line, Report}
@@ -43,11 +44,11 @@ kind_of word =
 
 abbrev pub line_route : List ℕ → List ℕ → Option Route
 line_route line year =
-    option_and_then (λ l. option_map (λ y. Line l y) (number_from 1971 2199 year)) (number_from 0 65535 line)
+    option_and_then (λ l. option_map (λ y. Line l y) (number_from 1971 last_year year)) (number_from 0 65535 line)
 
 abbrev pub report_route : List ℕ → List ℕ → Option Route
 report_route year kind =
-    option_and_then (λ y. option_map (λ k. Report y k) (kind_of kind)) (number_from 1971 2199 year)
+    option_and_then (λ y. option_map (λ k. Report y k) (kind_of kind)) (number_from 1971 last_year year)
 
 -- /calls, /lines/{line}/{year} and /reports/{year}/{kind}, by the words of the path
 abbrev pub route_by : List (List ℕ) → Option Route
@@ -92,7 +93,7 @@ HasTwoWords b c (Some x) = (x.0.now ≡ b) × (x.1.now ≡ c)
 -- a fiscal year that can be looked at
 pub record IsLookYear (year : ℕ) : Type 0 where
   pub least : 1971 ≤ year
-  pub most : year ≤ 2199
+  pub most : year ≤ last_year
 
 -- what a route names is in range
 abbrev pub IsRouteInForm : Route → Type 0

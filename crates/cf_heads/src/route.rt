@@ -4,7 +4,7 @@ ghost use Rattle.std.specs.Prelude.{◌≡◌};
 ghost use Rattle.cf_heads.specs.Routes.{number_from, kind_of, line_route, report_route, method_of, method_name};
 
 use crate::fields::{is_number_text, number_within};
-use cf_base::Kind;
+use cf_base::{Kind, LAST_YEAR};
 
 /// Where a request goes.
 #[derive(Clone, Copy)]
@@ -89,7 +89,7 @@ pub fn line_in(line: &str, year: &str) -> Option<Route>
     ensures { result ≡ line_route line.now year.now }
 {
     let line = number_in(line, 0, 65535)?;
-    let year = number_in(year, 1971, 2199)?;
+    let year = number_in(year, 1971, LAST_YEAR)?;
     Some(Route::Line { line, year })
 }
 
@@ -97,7 +97,7 @@ pub fn line_in(line: &str, year: &str) -> Option<Route>
 pub fn report_in(year: &str, kind: &str) -> Option<Route>
     ensures { result ≡ report_route year.now kind.now }
 {
-    let year = number_in(year, 1971, 2199)?;
+    let year = number_in(year, 1971, LAST_YEAR)?;
     let kind = kind_in(kind)?;
     Some(Route::Report { year, kind })
 }

@@ -3,6 +3,7 @@ use Rattle.std.specs.Prelude.{ℕ, ◌+◌, ◌*◌, ◌==◌, not, nat_le, sum,
 use Rattle.serde_json.specs.Data.{Data}
 use Rattle.serde_json.specs.Find.{as_bool}
 use Rattle.cf_base.specs.declared.calendar.Day.{Day}
+use Rattle.cf_base.specs.Limits.{last_year}
 use Rattle.cf_calls.specs.declared.acts.Act.{Act}
 use Rattle.cf_calls.specs.declared.acts.Act.TheVariants.{Adopt, Amend, Transfer, Requisition, Withdraw, Order, ChangeOrder, CancelOrder, Voucher, VoidVoucher, Pay, Bill, Collect, Receive, WriteOff, Asset, Issue, PayDue, Leave, Interfund, Close}
 use Rattle.cf_calls.specs.declared.acts.Adoption.{Adoption}
@@ -159,7 +160,7 @@ issue_of on d = do
   _ ← must (is_period every) (codes "every")
   principals ← field as_principals (codes "principals") d
   _ ← must (sum principals == amount) (codes "principals")
-  _ ← must (nat_le (month_number on.year on.month + every * length principals) (month_number 2199 12)) (codes "principals")
+  _ ← must (nat_le (month_number on.year on.month + every * length principals) (month_number last_year 12)) (codes "principals")
   Ok (record { fund = fund; amount = amount; rate_bp = rate_bp; every = every; principals = principals })
 
 abbrev pub debt_payment_of : Data → Result DebtPayment FormFault

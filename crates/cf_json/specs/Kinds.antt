@@ -7,6 +7,7 @@ use Rattle.cf_base.specs.Calendar.{day_of_text, month_of_text}
 use Rattle.cf_base.specs.Money.{is_amount}
 use Rattle.cf_base.specs.declared.calendar.Day.{Day}
 use Rattle.cf_base.specs.declared.calendar.Month.{Month}
+use Rattle.cf_base.specs.Limits.{last_year}
 use Rattle.cf_calls.specs.Form.{is_by, is_key}
 
 -- the value, where it passes
@@ -25,7 +26,7 @@ as_n32 d = option_and_then (kept (λ n. nat_lt n 4294967296)) (as_count d)
 
 -- a year that a call may state
 abbrev pub as_year : Data → Option ℕ
-as_year d = option_and_then (kept (λ n. nat_le 1971 n && nat_le n 2199)) (as_count d)
+as_year d = option_and_then (kept (λ n. nat_le 1971 n && nat_le n last_year)) (as_count d)
 
 -- an amount of 1 to 10^13 cents
 abbrev pub as_amount : Data → Option ℕ

@@ -1,6 +1,7 @@
 //! The readers of the changing calls: the fields of each in order, with the rules of form where they speak.
 
 ghost use Rattle.std.specs.Prelude.{◌≡◌, ◌≢◌, ◌≤◌, ◌+◌, ◌*◌, true, nat_le, sum, length, map, IfOk};
+ghost use Rattle.cf_base.specs.Limits.{last_year};
 ghost use Rattle.serde_json.specs.View.{view};
 ghost use Rattle.cf_calls.specs.Form.{IsAdoptionForm, IsCount, IsYear, IsIssueForm, IsVoucherForm, IsPeriodForm, IsActInForm, is_by, is_distinct, is_period, month_number, same_number};
 ghost use Rattle.cf_json.specs.Faults.{Gives};
@@ -12,7 +13,7 @@ use crate::items::{ChargedItem, LineItem, PlainItem, Principal, SourceItem, Vouc
 use crate::kinds::{By, Count, Flag, MonthText, N16, N32, Year};
 use crate::lists::list;
 use crate::words::{AssetWord, LeaveWord, MoveWord, PeriodWord};
-use cf_base::Day;
+use cf_base::{Day, LAST_YEAR};
 use cf_calls::acts::{
     Adoption, Amendment, AssetAct, BillAmount, BondIssue, DebtPayment, Disposal, Donation,
     FundMove, LeaveAct, LeaveAmount, LeaveMaturity, LineTransfer, NewBill, NewOrder,
@@ -221,10 +222,10 @@ fn total(principals: &[u64]) -> u128
 /// Whether the last of so many payments, `every` months apart, is due by the end of 2199.
 fn is_due_in_time(on: Day, every: u16, payments: usize) -> bool
     requires { payments ≤ 120 }
-    ensures { result ≡ nat_le (month_number on.year on.month + every * payments) (month_number 2199 12) }
+    ensures { result ≡ nat_le (month_number on.year on.month + every * payments) (month_number last_year 12) }
 {
     let first = 12 * u32::from(on.year) + u32::from(on.month);
-    first + u32::from(every) * (payments as u32) <= 12 * 2199 + 12
+    first + u32::from(every) * (payments as u32) <= 12 * u32::from(LAST_YEAR) + 12
 }
 
 fn issue(alloc: Global, on: Day, value: &Value) -> Result<BondIssue, CallRefused>

@@ -9,7 +9,7 @@ ghost use Rattle.cf_base.specs.Money.{is_amount};
 ghost use Rattle.cf_calls.specs.Form.{IsYear, IsCallMonth, is_by};
 ghost use Rattle.cf_json.specs.Kinds.{as_n16, as_n32, as_count, as_year, as_amount, as_by, as_day, as_month};
 
-use cf_base::{Cents, Day, Month, read_day, read_month};
+use cf_base::{Cents, Day, LAST_YEAR, Month, read_day, read_month};
 use serde_json::Value;
 
 /// A kind of field.
@@ -90,7 +90,7 @@ impl FieldKind for Year {
 
     fn read(value: &Value) -> Option<u16> {
         match value.as_u64() {
-            Some(n) if 1971 <= n && n <= 2199 => Some(n as u16),
+            Some(n) if 1971 <= n && n <= u64::from(LAST_YEAR) => Some(n as u16),
             _ => None,
         }
     }

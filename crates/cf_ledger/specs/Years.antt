@@ -1,6 +1,7 @@
 -- Rows of a cell for each fiscal year from 1970 to 2200.
 use Rattle.std.specs.Prelude.{◌≡◌, ℕ, ◌+◌, ◌-◌, ◌≤◌, ◌==◌, ◌&&◌, Bool, List, length, take, set, get_or, replicate, ℤ, pos, ◌+ℤ◌, fold, FitsSigned}
 use Rattle.std.specs.Int.{w128}
+use Rattle.cf_base.specs.Limits.{last_fiscal_year}
 use Rattle.cf_ledger.specs.declared.post.Post.{Post}
 use Rattle.cf_ledger.specs.Posts.{sum_where}
 
@@ -22,7 +23,7 @@ cell_of cells year = get_or cells (year - 1970) (pos 0)
 pub record CanRaise (cells : List ℤ) (year : ℕ) (amount : ℤ) : Type 0 where
   pub count : length cells ≡ 231
   pub first : 1970 ≤ year
-  pub last : year ≤ 2200
+  pub last : year ≤ last_fiscal_year
   pub fits : FitsSigned w128 (cell_of cells year +ℤ amount)
 
 -- the cells with an amount added to that of a year

@@ -19,7 +19,7 @@ use Rattle.cf_model.specs.Moves.{Move, asked_of, asks_of_moves, lapses_of, relea
 use Rattle.cf_model.specs.OrderItems.{OrderItem, Carried, carried_of, is_live, lapses, open_of}
 use Rattle.cf_model.specs.Registers.{Registers, registers_of}
 use Rattle.cf_model.specs.Rules.{exceed_refusal}
-use Rattle.cf_model.specs.LineNumbers.{last_year}
+use Rattle.cf_model.specs.LineNumbers.{years_end}
 use Rattle.cf_model.specs.Step.{IsLegal}
 use Rattle.cf_model.proofs.Asked.{least_excess, none_excess}
 use Rattle.cf_model.proofs.Changed.{asked_is}
@@ -95,7 +95,7 @@ close_asks plan s e p line year is =
 
 -- and no line has too little room for it
 pub exceed_close : (plan : Plan) (h : List Entry) (e : Entry) (p : Period) → IsLegal plan h → IsActInForm e.change.on e.change.act → e.change.act ≡ Close p → exceed_refusal plan h e ≡ None
-unfolding exceed_refusal last_year
+unfolding exceed_refusal years_end
 exceed_close plan h e p legal form is =
     ap (least_excess plan h) (λ i line year. asked_is plan h e line year legal form i)
     ∙ none_excess plan h (asked_of plan (registers_of plan h) e) (λ line year. close_asks plan (registers_of plan h) e p line year is)

@@ -1,6 +1,7 @@
 //! What the roll of a fiscal year changes of line numbers.
 
 ghost use Rattle.std.specs.Prelude.{◌≡◌, ◌<◌, ◌≤ℤ◌, ◌++◌, ◌-ℤ◌, ℕ, true, pos, length, IfOk, OnOk};
+ghost use Rattle.cf_base.specs.Limits.{last_fiscal_year};
 ghost use Rattle.cf_budget.specs.Tables.{zero_row};
 ghost use Rattle.cf_chart.specs.Plan.{fund_at, line_at};
 ghost use Rattle.cf_model.specs.Moves as model;
@@ -65,7 +66,7 @@ fn push_line<H: History>(
     line: u16,
 ) -> Result<(), AllocError>
     requires line { line < length (H.plan history.now).lines }
-    requires year { year < 2200 }
+    requires year { year < last_fiscal_year }
     requires lent { H.lends history.now line ≡ true }
     ensures { OnOk result (changes.new.items ≡ changes.old.items ++ spec.line_changes (H.plan history.now) (H.entries history.now) year line) }
 {
@@ -95,7 +96,7 @@ pub fn roll_changes<H: History>(
     history: &H,
     year: u16,
 ) -> Result<Vec<LineChange>, AllocError>
-    requires year { year < 2200 }
+    requires year { year < last_fiscal_year }
     requires lent { (line : ℕ) → H.lends history.now line ≡ true }
     ensures { IfOk result (λ v. v.items ≡ spec.changes_to (H.plan history.now) (H.entries history.now) year (length (H.plan history.now).lines)) }
 {

@@ -3,6 +3,7 @@ use Rattle.std.specs.Prelude.{◌≡◌, ◌≤◌, ◌<◌, ℕ, true, List, []
 use Rattle.cf_assets.specs.Register as assets
 use Rattle.cf_base.specs.declared.calendar.Day.{Day}
 use Rattle.cf_base.specs.Calendar.{is_day}
+use Rattle.cf_base.specs.Limits.{most_entries}
 use Rattle.cf_calls.specs.declared.acts.Act.{Act}
 use Rattle.cf_calls.specs.declared.entry.Entry.{Entry}
 use Rattle.cf_calls.specs.declared.read.Read.{Read}
@@ -73,7 +74,7 @@ pub record CanTakeIn (plan : Plan) (s : RegistersState) (e : Entry) : Type 0 whe
   pub debt : debt_refusal plan s.registers e.change.on e.change.act ≡ None
   pub drawn : e.drawn ≡ draws s.registers e.change.act
   pub taken : HaveTaken s.orders.acts s
-  pub few : s.orders.acts < 1048576
+  pub few : s.orders.acts < most_entries
 
 -- what a look at a document, a bill, an asset, a bond or leave shows
 abbrev pub register_shown : Plan → Registers → Read → Option Shown

@@ -2,6 +2,7 @@
 
 ghost use Rattle.std.specs.Prelude.{◌≡◌, ◌≤◌, true};
 ghost use Rattle.cf_base.specs.Calendar.{is_day};
+ghost use Rattle.cf_base.specs.Limits.{last_fiscal_year};
 ghost use Rattle.cf_calls.specs.Form.{IsCount, IsYear};
 ghost use Rattle.cf_model.specs.Calendar.{year_of_day};
 ghost use Rattle.cf_model.specs.Recognition as spec;
@@ -30,7 +31,7 @@ pub fn year_of(chart: &Chart, on: Day) -> u16
     requires { is_day on ≡ true }
     ensures value { result ≡ year_of_day chart.now on }
     ensures from { 1970 ≤ result }
-    ensures to { result ≤ 2200 }
+    ensures to { result ≤ last_fiscal_year }
 {
     fiscal_year(chart.first_month(), month_of(on))
 }

@@ -2,6 +2,7 @@
 
 ghost use Rattle.std.specs.Prelude.{◌≡◌, ◌≤◌, ◌-ℤ◌, pos, true, option_map, MatchOption, None, length};
 ghost use Rattle.cf_base.specs.Calendar.{is_day};
+ghost use Rattle.cf_base.specs.Limits.{most_entries};
 ghost use Rattle.cf_model.specs.Results.{bill_draws};
 ghost use Rattle.cf_model.specs.Changes.{deferred_in};
 ghost use Rattle.cf_model.specs.Receivables as spec;
@@ -79,7 +80,7 @@ impl Revenue {
     /// How many acts were applied.
     pub fn acts(&self) -> u32
         ensures value { result ≡ self.now.acts }
-        ensures most { result ≤ 1048576 }
+        ensures most { result ≤ most_entries }
     {
         self.acts
     }

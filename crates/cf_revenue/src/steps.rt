@@ -3,6 +3,7 @@
 ghost use Rattle.std.specs.Prelude.{◌≡◌, ◌≤◌, ◌<◌, ◌+◌, ◌-◌, ◌∷◌, ◌++◌, [], length, None, true, vec_len, slice_index_or, slice_set};
 ghost use Rattle.std.specs.Vec.{vec_capacity};
 ghost use Rattle.cf_base.specs.Calendar.{is_day};
+ghost use Rattle.cf_base.specs.Limits.{most_entries};
 ghost use Rattle.cf_calls.specs.Form.{IsYear};
 ghost use Rattle.cf_calls.specs.declared.acts.Act.TheVariants as act;
 ghost use Rattle.cf_model.specs.Receivables.{bills_by, settlements_by, loans_by, repayments_by, owed};
@@ -24,7 +25,7 @@ use cf_chart::Chart;
 impl Revenue {
     /// Counts an act that is none of the register's own.
     pub(crate) fn count_act(&mut self)
-        requires few { self.old.acts < 1048576 }
+        requires few { self.old.acts < most_entries }
         ensures receivables { self.new.receivables ≡ self.old.receivables }
         ensures acts { self.new.acts ≡ self.old.acts + 1 }
     {
@@ -37,7 +38,7 @@ impl Revenue {
         requires year { IsYear levy.now.levy_year }
         requires amount { levy.now.amount ≤ 10000000000000 }
         requires room { length self.old.receivables.bills < self.old.room.bills }
-        requires few { self.old.acts < 1048576 }
+        requires few { self.old.acts < most_entries }
         ensures receivables { self.new.receivables ≡ record self.old.receivables {
           bills = self.old.receivables.bills ++ bills_by number (act.Bill levy.now);
         } }
@@ -62,7 +63,7 @@ impl Revenue {
         requires levied { IsBillLevied chart.now self.old.receivables.bills on part.now.bill }
         requires amount { part.now.amount ≤ 10000000000000 }
         requires room { length self.old.receivables.settlements < self.old.room.settlements }
-        requires few { self.old.acts < 1048576 }
+        requires few { self.old.acts < most_entries }
         ensures receivables { self.new.receivables ≡ record self.old.receivables {
           settlements = self.old.receivables.settlements ++ settlements_by chart.now self.old.receivables.bills on (act.Collect part.now);
         } }
@@ -85,7 +86,7 @@ impl Revenue {
         requires levied { IsBillLevied chart.now self.old.receivables.bills on part.now.bill }
         requires amount { part.now.amount ≤ 10000000000000 }
         requires room { length self.old.receivables.settlements < self.old.room.settlements }
-        requires few { self.old.acts < 1048576 }
+        requires few { self.old.acts < most_entries }
         ensures receivables { self.new.receivables ≡ record self.old.receivables {
           settlements = self.old.receivables.settlements ++ settlements_by chart.now self.old.receivables.bills on (act.WriteOff part.now);
         } }
@@ -103,7 +104,7 @@ impl Revenue {
         requires settles { CanSettle self.old.receivables settlement }
         requires amount { settlement.amount ≤ 10000000000000 }
         requires room { length self.old.receivables.settlements < self.old.room.settlements }
-        requires few { self.old.acts < 1048576 }
+        requires few { self.old.acts < most_entries }
         ensures receivables { self.new.receivables ≡ record self.old.receivables {
           settlements = self.old.receivables.settlements ++ view_settlement settlement ∷ [];
         } }
@@ -120,7 +121,7 @@ impl Revenue {
         requires reserved { HasRoomToMove fund_move.now.what fund_move.now self.old }
         requires allowed { over_loan self.old.receivables fund_move.now.what fund_move.now ≡ None }
         requires amount { fund_move.now.amount ≤ 10000000000000 }
-        requires few { self.old.acts < 1048576 }
+        requires few { self.old.acts < most_entries }
         ensures receivables { self.new.receivables ≡ record self.old.receivables {
           loans = self.old.receivables.loans ++ loans_by (act.Interfund fund_move.now);
           repayments = self.old.receivables.repayments ++ repayments_by (act.Interfund fund_move.now);
@@ -138,7 +139,7 @@ impl Revenue {
     fn lend(&mut self, loan: LoanRow)
         requires reserved { HasRoomToLend loan.from loan.to self.old }
         requires amount { loan.amount ≤ 10000000000000 }
-        requires few { self.old.acts < 1048576 }
+        requires few { self.old.acts < most_entries }
         ensures receivables { self.new.receivables ≡ record self.old.receivables {
           loans = self.old.receivables.loans ++ view_loan loan ∷ [];
         } }
@@ -158,7 +159,7 @@ impl Revenue {
     fn repay(&mut self, repayment: LoanRow)
         requires reserved { HasRoomToRepay repayment.from repayment.to self.old }
         requires left { repayment.amount ≤ owed self.old.receivables repayment.from repayment.to }
-        requires few { self.old.acts < 1048576 }
+        requires few { self.old.acts < most_entries }
         ensures receivables { self.new.receivables ≡ record self.old.receivables {
           repayments = self.old.receivables.repayments ++ view_loan repayment ∷ [];
         } }

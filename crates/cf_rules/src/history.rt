@@ -4,6 +4,7 @@ ghost use Rattle.std.specs.Prelude.{◌≡◌, ◌<◌, ◌≤◌, ℕ, Bool, tr
 ghost use Rattle.cf_calls.specs.declared.entry.Entry.{Entry};
 ghost use Rattle.cf_chart.specs.Plan.{Plan};
 ghost use Rattle.cf_base.specs.Calendar.{is_day, month_of_day};
+ghost use Rattle.cf_base.specs.Limits.{last_fiscal_year, most_entries};
 ghost use Rattle.cf_debt.specs.Register.{debts_of};
 ghost use Rattle.cf_calls.specs.Form.{IsYear};
 ghost use Rattle.cf_model.proofs.Lawful.{IsWhole};
@@ -47,7 +48,7 @@ pub trait History {
     /// The number of entries, at most 1,048,576.
     fn len(&self) -> u64
         ensures value { result ≡ length (entries self.now) }
-        ensures few { result ≤ 1048576 };
+        ensures few { result ≤ most_entries };
 
     /// The place, from 1, of the entry with this change's desk and key.
     fn known(&self, change: &Change) -> Option<u64>
@@ -77,7 +78,7 @@ pub trait History {
     /// The first fiscal year that isn't closed.
     fn open_year(&self) -> u16
         ensures value { result ≡ open_year (plan self.now) (entries self.now) }
-        ensures within { result ≤ 2200 };
+        ensures within { result ≤ last_fiscal_year };
 
     /// The balance of an account of a fund through a fiscal year, on a basis of accounting, in cents; 0 for what was never
     /// posted to. Government-wide posts are of fund 0.

@@ -2,6 +2,7 @@
 
 ghost use Rattle.std.specs.Prelude.{◌≡◌, ◌∷◌, [], ◌≤◌, ◌+◌, true, List, nat_lt};
 ghost use Rattle.cf_base.specs.Calendar.{is_day, month_of_day};
+ghost use Rattle.cf_base.specs.Limits.{last_fiscal_year};
 ghost use Rattle.cf_calls.specs.Form.{IsActInForm};
 ghost use Rattle.cf_model.specs.Calendar as calendar;
 ghost use Rattle.cf_model.specs.Receivables.{bill_at};
@@ -14,16 +15,13 @@ ghost use Rattle.cf_rules.specs.Least.{closed_where};
 ghost use Rattle.cf_chart.specs.Plan.{object_at, desk_at, is_capital_kind};
 
 use crate::history::{History, debt_of, orders_of, revenue_of};
-use cf_base::{Day, MOST_CENTS, Month, fiscal_year, month_of};
+use cf_base::{Day, LAST_YEAR, MOST_CENTS, MOST_ENTRIES, Month, fiscal_year, month_of};
 use cf_calls::acts::{AssetAct, LeaveAct, Period};
 use cf_calls::items::{AccountItem, Charge, LineAmount, SourceAmount, VoucherItem};
 use cf_calls::{Act, Refusal, Role, has_role, role_of};
 use cf_chart::{Chart, ObjectKind};
 use cf_orders::{document_year, year_of_day};
 use cf_revenue::Revenue;
-
-/// The most entries that a history may have.
-pub const MOST_ENTRIES: u64 = 1_048_576;
 
 /// The first of two refusals.
 pub fn or(first: Option<Refusal>, second: Option<Refusal>) -> Option<Refusal>
@@ -245,10 +243,10 @@ pub fn period_rule<H: History>(history: &H, on: Day) -> Option<Refusal>
 }
 
 fn open_fault(first_open: u16, year: u16) -> Option<Refusal>
-    requires { first_open ≤ 2200 }
+    requires { first_open ≤ last_fiscal_year }
     ensures { result ≡ spec.not_open first_open year }
 {
-    if first_open + 2 < year || 2199 < year {
+    if first_open + 2 < year || LAST_YEAR < year {
         Some(Refusal::YearNotOpen { year })
     } else {
         None
@@ -258,7 +256,7 @@ fn open_fault(first_open: u16, year: u16) -> Option<Refusal>
 /// The year that the call states is too far ahead.
 #[tactic(auto, using(cf_model::proofs::First::firsts))]
 fn stated_fault(first_open: u16, act: &Act) -> Option<Refusal>
-    requires { first_open ≤ 2200 }
+    requires { first_open ≤ last_fiscal_year }
     ensures { result ≡ first_refusal (spec.not_open first_open) (spec.stated_years act.now) }
 {
     match act {

@@ -2,6 +2,7 @@
 
 ghost use Rattle.std.specs.Prelude.{◌≡◌, ℕ, ◌+◌, ◌<◌, ◌≤◌, [], ◌∷◌, ◌++◌, length, true};
 ghost use mathlib.Core.List.{IsPrefix};
+ghost use Rattle.cf_base.specs.Limits.{most_entries};
 ghost use Rattle.cf_turns.specs.Lists.{count_of, places_of};
 
 use crate::pass::{Ask, Note, Pass};
@@ -43,7 +44,7 @@ impl Recorder {
     /// 1,048,576 entries (own rule).
     pub fn record(&mut self, turns: &Turns, entry: &Entry, pass: &mut Pass) -> u64
         requires own { (self.old.table ≡ turns.now) × (pass.old.table ≡ turns.now) }
-        requires few { length self.old.list < 1048576 }
+        requires few { length self.old.list < most_entries }
         ensures recorder { self.new ≡ record self.old { list = self.old.list ++ (entry.now, pass.old.number) ∷ [] } }
         ensures pass { pass.new ≡ record pass.old { places = pass.old.places ++ result ∷ [] } }
         ensures place { result ≡ length self.new.list }
@@ -145,7 +146,7 @@ fn add<N: Told>(seat: &mut ViewSeat, turns: &Turns, entry: &Entry) -> u64
     requires own { seat.old.table_id ≡ turns.now }
     requires records { seat.old.me.0.records ≡ true }
     requires lent { seat.old.me.0.has_number ≡ true }
-    requires few { length seat.old.me.0.list < 1048576 }
+    requires few { length seat.old.me.0.list < most_entries }
     ensures own { seat.new.table_id ≡ seat.old.table_id }
     ensures slots { seat.new.me.1 ≡ seat.old.me.1 }
     ensures view { seat.new.me.0 ≡ record seat.old.me.0 {

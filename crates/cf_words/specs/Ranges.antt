@@ -1,5 +1,6 @@
 -- The ranges of a command's numbers.
 use Rattle.std.specs.Prelude.{ℕ, ◌≤◌, ⊤}
+use Rattle.cf_base.specs.Limits.{last_year}
 use Rattle.cf_words.specs.declared.words.Command.{Command}
 use Rattle.cf_words.specs.declared.words.Command.TheVariants as command
 
@@ -10,6 +11,6 @@ pub record IsFrom (low high n : ℕ) : Type 0 where
 -- ports, doors and links; fiscal years; calls to be drawn
 abbrev pub IsInRange : Command → Type 0
 IsInRange (command.Serve port doors links) = IsFrom 1024 65000 port × IsFrom 1 16 doors × IsFrom 1 1000000 links
-IsInRange (command.Report year kind csv) = IsFrom 1971 2199 year
+IsInRange (command.Report year kind csv) = IsFrom 1971 last_year year
 IsInRange (command.Generate n) = IsFrom 1 100000 n
 IsInRange _ = ⊤

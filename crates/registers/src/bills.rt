@@ -10,7 +10,7 @@ ghost use Rattle.cf_model.specs.Calendar.{year_of_day};
 ghost use Rattle.cf_model.specs.Rules.{amount_refusal};
 ghost use Rattle.cf_revenue.specs.Register.{IsBillLevied, IsLevied};
 
-use cf_base::{Day, fiscal_year, month_of};
+use cf_base::{Day, MOST_ENTRIES, fiscal_year, month_of};
 use cf_calls::acts::{BillAmount, FundMove, FundMoveKind, NewBill};
 use cf_calls::{Act, number};
 use cf_chart::Chart;
@@ -131,7 +131,7 @@ fn take(chart: &Chart, revenue: &mut Revenue, on: Day, act: &Act) -> Result<Opti
     requires form { (on : Date) → IsActInForm on act.now }
     requires amounts { amount_refusal act.now ≡ None }
 {
-    if revenue.acts() >= 1_048_576 || !is_levied(chart, revenue, on, act) {
+    if u64::from(revenue.acts()) >= MOST_ENTRIES || !is_levied(chart, revenue, on, act) {
         return Ok(None);
     }
     match revenue.check(chart, on, 1, act) {

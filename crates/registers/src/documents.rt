@@ -6,7 +6,7 @@ ghost use Rattle.cf_base.specs.Money.{is_amount};
 ghost use Rattle.cf_calls.specs.Form.{is_liquidation_form};
 ghost use Rattle.cf_orders.specs.Register.{IsPlain};
 
-use cf_base::Day;
+use cf_base::{Day, MOST_ENTRIES};
 use cf_calls::acts::{NewOrder, NewRequisition, NewVoucher, Payment};
 use cf_calls::items::{AccountItem, Charge, Liquidation, VoucherItem};
 use cf_calls::{Act, List, number};
@@ -171,7 +171,7 @@ fn enter(
     requires day { is_day on ≡ true }
     requires act { IsPlain act.now }
 {
-    if orders.acts() >= 1_048_576 {
+    if u64::from(orders.acts()) >= MOST_ENTRIES {
         return Ok(None);
     }
     match orders.check(chart, on, desk, act) {
