@@ -12,6 +12,9 @@ use std::time::Duration;
 /// How many seconds a read waits for bytes, and a write for room, before it is a fault.
 const PATIENCE: u64 = 10;
 
+/// How many seconds such a read waits that only lets unread bytes go.
+const REST_PATIENCE: u64 = 1;
+
 /// How many reads let unread bytes go, before a link is closed.
 const MOST_REST_READS: u32 = 64;
 
@@ -36,10 +39,18 @@ impl TcpLink {
         Failed
     }
 
+    /// Tells the peer that nothing more comes, and from then on waits a shorter time for its bytes.
+    fn end_writing(&self) -> io::Result<()> {
+        self.stream.shutdown(Shutdown::Write)?;
+        let patience = Duration::from_secs(REST_PATIENCE);
+        self.stream.set_read_timeout(Some(patience))
+    }
+
     /// Closes the connection. Bytes that the peer sent and nobody read would have the system reset it, and the
-    /// peer could lose the last answer: so the end is told first, and a bounded rest is read.
+    /// peer could lose the last answer: so the end is told first, and a bounded rest is read. A link that failed is
+    /// closed at once.
     fn close(mut self) {
-        if self.ended || self.stream.shutdown(Shutdown::Write).is_err() {
+        if self.ended || self.faults > 0 || self.end_writing().is_err() {
             return;
         }
         let mut rest = [0u8; 4096];
