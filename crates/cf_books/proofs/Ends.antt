@@ -16,7 +16,7 @@ are_left (Some xs) (Some ys) bytes r = let P : List ℕ → Type 0 = λ rest. xs
 pub gave_ends : (command : Command) (left held held' : Option (List ℕ)) (s : Status) → Gave command left held held' s → Ends command left held held' s
 gave_ends command left held held' Done g = g
 gave_ends command left held held' BadWords g = g
-gave_ends command left held held' (ChartRefused f) g = g
+gave_ends command left held held' (ChartRefused f id) g = g
 gave_ends command left held held' ReadFault g = tt
 gave_ends command left held held' WriteFault g = record {
   bytes = g.bytes;

@@ -17,6 +17,7 @@ use Rattle.cf_books.specs.declared.answers.Answer.{Answer}
 use Rattle.cf_books.specs.declared.status.Status.{Status}
 use Rattle.cf_books.specs.declared.status.Status.TheVariants as status
 use Rattle.cf_books.specs.Calls.{calls_text}
+use Rattle.cf_books.specs.FaultRows.{fault_id}
 use Rattle.cf_books.specs.Lines.{lines_text}
 use Rattle.cf_books.specs.Listing.{list_text}
 use Rattle.cf_books.specs.Summary.{chart_text, journal_text}
@@ -32,9 +33,10 @@ nothing s = record { out = []; status = s }
 
 -- ---- a chart
 
-abbrev pub chart_said : Result Plan ChartFault → Said
-chart_said (Ok plan) = record { out = chart_text plan; status = status.Done }
-chart_said (Err f) = nothing (status.ChartRefused f)
+-- what the chart of these bytes has, or its fault with the id of the row that it is in
+abbrev pub chart_said : List ℕ → Result Plan ChartFault → Said
+chart_said bytes (Ok plan) = record { out = chart_text plan; status = status.Done }
+chart_said bytes (Err f) = nothing (status.ChartRefused f (fault_id bytes f))
 
 -- ---- a journal, as far as it is whole
 
@@ -87,7 +89,7 @@ refused (Err e) = Some (book_refusal e)
 -- ---- any command
 
 abbrev pub said : Command → List ℕ → Said
-said CheckChart bytes = chart_said (chart_of bytes)
+said CheckChart bytes = chart_said bytes (chart_of bytes)
 said Check bytes = check_said (recovered bytes)
 said command bytes = whole_said command (length bytes) (whole_of bytes)
 

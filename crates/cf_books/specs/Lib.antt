@@ -5,6 +5,7 @@ pub mod Listing
 pub mod Lines
 pub mod Summary
 pub mod Whole
+pub mod FaultRows
 pub mod Notices
 pub mod Sources
 pub mod Answers

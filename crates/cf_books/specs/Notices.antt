@@ -4,35 +4,31 @@ use Rattle.cf_chart.specs.Faults.{word_of}
 use Rattle.cf_chart.specs.declared.fault.ChartFault.{ChartFault}
 use Rattle.cf_chart.specs.declared.fault.ChartFault.TheVariants as fault
 use Rattle.cf_chart.specs.declared.fault.TableName.{TableName}
-use Rattle.cf_chart.specs.declared.fault.TableName.TheVariants as table
+use Rattle.cf_books.specs.FaultRows.{table_word}
 use Rattle.cf_books.specs.declared.status.Status.{Status}
 use Rattle.cf_books.specs.declared.status.Status.TheVariants.{Done, BadWords, ChartRefused, ReadFault, WriteFault, NotFounded, Damaged, NoMemory, Cut}
 
 -- ---- a chart's fault, in the words of `docs/CHART.md`
 
-abbrev pub table_word : TableName → List ℕ
-table_word table.Top = codes "top level"
-table_word table.Function = codes "function"
-table_word table.Fund = codes "fund"
-table_word table.Department = codes "department"
-table_word table.Object = codes "object"
-table_word table.Source = codes "source"
-table_word table.Line = codes "line"
-table_word table.Desk = codes "desk"
+-- the id of a row, where it is known
+abbrev pub id_text : Option ℕ → List ℕ
+id_text None = []
+id_text (Some id) = codes " (id " ++ (decimal id ++ codes ")")
 
--- a table and the place of a row in it, counted from 0
-abbrev pub place_text : TableName → ℕ → List ℕ
-place_text t at = table_word t ++ 32 ∷ decimal at
+-- a table, the place of a row in it, counted from 0, and the row's id
+abbrev pub row_text : TableName → ℕ → Option ℕ → List ℕ
+row_text t at id = (table_word t ++ 32 ∷ decimal at) ++ id_text id
 
-abbrev pub fault_text : ChartFault → List ℕ
-fault_text (fault.TooLong limit) = codes "longer than " ++ (decimal limit ++ codes " bytes")
-fault_text fault.NotToml = codes "no TOML document"
-fault_text (fault.TooMany t) = codes "too many rows in " ++ table_word t
-fault_text (fault.Missing t at k) = place_text t at ++ (codes " has no " ++ word_of k)
-fault_text (fault.Bad t at k) = place_text t at ++ (codes " has a bad " ++ word_of k)
-fault_text (fault.Twice t at) = place_text t at ++ codes " stands twice"
-fault_text (fault.Window source days) = codes "source " ++ (decimal source ++ (codes " has a window of " ++ (decimal days ++ codes " days")))
-fault_text (fault.General n) = decimal n ++ codes " general funds"
+-- a fault in a row of this id
+abbrev pub fault_text : ChartFault → Option ℕ → List ℕ
+fault_text (fault.TooLong limit) id = codes "longer than " ++ (decimal limit ++ codes " bytes")
+fault_text fault.NotToml id = codes "no TOML document"
+fault_text (fault.TooMany t) id = codes "too many rows in " ++ table_word t
+fault_text (fault.Missing t at k) id = row_text t at id ++ (codes " has no " ++ word_of k)
+fault_text (fault.Bad t at k) id = row_text t at id ++ (codes " has a bad " ++ word_of k)
+fault_text (fault.Twice t at) id = row_text t at id ++ codes " stands twice"
+fault_text (fault.Window source days) id = codes "source " ++ (decimal source ++ (codes " has a window of " ++ (decimal days ++ codes " days")))
+fault_text (fault.General n) id = decimal n ++ codes " general funds"
 
 -- ---- a journal's damage
 
@@ -57,7 +53,7 @@ at_text offset = codes "damaged at " ++ (decimal offset ++ codes ": ")
 abbrev pub status_text : Status → List ℕ
 status_text Done = []
 status_text BadWords = codes "bad words"
-status_text (ChartRefused f) = codes "chart refused: " ++ fault_text f
+status_text (ChartRefused f id) = codes "chart refused: " ++ fault_text f id
 status_text ReadFault = codes "read fault"
 status_text WriteFault = codes "write fault"
 status_text (NotFounded len) = codes "not founded: the file has " ++ (decimal len ++ codes " bytes")

@@ -10,6 +10,7 @@ ghost use Rattle.cf_books.specs.Answers.{Answers};
 ghost use Rattle.cf_books.specs.Whole.{parts, whole_of};
 
 use crate::calls::put_calls;
+use crate::fault_rows::fault_id;
 use crate::judged::judge;
 use crate::lines::lines_text;
 use crate::listing::list_text;
@@ -38,9 +39,9 @@ fn nothing(alloc: Global, status: Status) -> Answer
     }
 }
 
-/// What a chart has, or its first fault, which is the one that `found` refuses it for.
+/// What a chart has, or its first fault, which is the one that `found` refuses it for, with the id of the row that it is in.
 fn chart_answer(alloc: Global, bytes: &[u8]) -> Result<Answer, AllocError>
-    ensures { Answers result (spec.chart_said (chart_of bytes.now)) }
+    ensures { Answers result (spec.chart_said bytes.now (chart_of bytes.now)) }
 {
     match Chart::read(alloc, bytes) {
         Ok(chart) => {
@@ -51,7 +52,10 @@ fn chart_answer(alloc: Global, bytes: &[u8]) -> Result<Answer, AllocError>
                 status: Status::Done,
             })
         }
-        Err(ChartRefused::Fault(fault)) => Ok(nothing(alloc, Status::ChartRefused { fault })),
+        Err(ChartRefused::Fault(fault)) => {
+            let id = fault_id(alloc, bytes, fault)?;
+            Ok(nothing(alloc, Status::ChartRefused { fault, id }))
+        }
         Err(ChartRefused::NoMemory) => Err(AllocError),
     }
 }

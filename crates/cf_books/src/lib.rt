@@ -5,6 +5,7 @@
 mod amounts;
 mod answers;
 mod calls;
+mod fault_rows;
 mod judged;
 mod lines;
 mod listing;

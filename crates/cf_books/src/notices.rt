@@ -4,25 +4,11 @@ ghost use Rattle.std.specs.Prelude.{◌≡◌, ◌++◌, ◌-◌, ◌≤◌, [],
 ghost use Rattle.cf_chart.specs.Faults.{word_of};
 ghost use Rattle.cf_books.specs.Notices as spec;
 
+use crate::fault_rows::table_word;
 use crate::status::Status;
 use cf_chart::{ChartFault, KeyName, TableName};
 use cf_json::parts::put_number;
 use std::alloc::AllocError;
-
-fn table_word(table: TableName) -> &'static str
-    ensures { result.now ≡ spec.table_word table }
-{
-    match table {
-        TableName::Top => "top level",
-        TableName::Function => "function",
-        TableName::Fund => "fund",
-        TableName::Department => "department",
-        TableName::Object => "object",
-        TableName::Source => "source",
-        TableName::Line => "line",
-        TableName::Desk => "desk",
-    }
-}
 
 /// Appends a text.
 fn put_text(out: &mut Vec<u8>, text: &str) -> Result<(), AllocError>
@@ -40,33 +26,37 @@ fn put_between(out: &mut Vec<u8>, before: &str, n: u64, after: &str) -> Result<(
     out.extend_from_slice(after.as_bytes())
 }
 
-/// Appends a table and the place of a row in it.
-fn put_place(out: &mut Vec<u8>, table: TableName, at: u64) -> Result<(), AllocError>
-    ensures { OnOk result (out.new.items ≡ out.old.items ++ spec.place_text table at) }
+/// Appends the id of a row, where it is known.
+fn put_id(out: &mut Vec<u8>, id: Option<u16>) -> Result<(), AllocError>
+    ensures { OnOk result (out.new.items ≡ out.old.items ++ spec.id_text id) }
+{
+    match id {
+        None => Ok(()),
+        Some(id) => put_between(out, " (id ", id as u64, ")"),
+    }
+}
+
+/// Appends a table, the place of a row in it, and the row's id.
+fn put_row(out: &mut Vec<u8>, table: TableName, at: u64, id: Option<u16>) -> Result<(), AllocError>
+    ensures { OnOk result (out.new.items ≡ out.old.items ++ spec.row_text table at id) }
 {
     out.extend_from_slice(table_word(table).as_bytes())?;
     out.push(b' ')?;
-    put_number(out, at)
+    put_number(out, at)?;
+    put_id(out, id)
 }
 
-/// Appends what is wrong with a key of a row.
-fn put_key_fault(
-    out: &mut Vec<u8>,
-    table: TableName,
-    at: u64,
-    wrong: &str,
-    key: KeyName,
-) -> Result<(), AllocError>
-    ensures { OnOk result (out.new.items ≡ out.old.items ++ (spec.place_text table at ++ (wrong.now ++ word_of key))) }
+/// Appends what is wrong with a key.
+fn put_key(out: &mut Vec<u8>, wrong: &str, key: KeyName) -> Result<(), AllocError>
+    ensures { OnOk result (out.new.items ≡ out.old.items ++ (wrong.now ++ word_of key)) }
 {
-    put_place(out, table, at)?;
     out.extend_from_slice(wrong.as_bytes())?;
     out.extend_from_slice(key.word().as_bytes())
 }
 
-/// Appends a chart's fault.
-fn put_fault(out: &mut Vec<u8>, fault: ChartFault) -> Result<(), AllocError>
-    ensures { OnOk result (out.new.items ≡ out.old.items ++ spec.fault_text fault) }
+/// Appends a chart's fault, which is in a row of this id.
+fn put_fault(out: &mut Vec<u8>, fault: ChartFault, id: Option<u16>) -> Result<(), AllocError>
+    ensures { OnOk result (out.new.items ≡ out.old.items ++ spec.fault_text fault id) }
 {
     match fault {
         ChartFault::TooLong { limit } => put_between(out, "longer than ", limit, " bytes"),
@@ -75,10 +65,16 @@ fn put_fault(out: &mut Vec<u8>, fault: ChartFault) -> Result<(), AllocError>
             out.extend_from_slice(b"too many rows in ")?;
             out.extend_from_slice(table_word(table).as_bytes())
         }
-        ChartFault::Missing { table, at, key } => put_key_fault(out, table, at, " has no ", key),
-        ChartFault::Bad { table, at, key } => put_key_fault(out, table, at, " has a bad ", key),
+        ChartFault::Missing { table, at, key } => {
+            put_row(out, table, at, id)?;
+            put_key(out, " has no ", key)
+        }
+        ChartFault::Bad { table, at, key } => {
+            put_row(out, table, at, id)?;
+            put_key(out, " has a bad ", key)
+        }
         ChartFault::Twice { table, at } => {
-            put_place(out, table, at)?;
+            put_row(out, table, at, id)?;
             out.extend_from_slice(b" stands twice")
         }
         ChartFault::Window { source, days } => {
@@ -153,9 +149,9 @@ fn put_status(out: &mut Vec<u8>, status: Status) -> Result<(), AllocError>
     match status {
         Status::Done => Ok(()),
         Status::BadWords => out.extend_from_slice(b"bad words"),
-        Status::ChartRefused { fault } => {
+        Status::ChartRefused { fault, id } => {
             put_text(out, "chart refused: ")?;
-            put_fault(out, fault)
+            put_fault(out, fault, id)
         }
         Status::ReadFault => out.extend_from_slice(b"read fault"),
         Status::WriteFault => out.extend_from_slice(b"write fault"),

@@ -9,8 +9,9 @@ pub enum Status {
     Done,
     /// The words ask for nothing.
     BadWords,
-    /// The chart has this fault, and no journal is founded with it.
-    ChartRefused { fault: ChartFault },
+    /// The chart has this fault, and no journal is founded with it. The id is that of the row with the fault, where it has
+    /// one in form: 0 to 65535.
+    ChartRefused { fault: ChartFault, id: Option<u16> },
     /// The file can't be read.
     ReadFault,
     /// The output failed.
