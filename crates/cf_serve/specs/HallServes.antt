@@ -1,0 +1,43 @@
+-- What serving a hall tells.
+use Rattle.std.specs.Prelude.{◌≡◌, ℕ, Bool, true, false, IsTrue, IfSome, List, [], ◌∷◌, ◌++◌, Option, Some}
+use Rattle.cf_book.specs.Books.{RecoversNear}
+use Rattle.cf_book.specs.DurableState.{DurableBook}
+use Rattle.cf_calls.specs.declared.entry.Entry.{Entry}
+use Rattle.cf_chart.specs.Plan.{Plan}
+use Rattle.cf_http.specs.Doors.{Tells}
+use Rattle.cf_model.specs.State.{IsSoundState}
+use Rattle.cf_serve.specs.declared.end.ServeEnd.{ServeEnd}
+use Rattle.cf_serve.specs.declared.end.ServeEnd.TheVariants.{Served, DoorFailed, NoMemory}
+use Rattle.cf_talk.specs.ServeEnds.{AllQuiet, SomeRose, links_given}
+use Rattle.cf_talk.specs.ServeRuns.{DoorState, ServeRan}
+
+-- what a disk tells
+pub record DiskTells (D : Type 0) : Type 1 where
+  pub tells : Bool
+  pub is_image : D → List ℕ → Type 0
+  pub faults : D → ℕ
+
+-- Whatever a crash leaves of the disk recovers to the history, or to it and the entry in doubt, with which it is sound too.
+pub record IsKeptOn {D : Type 0} (device : DiskTells D) (plan : Plan) (history : List Entry) (disk : D) : Type 0 where
+  pub doubt : Option Entry
+  pub images : IsTrue device.tells → (image : List ℕ) → device.is_image disk image → RecoversNear plan history (λ e. doubt ≡ Some e) image
+  pub doubt_sound : IfSome doubt (λ e. IsSoundState (record { plan = plan; entries = history ++ e ∷ [] }))
+
+-- The doors were served from the book's history to the last one, which the disk keeps, and gave so many links.
+pub record HallRan {D L : Type 0} (device : DiskTells D) (tells : Tells L) (known : Bool) (links : ℕ) (book : DurableBook D) (disk : D) (olds news : List (DoorState L)) (given : ℕ) : Type 0 where
+  pub last : List Entry
+  pub ran : ServeRan tells known book.plan book.entries last links (device.faults book.disk) (device.faults disk) olds news
+  pub kept : IsKeptOn device book.plan last disk
+  pub given_is : given ≡ links_given olds news
+
+-- The doors were served and none failed; or one failed, whose count rose; or there was no memory, and the doors and the disk
+-- are as they were.
+abbrev pub Serves : {D L : Type 0} → DiskTells D → Tells L → Bool → ℕ → DurableBook D → D → List (DoorState L) → List (DoorState L) → ℕ → ServeEnd → Type 0
+Serves device tells known links book disk olds news given Served = HallRan device tells known links book disk olds news given × AllQuiet olds news
+Serves device tells known links book disk olds news given DoorFailed = HallRan device tells known links book disk olds news given × SomeRose olds news
+Serves device tells known links book disk olds news given NoMemory = (news ≡ olds) × (disk ≡ book.disk)
+
+-- how the service ended, where a door failed or none did
+abbrev pub end_by : Bool → ServeEnd
+end_by true = DoorFailed
+end_by false = Served

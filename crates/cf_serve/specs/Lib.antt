@@ -1,0 +1,2 @@
+pub mod DesksRun
+pub mod HallServes

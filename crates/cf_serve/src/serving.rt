@@ -1,0 +1,213 @@
+//! Desks are opened at the doors, kept and parted again.
+
+ghost use Rattle.std.specs.Prelude.{◌≡◌, ◌+◌, ◌≤◌, [], length, map, All};
+ghost use Rattle.std.specs.List.{list_any, sum_by};
+ghost use Rattle.std.specs.Vec.{vec_capacity};
+ghost use Rattle.cf_names.specs.Closing.{IsFreshPass};
+ghost use Rattle.cf_serve.specs.DesksRun.{DesksRan};
+ghost use Rattle.cf_talk.specs.Desks.{end_links, is_fault};
+ghost use Rattle.cf_talk.specs.ServeRuns.{door_of, door_state};
+
+use crate::clerk::Clerk;
+use crate::desk::{Desk, keep_all};
+use cf_disk::Disk;
+use cf_hall::{Hall, HallPass, Shared};
+use cf_http::{Door, DoorEnd};
+use cf_names::City;
+use std::alloc::Global;
+use std::sync::Wait;
+use std::thread::Threads;
+
+/// Opens so many passes.
+pub(crate) fn enter_all<N: City, D: Disk + Drop>(
+    hall: &mut Hall<N, D>,
+    count: usize,
+    passes: &mut Vec<HallPass<N>>,
+)
+    requires few { hall.old.entered + count ≤ 65535 }
+    requires empty { passes.old.items ≡ [] }
+    requires room { count ≤ vec_capacity passes.old }
+    ensures kept { hall.new.kept ≡ hall.old.kept }
+    ensures entered { hall.new.entered ≡ hall.old.entered + count }
+    ensures many { length passes.new.items ≡ count }
+    ensures fresh { All IsFreshPass passes.new.items }
+    ensures capacity { vec_capacity passes.new ≡ vec_capacity passes.old }
+{
+    for _entered in 0..count {
+        let pass = hall.enter();
+        passes.push_reserved(pass);
+    }
+}
+
+/// Opens a desk: a door, and a clerk with the pass.
+fn seat<'a, N: City, D: Disk + Drop, H: Wait, R: Door + Drop>(
+    rt: &'a H,
+    alloc: Global,
+    shared: &'a Shared<N, D>,
+    door: R,
+    pass: HallPass<N>,
+) -> Desk<'a, N, D, H, R>
+    ensures pass { result.pass ≡ pass }
+    ensures door { door_of result ≡ door_state R.finished R.given R.coming R.faults door }
+{
+    let clerk = Clerk {
+        rt,
+        alloc,
+        shared,
+        pass,
+    };
+    Desk {
+        door,
+        clerk,
+        end: DoorEnd::Done { links: 0 },
+    }
+}
+
+/// Opens a desk for each door, in the order of the doors. It takes no memory.
+fn seat_all<'a, N: City, D: Disk + Drop, H: Wait, R: Door + Drop>(
+    rt: &'a H,
+    alloc: Global,
+    shared: &'a Shared<N, D>,
+    doors: Vec<R>,
+    passes: &mut Vec<HallPass<N>>,
+    desks: &mut Vec<Desk<'a, N, D, H, R>>,
+)
+    requires pairs { length passes.old.items ≡ length doors.items }
+    requires fresh { All IsFreshPass passes.old.items }
+    requires empty { desks.old.items ≡ [] }
+    requires room { length doors.items ≤ vec_capacity desks.old }
+    ensures doors { map door_of desks.new.items ≡ map (door_state R.finished R.given R.coming R.faults) doors.items }
+    ensures many { length desks.new.items ≡ length doors.items }
+    ensures fresh { All (λ d. IsFreshPass d.pass) desks.new.items }
+    ensures passes { passes.new.items ≡ [] }
+    ensures capacity { vec_capacity passes.new ≡ vec_capacity passes.old }
+{
+    for door in doors {
+        if let Some(pass) = passes.pop() {
+            desks.push_reserved(seat(rt, alloc, shared, door, pass));
+        }
+    }
+}
+
+fn is_failed(end: DoorEnd) -> bool
+    ensures { result ≡ is_fault end }
+{
+    match end {
+        DoorEnd::Done { .. } => false,
+        DoorEnd::DoorFault { .. } => true,
+    }
+}
+
+/// Whether a door failed.
+fn has_failed<'a, N: City, D: Disk + Drop, H: Wait, R: Door + Drop>(
+    desks: &[Desk<'a, N, D, H, R>],
+) -> bool
+    ensures { result ≡ list_any (λ d. is_fault d.end) desks.now }
+{
+    desks.iter().any(|desk| is_failed(desk.end))
+}
+
+/// How many links a door gave.
+fn links_of(end: DoorEnd) -> u32
+    ensures { result ≡ end_links end }
+{
+    match end {
+        DoorEnd::Done { links } => links,
+        DoorEnd::DoorFault { links } => links,
+    }
+}
+
+/// How many links the doors gave.
+fn links_given<'a, N: City, D: Disk + Drop, H: Wait, R: Door + Drop>(
+    desks: &[Desk<'a, N, D, H, R>],
+) -> u64
+    requires { length desks.now ≤ 65535 }
+    ensures { result ≡ sum_by (λ d. end_links d.end) desks.now }
+{
+    let mut links = 0;
+    for desk in desks {
+        links += u64::from(links_of(desk.end));
+    }
+    links
+}
+
+/// Parts a desk: its door and its pass.
+fn part<'a, N: City, D: Disk + Drop, H: Wait, R: Door + Drop>(
+    desk: Desk<'a, N, D, H, R>,
+) -> (R, HallPass<N>)
+    ensures door { door_state R.finished R.given R.coming R.faults result.0 ≡ door_of desk.entry }
+    ensures pass { result.1 ≡ desk.entry.pass }
+{
+    let Desk { door, clerk, .. } = desk;
+    let Clerk { pass, .. } = clerk;
+    (door, pass)
+}
+
+/// Parts all desks: their doors and passes, in the order of the desks. It takes no memory.
+fn part_all<'a, N: City, D: Disk + Drop, H: Wait, R: Door + Drop>(
+    desks: Vec<Desk<'a, N, D, H, R>>,
+    doors: &mut Vec<R>,
+    passes: &mut Vec<HallPass<N>>,
+)
+    requires empty { (doors.old.items ≡ []) × (passes.old.items ≡ []) }
+    requires doors_room { length desks.items ≤ vec_capacity doors.old }
+    requires passes_room { length desks.items ≤ vec_capacity passes.old }
+    ensures doors { map (door_state R.finished R.given R.coming R.faults) doors.new.items ≡ map door_of desks.entry.items }
+    ensures many { (length doors.new.items ≡ length desks.entry.items) × (length passes.new.items ≡ length desks.entry.items) }
+    ensures passes { passes.new.items ≡ map (λ d. d.pass) desks.entry.items }
+{
+    for desk in desks {
+        let (door, pass) = part(desk);
+        doors.push_reserved(door);
+        passes.push_reserved(pass);
+    }
+}
+
+/// How the desks of a hall were kept: how many links their doors gave, and whether a door failed.
+#[derive(Clone, Copy)]
+pub(crate) struct Kept {
+    pub(crate) links: u64,
+    pub(crate) failed: bool,
+}
+
+/// Keeps a desk at each door, with a pass each: all at once, and each for so many links. The doors are handed back in
+/// their order, in the room for them, and with them the passes.
+pub(crate) fn serve_doors<
+    'a,
+    N: City + Send + Sync,
+    D: Disk + Drop + Send,
+    H: Threads + Wait + Sync,
+    R: Door + Drop + Send,
+>(
+    rt: &'a H,
+    alloc: Global,
+    shared: &'a Shared<N, D>,
+    links: u32,
+    doors: Vec<R>,
+    back: &mut Vec<R>,
+    passes: &mut Vec<HallPass<N>>,
+    mut desks: Vec<Desk<'a, N, D, H, R>>,
+) -> Kept
+where
+    R::Link: Send,
+    requires few { length doors.items ≤ 65535 }
+    requires pairs { length passes.old.items ≡ length doors.items }
+    requires fresh { All IsFreshPass passes.old.items }
+    requires empty { (back.old.items ≡ []) × (desks.items ≡ []) }
+    requires back_room { length doors.items ≤ vec_capacity back.old }
+    requires passes_room { length doors.items ≤ vec_capacity passes.old }
+    requires desks_room { length doors.items ≤ vec_capacity desks }
+    ensures many { (length back.new.items ≡ length doors.items) × (length passes.new.items ≡ length doors.items) }
+    ensures ran { DesksRan (record { received = R.Link.received; sent = R.Link.sent; ended = R.Link.ended; faults = R.Link.faults })
+        R.tells N.plan links (map (door_state R.finished R.given R.coming R.faults) doors.items)
+        (map (door_state R.finished R.given R.coming R.faults) back.new.items) passes.new.items result.links result.failed }
+{
+    seat_all(rt, alloc, shared, doors, passes, &mut desks);
+    keep_all(rt, alloc, &mut desks, links);
+    let kept = Kept {
+        links: links_given(desks.as_slice()),
+        failed: has_failed(desks.as_slice()),
+    };
+    part_all(desks, back, passes);
+    kept
+}
