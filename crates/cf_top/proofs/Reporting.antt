@@ -1,5 +1,5 @@
 -- A run of `report`.
-use Rattle.std.proofs.Common.{◌≡◌, ℕ, Bool, List, Option, Ok, IsTrue, sym, subst}
+use Rattle.std.proofs.Common.{◌≡◌, ℕ, Bool, List, Option, IsTrue, sym, subst}
 use Rattle.cf_articulation.specs.Articulates.{AllArticulate}
 use Rattle.cf_base.specs.declared.statement.Kind.{Kind}
 use Rattle.cf_book.specs.declared.refused.BookRefused.{BookRefused}
@@ -13,7 +13,7 @@ use Rattle.cf_top.specs.declared.status.Status.TheVariants as status
 use Rattle.cf_top.specs.Devices.{Device}
 use Rattle.cf_top.specs.Printing.{Prints}
 use Rattle.cf_top.specs.Reports.{IsUnwritten, ReportEnds, ReportSays, report_text}
-use Rattle.cf_top.specs.Runs.{status_of_refused}
+use Rattle.cf_top.specs.Refused.{status_of_refused}
 
 module _ {D : Type 0} (device : Device D) (year : ℕ) (kind : Kind) (csv : Bool) (old : D) (held held' : Option (List ℕ)) where
   says : (book : DurableBook D) (s : Status) → (IsTrue device.tells → RecoversTo book.plan book.entries (device.content old)) → IsSoundState (record { plan = book.plan; entries = book.entries }) → AllArticulate book.plan book.entries

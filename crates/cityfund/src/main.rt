@@ -1,9 +1,15 @@
 //! The program: the real ends of what `cf_top::run` works over.
 #![tactic(auto)]
 
+ghost use Rattle.std.specs.Prelude.{◌≤◌, ◌+◌};
+
 use cf_base::{FileSource, StdSink, StdSource};
 use cf_disk::FileDisk;
+use cf_links::TcpDoor;
 use cf_top::{Ran, Status, run};
+use cf_words::{Command, WordsRefused, read_words};
+use std::alloc::{AllocError, Global};
+use std::net::{Net, TcpListener, TcpStream};
 use std::process::ExitCode;
 use std::{env, io};
 
@@ -22,23 +28,57 @@ fn wordless(error: &io::Error) -> Status {
     }
 }
 
+/// Doors at so many ports from the first one on, each of which listens once it is asked for a link.
+fn doors_from<R: Net<Listener = TcpListener, Stream = TcpStream>>(
+    net: &R,
+    alloc: Global,
+    first: u16,
+    count: u16,
+) -> Result<Vec<TcpDoor<'_, R>>, AllocError>
+    requires { first + count ≤ 65535 }
+{
+    let mut doors = Vec::with_capacity(alloc, count as usize)?;
+    for place in 0..count {
+        doors.push(TcpDoor::new(net, first + place))?;
+    }
+    Ok(doors)
+}
+
+/// The doors that the words ask for. Other words than those of `serve` ask for none.
+fn doors_for<'a, R: Net<Listener = TcpListener, Stream = TcpStream>>(
+    net: &'a R,
+    alloc: Global,
+    words: &[String],
+) -> Result<Vec<TcpDoor<'a, R>>, AllocError> {
+    match read_words(alloc, words) {
+        Ok(Command::Serve { port, doors, .. }) => doors_from(net, alloc, port, doors),
+        Err(WordsRefused::NoMemory) => Err(AllocError),
+        _ => doors_from(net, alloc, 0, 0),
+    }
+}
+
 fn main(rt: HostRuntime) -> ExitCode {
     let mut chart = FileSource::new(&rt, "chart.toml");
     let mut input = StdSource::new(rt.reader());
     let mut out = StdSink::new(rt.stdout());
     let disk = FileDisk::new(&rt, "fund.journal");
     let status = match words(&rt) {
-        Ok(words) => {
-            let Ran { status, disk: _ } = run(
-                rt.alloc(),
-                words.as_slice(),
-                &mut chart,
-                &mut input,
-                &mut out,
-                disk,
-            );
-            status
-        }
+        Ok(words) => match doors_for(&rt, rt.alloc(), words.as_slice()) {
+            Ok(mut doors) => {
+                let Ran { status, disk: _ } = run(
+                    &rt,
+                    rt.alloc(),
+                    words.as_slice(),
+                    &mut chart,
+                    &mut input,
+                    &mut out,
+                    disk,
+                    &mut doors,
+                );
+                status
+            }
+            Err(AllocError) => Status::NoMemory,
+        },
         Err(error) => wordless(&error),
     };
     if status != Status::Ok {

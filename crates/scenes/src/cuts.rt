@@ -1,6 +1,6 @@
 //! A desk over each front of a journal.
 
-use crate::stage::{Stage, disk_with, run_over};
+use crate::stage::{Stage, desk_over, disk_with};
 use crate::status::whole_text;
 use std::alloc::AllocError;
 use std::io;
@@ -9,7 +9,7 @@ use std::io;
 fn ended_over(stage: &Stage, len: usize) -> Result<String, AllocError> {
     let (front, _) = stage.bytes.as_slice().split_at(len.min(stage.bytes.len()));
     let disk = disk_with(stage.alloc, front, &[], 0)?;
-    let left = run_over(stage.alloc, "desk", "", "", disk, usize::MAX)?;
+    let left = desk_over(stage.alloc, "", disk)?;
     whole_text(stage.alloc, left.status)
 }
 

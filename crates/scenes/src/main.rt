@@ -9,7 +9,10 @@
 //! | `chart FILE`, `swap OLD => NEW` | the chart for the next `found`, and a change of it |
 //! | `fail N`, `stop N` | the next run's disk fails at its call N, or stops there |
 //! | `limit N` | the next run's output takes N bytes |
-//! | `run WORD ..` | a run of these words: prints what it says, how it ended, and the length of the journal |
+//! | `door`, `door N` | a door more for the next run, whose call N for a link fails |
+//! | `link`, `link N` | a link more at that door, which takes N bytes |
+//! | `get TARGET`, `post CALL` | a request more on that link |
+//! | `run WORD ..` | a run of these words: prints what was said at its doors, what it says, how it ended, and the length of the journal |
 //! | `calls` | prints how many calls the last run made of its disk |
 //! | `empty`, `cut N`, `set AT BYTE`, `add BYTE ..` | changes what the disk holds |
 //! | `keep`, `back`, `same` | remembers it, puts it back, prints whether it is the same |
@@ -18,6 +21,7 @@
 #![tactic(auto)]
 
 mod cuts;
+mod doors;
 mod images;
 mod play;
 mod stage;

@@ -1,16 +1,24 @@
 //! What each line of the script does.
 
 use crate::cuts::show_cuts;
+use crate::doors::show_doors;
 use crate::stage::Stage;
 use crate::status::whole_text;
 use crate::tears::show_tears;
 use crate::word::{Word, byte};
 use std::rt::Files;
+use std::sync::Wait;
+use std::thread::Threads;
 use std::{fs, io};
 
-/// A run of these words: what it said, how it ended and how long the journal is.
-fn show_run(rt: &impl Print, stage: &mut Stage, words: &str) -> io::Result<()> {
-    let (status, out) = stage.run_words(words)?;
+/// A run of these words: what was said at its doors, what it said, how it ended and how long the journal is.
+fn show_run<R: Print + Threads + Wait + Sync>(
+    rt: &R,
+    stage: &mut Stage,
+    words: &str,
+) -> io::Result<()> {
+    let (status, out, doors) = stage.run_words(rt, words)?;
+    show_doors(rt, doors.as_slice())?;
     let said = str::from_utf8(out.bytes()).unwrap_or("no text");
     let ended = whole_text(stage.alloc, status)?;
     println!(rt; "{said}= {ended}; {} bytes", stage.bytes.len())
@@ -40,7 +48,7 @@ fn add_bytes(stage: &mut Stage, words: &str) -> io::Result<()> {
 }
 
 /// Plays a word that prints something, or reads a file.
-fn play_shown<R: Files + Print + AllocGlobal>(
+fn play_shown<R: Files + Print + AllocGlobal + Threads + Wait + Sync>(
     rt: &R,
     stage: &mut Stage,
     word: &Word<'_>,
@@ -64,7 +72,7 @@ fn play_shown<R: Files + Print + AllocGlobal>(
 }
 
 /// Plays a word. One that says nothing of the next run or the disk goes on to those that print.
-pub fn play<R: Files + Print + AllocGlobal>(
+pub fn play<R: Files + Print + AllocGlobal + Threads + Wait + Sync>(
     rt: &R,
     stage: &mut Stage,
     word: &Word<'_>,
@@ -81,6 +89,10 @@ pub fn play<R: Files + Print + AllocGlobal>(
         Word::Add(words) => add_bytes(stage, words)?,
         Word::Keep => stage.keep()?,
         Word::Back => stage.put_back()?,
+        Word::Door(fail_at) => stage.doors.add_door(fail_at)?,
+        Word::Link(limit) => stage.doors.add_link(limit)?,
+        Word::Get(target) => stage.doors.add_get(target)?,
+        Word::Post(call) => stage.doors.add_post(call)?,
         _ => play_shown(rt, stage, word)?,
     }
     Ok(())

@@ -1,9 +1,13 @@
 //! A disk in memory between runs, and what the next run is given.
 
+use crate::doors::Doors;
 use cf_base::{MemSink, MemSource};
 use cf_disk::MemDisk;
-use cf_top::{Ran, Status, run};
+use cf_links::MemDoor;
+use cf_top::{Ran, Status, run, run_desk};
 use std::alloc::{AllocError, Global};
+use std::sync::Wait;
+use std::thread::Threads;
 
 /// What stands on the disk, and what the next run is given.
 #[derive(Drop)]
@@ -23,6 +27,8 @@ pub struct Stage {
     pub stop: u64,
     /// How many bytes the output takes.
     pub limit: usize,
+    /// What comes at the doors of the next run.
+    pub doors: Doors,
     /// What the disk held before the last run.
     pub before: Vec<u8>,
     /// The disk of the last run.
@@ -54,27 +60,12 @@ fn words_of(alloc: Global, text: &str) -> Result<Vec<String>, AllocError> {
     Ok(words)
 }
 
-/// A run of these words over a disk, with an output that takes so many bytes.
-pub fn run_over(
-    alloc: Global,
-    words: &str,
-    chart: &str,
-    lines: &str,
-    disk: MemDisk,
-    limit: usize,
-) -> Result<Left, AllocError> {
-    let words = words_of(alloc, words)?;
-    let mut chart = source(alloc, chart)?;
+/// A desk with these lines over a disk.
+pub fn desk_over(alloc: Global, lines: &str, disk: MemDisk) -> Result<Left, AllocError> {
+    let words = words_of(alloc, "desk")?;
     let mut input = source(alloc, lines)?;
-    let mut out = MemSink::limited(alloc, limit);
-    let Ran { status, disk } = run(
-        alloc,
-        words.as_slice(),
-        &mut chart,
-        &mut input,
-        &mut out,
-        disk,
-    );
+    let mut out = MemSink::limited(alloc, usize::MAX);
+    let Ran { status, disk } = run_desk(alloc, words.as_slice(), &mut input, &mut out, disk);
     Ok(Left { status, out, disk })
 }
 
@@ -108,20 +99,39 @@ impl Stage {
             fails: Vec::new(alloc),
             stop: 0,
             limit: usize::MAX,
+            doors: Doors::new(alloc),
             before: Vec::new(alloc),
             last: None,
         }
     }
 
-    /// A run of these words with what was prepared.
-    fn ran(&self, words: &str) -> Result<Left, AllocError> {
+    /// A run of these words at these doors, with what was prepared.
+    fn ran<R: Threads + Wait + Sync>(
+        &self,
+        rt: &R,
+        words: &str,
+        doors: &mut Vec<MemDoor>,
+    ) -> Result<Left, AllocError> {
         let (fails, stop) = (self.fails.as_slice(), self.stop);
         let disk = disk_with(self.alloc, self.bytes.as_slice(), fails, stop)?;
-        let (chart, lines) = (self.chart.as_str(), self.lines.as_str());
-        run_over(self.alloc, words, chart, lines, disk, self.limit)
+        let words = words_of(self.alloc, words)?;
+        let mut chart = source(self.alloc, self.chart.as_str())?;
+        let mut input = source(self.alloc, self.lines.as_str())?;
+        let mut out = MemSink::limited(self.alloc, self.limit);
+        let Ran { status, disk } = run(
+            rt,
+            self.alloc,
+            words.as_slice(),
+            &mut chart,
+            &mut input,
+            &mut out,
+            disk,
+            doors,
+        );
+        Ok(Left { status, out, disk })
     }
 
-    /// Puts what a run left on the disk. The next run has no faults and no lines.
+    /// Puts what a run left on the disk. The next run has no faults, no lines and no doors.
     fn keep_left(&mut self, disk: MemDisk) -> Result<(), AllocError> {
         self.before = Vec::from_slice(self.alloc, self.bytes.as_slice())?;
         self.bytes = Vec::from_slice(self.alloc, disk.bytes())?;
@@ -133,11 +143,16 @@ impl Stage {
         Ok(())
     }
 
-    /// Runs these words: how it ended, and what it printed.
-    pub fn run_words(&mut self, words: &str) -> Result<(Status, MemSink), AllocError> {
-        let Left { status, out, disk } = self.ran(words)?;
+    /// Runs these words: how it ended, what it printed, and the doors.
+    pub fn run_words<R: Threads + Wait + Sync>(
+        &mut self,
+        rt: &R,
+        words: &str,
+    ) -> Result<(Status, MemSink, Vec<MemDoor>), AllocError> {
+        let mut doors = self.doors.take()?;
+        let Left { status, out, disk } = self.ran(rt, words, &mut doors)?;
         self.keep_left(disk)?;
-        Ok((status, out))
+        Ok((status, out, doors))
     }
 
     /// Adds a line for the next desk.

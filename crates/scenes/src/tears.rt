@@ -1,7 +1,7 @@
 //! A desk over each image that a crash may leave.
 
 use crate::images::{TEARS, Tear, image_after};
-use crate::stage::{Left, Stage, disk_with, run_over};
+use crate::stage::{Left, Stage, desk_over, disk_with};
 use crate::status::brief_text;
 use cf_top::Status;
 use std::alloc::{AllocError, Global};
@@ -42,8 +42,7 @@ fn left_text(alloc: Global, left: &Left, image: &[u8]) -> Result<String, AllocEr
 /// The same of a desk whose disk stops at a call, or at none.
 fn said_over(stage: &Stage, image: &[u8], stop: u64) -> Result<String, AllocError> {
     let disk = disk_with(stage.alloc, image, &[], stop)?;
-    let lines = stage.lines.as_str();
-    let left = run_over(stage.alloc, "desk", "", lines, disk, usize::MAX)?;
+    let left = desk_over(stage.alloc, stage.lines.as_str(), disk)?;
     left_text(stage.alloc, &left, image)
 }
 

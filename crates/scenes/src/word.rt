@@ -11,6 +11,10 @@ pub enum Word<'a> {
     Fail(u64),
     Stop(u64),
     Limit(usize),
+    Door(u64),
+    Link(usize),
+    Get(&'a str),
+    Post(&'a str),
     Run(&'a str),
     Calls,
     Empty,
@@ -54,6 +58,22 @@ fn set(rest: &str) -> Word<'_> {
     }
 }
 
+/// How many bytes a link takes: all, where the script doesn't say.
+fn link_limit(word: &str) -> usize {
+    word.parse::<usize>().unwrap_or(usize::MAX)
+}
+
+/// A word of what comes at the next doors.
+fn door_word<'a>(verb: &str, rest: &'a str) -> Word<'a> {
+    match verb {
+        "door" => Word::Door(number(rest)),
+        "link" => Word::Link(link_limit(rest)),
+        "get" => Word::Get(rest),
+        "post" => Word::Post(rest),
+        _ => disk_word(verb, rest),
+    }
+}
+
 /// A word of what the disk holds. What is none of the words is a heading.
 fn disk_word<'a>(verb: &str, rest: &'a str) -> Word<'a> {
     match verb {
@@ -85,6 +105,6 @@ pub fn word_of(line: &str) -> Word<'_> {
         "limit" => Word::Limit(size(rest)),
         "run" => Word::Run(rest),
         "calls" => Word::Calls,
-        _ => disk_word(verb, rest),
+        _ => door_word(verb, rest),
     }
 }

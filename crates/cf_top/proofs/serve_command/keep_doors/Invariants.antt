@@ -1,0 +1,12 @@
+use Rattle.cf_hall.specs.OpeningNames.{name_at}
+use Rattle.cf_top.proofs.serve_command.keep_doors.Given as goal
+
+abbrev pub ghosts-serve_hall : goal.ghosts-serve_hall
+ghosts-serve_hall g a = record {
+  table = a.opening.turns;
+  plan = a.chart;
+  stripes = name_at a.opening.stripes;
+  accepted = a.opening.accepted.name;
+  faulted = a.opening.faulted.name;
+  risen = g.D.Disk.faults a.book.disk;
+}

@@ -1,0 +1,315 @@
+//! The run of `serve`.
+
+ghost use Rattle.std.specs.Prelude.{◌≡◌, ◌⊎◌, ◌+◌, ◌-◌, ◌≤◌, ◌<◌, ◌++◌, ℕ, [], Some, IfOk, drop, length, map, reverse, string_bytes, take};
+ghost use Rattle.std.specs.Vec.{vec_len, vec_capacity};
+ghost use Rattle.cf_base.specs.Causes.{Rose};
+ghost use Rattle.cf_talk.specs.ServeEnds.{served_text};
+ghost use Rattle.cf_book.specs.declared.refused.BookRefused.TheVariants as refused;
+ghost use Rattle.cf_top.specs.declared.serve_command.Kept.TheVariants as kept;
+ghost use Rattle.cf_top.specs.Devices.{device, door_kind};
+ghost use Rattle.cf_top.specs.Serves.{KeepsDoors, PutsLine, ServeEnds, TellsKept, kept_of};
+ghost use Rattle.cf_words.specs.Words.{command_of};
+
+use crate::running::Ran;
+use crate::status::{Status, refusal_status};
+use cf_base::Sink;
+use cf_book::{BookRefused, NotOpened, open_with_chart};
+use cf_desk::write_all;
+use cf_disk::Disk;
+use cf_hall::Opening;
+use cf_http::Door;
+use cf_serve::{ServeEnd, serve_hall};
+use cf_words::{Command, WordsRefused, read_words};
+use itoa::Buffer;
+use std::alloc::{AllocError, Global};
+use std::marker::Brand;
+use std::sync::Wait;
+use std::thread::Threads;
+
+/// How the doors of a city were kept.
+#[derive(Clone, Copy)]
+pub enum Kept {
+    /// To their ends: so many links were served.
+    Served { links: u64 },
+    /// A door failed. The others were kept to their ends.
+    Failed,
+    /// No link was served.
+    Unopened { why: BookRefused },
+}
+
+/// What a run of `serve` takes before it opens the journal: nothing that it does later wants memory.
+#[derive(Drop)]
+struct Prepared<R: Drop> {
+    opening: Opening,
+    /// Room for the doors that are served, and for the others.
+    first: Vec<R>,
+    others: Vec<R>,
+}
+
+/// How many bytes the line has at most that says what was served.
+const LINE_ROOM: usize = 64;
+
+/// What serving at so many doors of these takes, and room for the line.
+fn prepare<R: Drop>(
+    alloc: Global,
+    first: usize,
+    others: usize,
+) -> Result<(Prepared<R>, Vec<u8>), AllocError>
+    ensures first { IfOk result (λ p. (p.0.first.items ≡ []) × (first ≤ vec_capacity p.0.first)) }
+    ensures others { IfOk result (λ p. (p.0.others.items ≡ []) × (others ≤ vec_capacity p.0.others)) }
+    ensures line { IfOk result (λ p. (p.1.items ≡ []) × (64 ≤ vec_capacity p.1)) }
+{
+    let opening = Opening::new(alloc)?;
+    let first = Vec::with_capacity(alloc, first)?;
+    let others = Vec::with_capacity(alloc, others)?;
+    let line = Vec::with_capacity(alloc, LINE_ROOM)?;
+    let prepared = Prepared {
+        opening,
+        first,
+        others,
+    };
+    Ok((prepared, line))
+}
+
+/// Appends a piece where there is room for it.
+fn put(out: &mut Vec<u8>, piece: &str)
+    requires { vec_len out.old + length piece.now ≤ vec_capacity out.old }
+    ensures text { out.new.items ≡ out.old.items ++ piece.now }
+    ensures length { vec_len out.new ≡ vec_len out.old + length piece.now }
+    ensures capacity { vec_capacity out.old ≤ vec_capacity out.new }
+{
+    let _ = out.extend_from_slice(piece.as_bytes());
+}
+
+/// The line that says how many links were served.
+fn put_served(line: &mut Vec<u8>, links: u64)
+    requires empty { line.old.items ≡ [] }
+    requires room { 64 ≤ vec_capacity line.old }
+    ensures { line.new.items ≡ served_text links }
+{
+    put(line, "served ");
+    let mut buffer = Buffer::new();
+    put(line, buffer.format(links));
+    put(line, " links\n");
+}
+
+/// Writes a line.
+fn put_line<O: Sink>(line: &[u8], out: &mut O) -> Status
+    ensures line { PutsLine line.now (O.held out.old) (O.held out.new) result }
+    ensures write { result ≡ Status.WriteFault → Rose (O.faults out.old) (O.faults out.new) }
+{
+    match write_all(out, line) {
+        Ok(()) => Status::Ok,
+        Err(_) => Status::WriteFault,
+    }
+}
+
+/// Says what was served, in room that was taken for it.
+fn tell_kept<O: Sink>(kept: Kept, line: &mut Vec<u8>, out: &mut O) -> Status
+    requires empty { line.old.items ≡ [] }
+    requires room { 64 ≤ vec_capacity line.old }
+    ensures told { TellsKept kept (O.held out.old) (O.held out.new) result }
+    ensures write { result ≡ Status.WriteFault → Rose (O.faults out.old) (O.faults out.new) }
+    ensures quiet { result ≡ Status.NoMemory → O.faults out.new ≡ O.faults out.old }
+{
+    match kept {
+        Kept::Served { links } => {
+            put_served(line, links);
+            put_line(line.as_slice(), out)
+        }
+        Kept::Failed => Status::DoorFault,
+        Kept::Unopened { why } => refusal_status(why),
+    }
+}
+
+/// Moves the doors past the first so many to another list, the last one first. It takes no memory.
+fn take_others<R>(doors: &mut Vec<R>, first: usize, others: &mut Vec<R>)
+    requires enough { first ≤ length doors.old.items }
+    requires empty { others.old.items ≡ [] }
+    requires room { length doors.old.items - first ≤ vec_capacity others.old }
+    ensures first { doors.new.items ≡ take first doors.old.items }
+    ensures others { others.new.items ≡ reverse (drop first doors.old.items) }
+    ensures capacity { vec_capacity doors.new ≡ vec_capacity doors.old }
+{
+    for _ in first..doors.len() {
+        if let Some(door) = doors.pop() {
+            others.push_reserved(door);
+        }
+    }
+}
+
+/// Moves doors to the end of another list, which has room for them.
+fn move_all<R>(from: &mut Vec<R>, to: &mut Vec<R>)
+    requires { length to.old.items + length from.old.items ≤ vec_capacity to.old }
+    ensures to { to.new.items ≡ to.old.items ++ from.old.items }
+    ensures from { from.new.items ≡ [] }
+    ensures capacity { vec_capacity to.old ≤ vec_capacity to.new }
+    ensures other_capacity { vec_capacity from.new ≡ vec_capacity from.old }
+{
+    let _ = to.append(from);
+}
+
+/// How the doors were kept, where their hall ended so.
+fn kept_by(end: ServeEnd, links: u64) -> Kept
+    ensures { result ≡ kept_of links end }
+{
+    match end {
+        ServeEnd::Served => Kept::Served { links },
+        ServeEnd::DoorFailed => Kept::Failed,
+        ServeEnd::NoMemory => Kept::Unopened {
+            why: BookRefused::NoMemory,
+        },
+    }
+}
+
+/// Opens the journal of the disk, and serves links at each door. The names of the hall are picked at its one call.
+fn keep_doors<H: Threads + Wait + Sync, D: Disk + Drop + Send, R: Door + Drop + Send>(
+    rt: &H,
+    alloc: Global,
+    opening: Opening,
+    doors: &mut Vec<R>,
+    links: u32,
+    disk: D,
+) -> (Kept, D)
+where
+    R::Link: Send,
+    requires few { length doors.old.items ≤ 16 }
+    ensures keeps { KeepsDoors (device D.tells D.content D.is_image D.moment D.was_image D.faults)
+        (door_kind R.Link.received R.Link.sent R.Link.ended R.Link.faults R.tells R.finished R.given R.coming R.faults)
+        links disk result.1 doors.old.items doors.new.items result.0 }
+    ensures len { length doors.new.items ≡ length doors.old.items }
+    ensures disk { result.0 ≡ kept.Unopened refused.Disk → Rose (D.faults disk) (D.faults result.1) }
+    ensures memory { result.0 ≡ kept.Unopened refused.NoMemory → D.faults result.1 ≡ D.faults disk }
+{
+    match open_with_chart(alloc, disk) {
+        Ok((book, chart)) => {
+            let served = serve_hall::<Brand, D, H, R>(
+                rt, alloc, book, chart, opening, doors, links,
+            );
+            (kept_by(served.end, served.links), served.disk)
+        }
+        Err(NotOpened { disk, why }) => (Kept::Unopened { why }, disk),
+    }
+}
+
+/// Serves links at the first doors, which stand in a list of their own meanwhile, and puts all doors back in their order.
+fn keep_first<H: Threads + Wait + Sync, D: Disk + Drop + Send, R: Door + Drop + Send>(
+    rt: &H,
+    alloc: Global,
+    prepared: Prepared<R>,
+    count: usize,
+    links: u32,
+    disk: D,
+    doors: &mut Vec<R>,
+) -> (Kept, D)
+where
+    R::Link: Send,
+    requires empty { (prepared.first.items ≡ []) × (prepared.others.items ≡ []) }
+    requires room { (count ≤ vec_capacity prepared.first) × (length doors.old.items - count ≤ vec_capacity prepared.others) }
+    requires enough { count ≤ length doors.old.items }
+    requires few { count ≤ 16 }
+    ensures keeps { KeepsDoors (device D.tells D.content D.is_image D.moment D.was_image D.faults)
+        (door_kind R.Link.received R.Link.sent R.Link.ended R.Link.faults R.tells R.finished R.given R.coming R.faults)
+        links disk result.1 (take count doors.old.items) (take count doors.new.items) result.0 }
+    ensures others { drop count doors.new.items ≡ drop count doors.old.items }
+    ensures disk { result.0 ≡ kept.Unopened refused.Disk → Rose (D.faults disk) (D.faults result.1) }
+    ensures memory { result.0 ≡ kept.Unopened refused.NoMemory → D.faults result.1 ≡ D.faults disk }
+{
+    let Prepared {
+        opening,
+        mut first,
+        mut others,
+    } = prepared;
+    take_others(doors, count, &mut others);
+    move_all(doors, &mut first);
+    let kept = keep_doors(rt, alloc, opening, &mut first, links, disk);
+    move_all(&mut first, doors);
+    others.reverse();
+    move_all(&mut others, doors);
+    kept
+}
+
+/// Serves links at so many doors, and says how many it served. Where there are fewer doors, the words are bad.
+fn serve_over<H: Threads + Wait + Sync, O: Sink, D: Disk + Drop + Send, R: Door + Drop + Send>(
+    rt: &H,
+    alloc: Global,
+    count: usize,
+    links: u32,
+    out: &mut O,
+    disk: D,
+    doors: &mut Vec<R>,
+) -> Ran<D>
+where
+    R::Link: Send,
+    requires few { count ≤ 16 }
+    ensures ends { ServeEnds (device D.tells D.content D.is_image D.moment D.was_image D.faults)
+        (door_kind R.Link.received R.Link.sent R.Link.ended R.Link.faults R.tells R.finished R.given R.coming R.faults)
+        count links disk result.disk doors.old.items doors.new.items (O.held out.old) (O.held out.new) result.status }
+    ensures write { result.status ≡ Status.WriteFault → Rose (O.faults out.old) (O.faults out.new) }
+    ensures disk { result.status ≡ Status.DiskFault → Rose (D.faults disk) (D.faults result.disk) }
+    ensures memory { result.status ≡ Status.NoMemory → (O.faults out.new ≡ O.faults out.old) × (D.faults result.disk ≡ D.faults disk) }
+    ensures words { result.status ≡ Status.BadWords → length doors.old.items < count }
+{
+    if doors.len() < count {
+        return Ran {
+            status: Status::BadWords,
+            disk,
+        };
+    }
+    match prepare(alloc, count, doors.len() - count) {
+        Ok((prepared, mut line)) => {
+            let (kept, disk) = keep_first(rt, alloc, prepared, count, links, disk, doors);
+            let status = tell_kept(kept, &mut line, out);
+            Ran { status, disk }
+        }
+        Err(_) => Ran {
+            status: Status::NoMemory,
+            disk,
+        },
+    }
+}
+
+/// The run of `serve`: opens the journal, and serves so many links at each of the first doors, each door by a thread of
+/// its own. It says how many links it served. Other words, and words that ask for more doors than there are, are `BadWords`,
+/// and nothing is read or written.
+pub fn run_serve<H: Threads + Wait + Sync, O: Sink, D: Disk + Drop + Send, R: Door + Drop + Send>(
+    rt: &H,
+    alloc: Global,
+    words: &[String],
+    out: &mut O,
+    disk: D,
+    doors: &mut Vec<R>,
+) -> Ran<D>
+where
+    R::Link: Send,
+    ensures ends { (port count links : ℕ) → command_of (map string_bytes words.now) ≡ Some (Command.Serve port count links)
+        → ServeEnds (device D.tells D.content D.is_image D.moment D.was_image D.faults)
+        (door_kind R.Link.received R.Link.sent R.Link.ended R.Link.faults R.tells R.finished R.given R.coming R.faults)
+        count links disk result.disk doors.old.items doors.new.items (O.held out.old) (O.held out.new) result.status }
+    ensures short { (port count links : ℕ) → command_of (map string_bytes words.now) ≡ Some (Command.Serve port count links)
+        → result.status ≡ Status.BadWords → length doors.old.items < count }
+    ensures words { ((port count links : ℕ) → command_of (map string_bytes words.now) ≡ Some (Command.Serve port count links) → ⊥)
+        → ((result.status ≡ Status.BadWords) ⊎ (result.status ≡ Status.NoMemory)) × (O.held out.new ≡ O.held out.old)
+        × (doors.new.items ≡ doors.old.items) × (result.disk ≡ disk) }
+    ensures write { result.status ≡ Status.WriteFault → Rose (O.faults out.old) (O.faults out.new) }
+    ensures disk { result.status ≡ Status.DiskFault → Rose (D.faults disk) (D.faults result.disk) }
+    ensures memory { result.status ≡ Status.NoMemory → (O.faults out.new ≡ O.faults out.old) × (D.faults result.disk ≡ D.faults disk) }
+{
+    match read_words(alloc, words) {
+        Ok(
+            Command::Serve {
+                doors: count,
+                links,
+                ..
+            },
+        ) => serve_over(rt, alloc, count as usize, links, out, disk, doors),
+        Ok(_) | Err(WordsRefused::BadWords) => Ran {
+            status: Status::BadWords,
+            disk,
+        },
+        Err(WordsRefused::NoMemory) => Ran {
+            status: Status::NoMemory,
+            disk,
+        },
+    }
+}
