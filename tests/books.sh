@@ -13,28 +13,8 @@ fi
 scratch=$(mktemp -d) || exit 1
 trap 'rm -rf "$scratch"' EXIT
 mkdir "$scratch/first" "$scratch/again"
-passed=0
-failed=0
-
-# verdict NAME WHETHER-IT-HOLDS
-verdict() {
-    if [ "$2" -eq 0 ]; then
-        passed=$((passed + 1))
-    else
-        failed=$((failed + 1))
-        echo "failed: $1"
-    fi
-}
-
-# expect NAME STATUS TEXT WORDS..: runs books in the first folder; TEXT is all that it says.
-expect() {
-    name=$1 wanted=$2 text=$3
-    shift 3
-    said=$(cd "$scratch/first" && "$books" "$@" 2>&1 < /dev/null)
-    status=$?
-    [ "$status" -eq "$wanted" ] && [ "$said" = "$text" ]
-    verdict "$name: status $status: $said" $?
-}
+. tests/expect.sh
+tried=$books folder=$scratch/first
 
 # found FOLDER CHART: a newly founded journal.
 found() {
@@ -129,6 +109,8 @@ expect "two files" 2 "books: bad words" list fund.journal fund.journal
 expect "records of another command" 2 "books: bad words" calls --csv
 expect "an unknown option" 2 "books: bad words" list --tsv
 sed 's/^window = 60$/window = 61/' examples/rivertown/chart.toml > "$scratch/first/window.toml"
+sed 's/^level = "department"$/level = "dept"/' examples/rivertown/chart.toml > "$scratch/first/level.toml"
+expect "a bad level, with the id of its row" 3 "books: chart refused: fund 1 (id 2) has a bad level" check-chart level.toml
 expect "a window of 61 days" 3 "books: chart refused: source 1 has a window of 61 days" check-chart window.toml
 "$books" --help > "$scratch/help" 2> "$scratch/err" && grep -q '^books calls' "$scratch/help" && [ ! -s "$scratch/err" ]
 verdict "help" $?
@@ -154,5 +136,4 @@ verdict "a journal that a desk holds" $?
 exec 3>&-
 wait $!
 
-echo "books: $passed passed, $failed failed"
-[ "$failed" -eq 0 ]
+summary books

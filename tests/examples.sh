@@ -13,28 +13,8 @@ city=$scratch/city
 mkdir -p "$city/out"
 cp cityfund "$city/cityfund"
 cp "$program" "$city/out/cityfund"
-passed=0
-failed=0
-
-# verdict NAME WHETHER-IT-HOLDS
-verdict() {
-    if [ "$2" -eq 0 ]; then
-        passed=$((passed + 1))
-    else
-        failed=$((failed + 1))
-        echo "failed: $1"
-    fi
-}
-
-# expect NAME STATUS TEXT COMMAND..: runs the command in the folder of the journal.
-expect() {
-    name=$1 wanted=$2 text=$3
-    shift 3
-    said=$(cd "$scratch" && "$city/cityfund" "$@" 2>&1 < /dev/null)
-    status=$?
-    [ "$status" -eq "$wanted" ] && [ "$said" = "$text" ]
-    verdict "$name: status $status: $said" $?
-}
+. tests/expect.sh
+tried=$city/cityfund folder=$scratch
 
 # talk LINES REPLIES: a desk over the journal that is there.
 talk() {
@@ -145,5 +125,4 @@ verdict "the launcher" $?
 sh tests/books.sh
 verdict "the program books" $?
 
-echo "examples: $passed passed, $failed failed"
-[ "$failed" -eq 0 ]
+summary examples

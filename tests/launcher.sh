@@ -5,21 +5,17 @@ cd "$(dirname "$0")/.." || exit 1
 scratch=$(mktemp -d) || exit 1
 trap 'rm -rf "$scratch"' EXIT
 city=$scratch/city
-passed=0
-failed=0
+. tests/expect.sh
 
-# expect NAME STATUS TEXT COMMAND..: runs the command in the folder of the journal; TEXT is the last line of what it says.
+# expect NAME STATUS TEXT COMMAND..: runs the command in the folder of the journal, with the stub of rt on the path; TEXT is the last
+# line of what it says.
 expect() {
     name=$1 wanted=$2 text=$3
     shift 3
     said=$(cd "$scratch/desk" && PATH=$scratch/kit:$PATH "$@" 2>&1 < /dev/null)
     status=$?
-    if [ "$status" -eq "$wanted" ] && [ "$(echo "$said" | tail -n 1)" = "$text" ]; then
-        passed=$((passed + 1))
-    else
-        failed=$((failed + 1))
-        echo "failed: $name: status $status: $said"
-    fi
+    [ "$status" -eq "$wanted" ] && [ "$(echo "$said" | tail -n 1)" = "$text" ]
+    verdict "$name: status $status: $said" $?
 }
 
 # rt STATUS NAME: from now on rt builds the program NAME and ends with this status, for `books` with 4 in place of 7; where
@@ -91,5 +87,4 @@ expect "found beside one byte" 0 "new found" "$city/cityfund" found
 : > "$scratch/desk/fund.journal"
 expect "found beside an empty file" 0 "new found" "$city/cityfund" found
 
-echo "launcher: $passed passed, $failed failed"
-[ "$failed" -eq 0 ]
+summary launcher
