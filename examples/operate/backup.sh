@@ -1,0 +1,47 @@
+#!/bin/sh
+# Copies the journal of the folder JOURNAL to the folder COPIES, while the desks are at work, and tries the copy:
+#
+#     backup.sh JOURNAL COPIES
+#
+# The copy is kept as the moment's name with .journal, with its checksum in COPIES/checksums, once the rules judged each entry again,
+# all entries of the last copy were found in it, and a desk opened it in a folder of its own. Else it says what is wrong, keeps
+# the copy that it made as refused.journal, and ends with 1. CITYFUND names the folder of the programs (/opt/cityfund).
+city=${CITYFUND:-/opt/cityfund}
+journal=$1/fund.journal
+copies=$2
+umask 077
+
+fail() {
+    [ ! -e "$scratch/fund.journal" ] || mv -f "$scratch/fund.journal" "$copies/refused.journal"
+    echo "backup: failed: $1" >&2
+    exit 1
+}
+
+[ $# -eq 2 ] || { echo "backup.sh JOURNAL COPIES" >&2; exit 2; }
+scratch=$(mktemp -d "$copies/trial.XXXXXX") || exit 1
+trap 'rm -rf "$scratch"' EXIT
+trap 'exit 1' HUP INT TERM
+
+# A desk that takes an entry back in the very moment, after a fault of the disk, can make a copy look damaged: then another is made.
+tries=3
+until cp "$journal" "$scratch/fund.journal" && "$city/books" check "$scratch/fund.journal" > "$scratch/has"; do
+    tries=$((tries - 1))
+    [ "$tries" -gt 0 ] || fail "$journal can't be copied, or isn't sound"
+    sleep 1
+done
+
+last=$(find "$copies" -maxdepth 1 -name '2*.journal' | sort | tail -n 1)
+if [ -n "$last" ]; then
+    (cd "$copies" && tail -n 1 checksums | sha256sum --check --status) || fail "$last isn't what it was: see its checksum"
+    "$city/books" calls "$last" > "$scratch/before" && "$city/books" calls "$scratch/fund.journal" > "$scratch/now" ||
+        fail "the calls of $last can't be read"
+    head -n "$(wc -l < "$scratch/before")" "$scratch/now" | cmp -s - "$scratch/before" || fail "entries of $last aren't in the journal"
+fi
+
+(cd "$scratch" && "$city/cityfund" desk < /dev/null) || fail "no desk opens the copy"
+
+name=$(date -u +%Y-%m-%dT%H%M%SZ).journal
+[ ! -e "$copies/$name" ] || fail "$name is there"
+mv "$scratch/fund.journal" "$copies/$name" && (cd "$copies" && sha256sum "$name" >> checksums && sync "$name" checksums) ||
+    fail "$copies can't be written"
+echo "backup: $name: $(tr '\n' ' ' < "$scratch/has")"

@@ -1,0 +1,34 @@
+// Lets a user change things for its own desk alone: copied to /etc/cityfund/desk.js, and used by nginx.conf.
+//
+// The program takes the desk of a call as given. Of two fields of one name both JSON.parse and the program take the last, and what
+// JSON.parse doesn't read goes to no door. A call without a desk can change nothing: it is a look, or in no form.
+
+function said(r, code, body) {
+    r.headersOut['Content-Type'] = 'application/json';
+    r.return(code, JSON.stringify(body));
+}
+
+function post(r) {
+    // What isn't a POST is no call, and a door says so.
+    if (r.method !== 'POST') {
+        return r.internalRedirect('@doors');
+    }
+    var text, call;
+    try {
+        text = r.requestText;
+    } catch (fault) {
+        // It came in so many chunks that nginx keeps it in a file.
+        return said(r, 413, {form: 'long'});
+    }
+    try {
+        call = JSON.parse(text);
+    } catch (fault) {
+        return said(r, 400, {form: 'json'});
+    }
+    if (call !== null && call.desk !== undefined && call.desk !== Number(r.variables.cityfund_desk)) {
+        return said(r, 403, {proxy: 'not your desk'});
+    }
+    r.internalRedirect('@doors');
+}
+
+export default {post};
