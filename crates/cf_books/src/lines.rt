@@ -7,7 +7,7 @@ ghost use Rattle.cf_books.specs.Rows.{Adds};
 
 use crate::rows::{decimal_text, put_row, writer, written};
 use cf_chart::{Chart, Department, Fund, Line, LinePart, Object};
-use cf_json::parts::put_number;
+use cf_members::parts::put_number;
 use csv::Writer;
 use std::alloc::{AllocError, Global};
 

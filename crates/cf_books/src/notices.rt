@@ -7,7 +7,7 @@ ghost use Rattle.cf_books.specs.Notices as spec;
 use crate::fault_rows::table_word;
 use crate::status::Status;
 use cf_chart::{ChartFault, KeyName, TableName};
-use cf_json::parts::put_number;
+use cf_members::parts::put_number;
 use std::alloc::AllocError;
 
 /// Appends a text.

@@ -3,7 +3,7 @@
 ghost use Rattle.std.specs.Prelude.{◌≡◌, ℕ, List, [], map, IfOk, OnOk, decimal};
 ghost use Rattle.cf_books.specs.Rows.{Adds, Wrote};
 
-use cf_json::parts::put_number;
+use cf_members::parts::put_number;
 use csv::{Writer, WriterBuilder};
 use std::alloc::{AllocError, Global};
 

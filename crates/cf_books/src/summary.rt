@@ -7,7 +7,7 @@ use cf_base::day_text;
 use cf_calls::acts::Period;
 use cf_calls::{Act, Entry};
 use cf_chart::Chart;
-use cf_json::parts::put_number;
+use cf_members::parts::put_number;
 use std::alloc::AllocError;
 
 /// Appends a fact with its name.

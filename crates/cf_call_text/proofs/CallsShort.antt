@@ -7,7 +7,7 @@ use Rattle.cf_calls.specs.declared.acts.Act.TheVariants.{Adopt, Amend, Transfer,
 use Rattle.cf_calls.specs.declared.items.AccountItem.{AccountItem}
 use Rattle.cf_calls.specs.declared.items.VoucherItem.{VoucherItem}
 use Rattle.cf_base.specs.declared.calendar.Day.{Day}
-use Rattle.cf_json.specs.Objects.{count}
+use Rattle.cf_members.specs.Objects.{count}
 use Rattle.cf_calls.specs.declared.acts.AssetAct.TheVariants.{Donate, Dispose}
 use Rattle.cf_calls.specs.declared.acts.LeaveAct.TheVariants.{Earn, Use, Mature}
 use Rattle.cf_calls.specs.declared.acts.FundMoveKind.{FundMoveKind}
@@ -23,7 +23,7 @@ use Rattle.cf_call_text.proofs.ListsBack as items
 use Rattle.std.proofs.lemmas.Bool.{and_parts}
 use Rattle.json.proofs.Printed.Utf8.{are_ascii}
 use Rattle.cf_calls.specs.Form.{is_key_byte}
-use Rattle.cf_json.specs.Objects.{members}
+use Rattle.cf_members.specs.Objects.{members}
 use Rattle.cf_call_text.specs.CallText.{call_word, own_fields, first_fields, optional_field}
 use Rattle.cf_call_text.proofs.Sorted.{can_read, members_can_read}
 

@@ -5,7 +5,7 @@ use Rattle.serde_json.specs.Written.{members_text, comma_if}
 use Rattle.json.specs.Print.{quoted}
 use Rattle.cf_calls.specs.declared.call.Change.{Change}
 use Rattle.cf_calls.specs.declared.items.AccountItem.{AccountItem}
-use Rattle.cf_json.specs.Objects.{fields, count, day, members, text_of}
+use Rattle.cf_members.specs.Objects.{fields, count, day, members, text_of}
 use Rattle.cf_call_text.specs.CallText.{call_word, fields_text, first_fields}
 use Rattle.cf_call_text.specs.Values.{account_fields}
 

@@ -5,7 +5,7 @@ use Rattle.cf_calls.specs.declared.call.Call.TheVariants as call
 use Rattle.cf_calls.specs.declared.call.Change.{Change}
 use Rattle.cf_calls.specs.Form.{IsChangeInForm}
 use Rattle.cf_json.specs.Calls.{call_in, call_of}
-use Rattle.cf_json.specs.Objects.{text_of}
+use Rattle.cf_members.specs.Objects.{text_of}
 use Rattle.cf_call_text.specs.CallText.{call_data, call_text}
 use Rattle.cf_call_text.specs.Fits.{ChangeFits}
 use Rattle.cf_call_text.proofs.ReadBack.{read-compact_text, compact_text-utf8}

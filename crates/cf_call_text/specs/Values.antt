@@ -10,7 +10,7 @@ use Rattle.cf_calls.specs.declared.items.Charge.{Charge}
 use Rattle.cf_calls.specs.declared.items.Charge.TheVariants.{Direct, OnOrder}
 use Rattle.cf_calls.specs.declared.items.Liquidation.{Liquidation}
 use Rattle.cf_calls.specs.declared.items.Liquidation.TheVariants.{Lesser, Recorded, Final}
-use Rattle.cf_json.specs.Objects.{fields, count}
+use Rattle.cf_members.specs.Objects.{fields, count}
 
 -- a whole number that may be negative
 abbrev pub signed : ℤ → Data

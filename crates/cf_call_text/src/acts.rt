@@ -4,7 +4,7 @@ ghost use Rattle.std.specs.Prelude.{◌≡◌, [], ◌∷◌, ◌++◌, true, On
 ghost use Rattle.std.specs.List.{All, list_all};
 ghost use Rattle.cf_calls.specs.declared.acts.Act.TheVariants as act;
 ghost use Rattle.cf_calls.specs.declared.acts.LeaveAct.TheVariants as leave;
-ghost use Rattle.cf_json.specs.Parts.{is_plain};
+ghost use Rattle.cf_members.specs.Parts.{is_plain};
 ghost use Rattle.cf_json.specs.Shown.{list_of};
 ghost use Rattle.cf_call_text.specs.CallText as spec;
 ghost use Rattle.cf_call_text.specs.CallText.{fields_text};
@@ -19,7 +19,7 @@ use cf_calls::acts::{
     NewRequisition, NewVoucher, OrderChange, Payment, Period,
 };
 use cf_calls::items::SourceAmount;
-use cf_json::parts::Part::{Number, True, Word, YearMonth};
+use cf_members::parts::Part::{Number, True, Word, YearMonth};
 use std::alloc::AllocError;
 
 /// Appends a further field that is a list.

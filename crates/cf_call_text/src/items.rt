@@ -5,7 +5,7 @@ ghost use Rattle.std.specs.List.{All};
 ghost use Rattle.serde_json.specs.Data.{Data};
 ghost use Rattle.serde_json.specs.View.{items_of};
 ghost use Rattle.serde_json.specs.Written.{comma_if, items_text};
-ghost use Rattle.cf_json.specs.Objects.{count, text_of};
+ghost use Rattle.cf_members.specs.Objects.{count, text_of};
 ghost use Rattle.cf_json.specs.Shown.{list_of};
 ghost use Rattle.cf_call_text.specs.CallText.{fields_text};
 ghost use Rattle.cf_call_text.specs.Fits.{IsN32, IsN64, LineAmountFits, SourceAmountFits, AccountFits, VoucherItemFits, ChargeFits, LiquidationFits};
@@ -13,8 +13,8 @@ ghost use Rattle.cf_call_text.specs.Values as spec;
 
 use crate::pieces::{put_comma, put_fields};
 use cf_calls::items::{AccountItem, Charge, LineAmount, Liquidation, SourceAmount, VoucherItem};
-use cf_json::parts::Part::{Number, True};
-use cf_json::parts::{put_number, put_object};
+use cf_members::parts::Part::{Number, True};
+use cf_members::parts::{put_number, put_object};
 use std::alloc::AllocError;
 
 /// What stands in a list of a call.
@@ -160,7 +160,7 @@ impl Item for u32 {
 
     ghost fits = { IsN32 };
 
-    #[tactic(auto, unfolding(cf_json::specs::Objects::text_of))]
+    #[tactic(auto, unfolding(cf_members::specs::Objects::text_of))]
     fn put(&self, out: &mut Vec<u8>) -> Result<(), AllocError> {
         put_number(out, *self as u64)
     }
@@ -171,7 +171,7 @@ impl Item for u64 {
 
     ghost fits = { IsN64 };
 
-    #[tactic(auto, unfolding(cf_json::specs::Objects::text_of))]
+    #[tactic(auto, unfolding(cf_members::specs::Objects::text_of))]
     fn put(&self, out: &mut Vec<u8>) -> Result<(), AllocError> {
         put_number(out, *self)
     }
@@ -187,7 +187,7 @@ fn put_item<T: Item>(out: &mut Vec<u8>, later: bool, item: &T) -> Result<(), All
 }
 
 /// Appends a list.
-#[tactic(auto, unfolding(cf_json::specs::Objects::text_of))]
+#[tactic(auto, unfolding(cf_members::specs::Objects::text_of))]
 pub fn put_list<T: Item>(out: &mut Vec<u8>, items: &[T]) -> Result<(), AllocError>
     ensures text { OnOk result (out.new.items ≡ out.old.items ++ text_of (list_of T.value items.now)) }
     ensures fits { OnOk result (All T.fits items.now) }

@@ -5,7 +5,7 @@ ghost use Rattle.std.specs.List.{list_all};
 ghost use Rattle.cf_calls.specs.declared.call.Call.TheVariants as call;
 ghost use Rattle.cf_calls.specs.Form.{IsChangeInForm, is_key};
 ghost use Rattle.cf_json.specs.Calls.{call_of};
-ghost use Rattle.cf_json.specs.Parts.{is_plain};
+ghost use Rattle.cf_members.specs.Parts.{is_plain};
 ghost use Rattle.cf_call_text.specs.CallText as spec;
 ghost use Rattle.cf_call_text.specs.CallText.{call_text, fields_text};
 ghost use Rattle.cf_call_text.specs.Fits.{ChangeFits, HasFit, IsN16, IsN64};
@@ -13,7 +13,7 @@ ghost use Rattle.cf_call_text.specs.Fits.{ChangeFits, HasFit, IsN16, IsN64};
 use crate::acts::put_own;
 use crate::pieces::{put_fields, put_key_field};
 use cf_calls::{Act, Change};
-use cf_json::parts::Part::{Date, Number, Word};
+use cf_members::parts::Part::{Date, Number, Word};
 use std::alloc::AllocError;
 
 /// The word of an act's call.

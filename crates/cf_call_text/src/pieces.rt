@@ -6,12 +6,12 @@ ghost use Rattle.json.specs.Print.{escape_byte, quoted};
 ghost use Rattle.serde_json.specs.Data.{string};
 ghost use Rattle.serde_json.specs.Written.{comma_if};
 ghost use Rattle.cf_calls.specs.Form.{is_key_byte};
-ghost use Rattle.cf_json.specs.Objects.{text_of};
-ghost use Rattle.cf_json.specs.Parts.{is_plain, is_plain_field, fields_of};
+ghost use Rattle.cf_members.specs.Objects.{text_of};
+ghost use Rattle.cf_members.specs.Parts.{is_plain, is_plain_field, fields_of};
 ghost use Rattle.cf_call_text.specs.CallText.{fields_text};
 ghost use Rattle.cf_call_text.specs.Values.{signed};
 
-use cf_json::parts::{Part, put_field, put_quoted};
+use cf_members::parts::{Part, put_field, put_quoted};
 use itoa::Buffer;
 use std::alloc::AllocError;
 
@@ -26,7 +26,7 @@ pub fn put_comma(out: &mut Vec<u8>, later: bool) -> Result<(), AllocError>
 }
 
 /// Appends fields with their names, each behind a comma where something stands before it.
-#[tactic(auto, unfolding(cf_json::specs::Objects::text_of))]
+#[tactic(auto, unfolding(cf_members::specs::Objects::text_of))]
 pub fn put_fields(
     out: &mut Vec<u8>,
     later: bool,
@@ -56,7 +56,7 @@ pub fn put_name(out: &mut Vec<u8>, name: &str) -> Result<(), AllocError>
 }
 
 /// Appends a number that may be negative.
-#[tactic(auto, unfolding(cf_json::specs::Objects::text_of))]
+#[tactic(auto, unfolding(cf_members::specs::Objects::text_of))]
 fn put_signed(out: &mut Vec<u8>, n: i64) -> Result<(), AllocError>
     ensures { OnOk result (out.new.items ≡ out.old.items ++ text_of (signed n)) }
 {
@@ -94,7 +94,7 @@ fn put_key(out: &mut Vec<u8>, key: &[u8]) -> Result<(), AllocError>
 }
 
 /// Appends a further field that is a key.
-#[tactic(auto, unfolding(cf_json::specs::Objects::text_of))]
+#[tactic(auto, unfolding(cf_members::specs::Objects::text_of))]
 pub fn put_key_field(out: &mut Vec<u8>, name: &str, key: &[u8]) -> Result<(), AllocError>
     requires name { list_all is_plain name.now ≡ true }
     requires key { list_all is_key_byte key.now ≡ true }

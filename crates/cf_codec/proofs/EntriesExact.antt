@@ -13,15 +13,15 @@ use Rattle.cf_calls.specs.declared.entry.Entry.{Entry}
 use Rattle.cf_calls.specs.Form.{is_key, IsActInForm, IsDrawn, IsPaymentNumber, IsEntryInForm}
 use Rattle.cf_calls.specs.declared.kind.ActKind.{ActKind}
 use Rattle.cf_calls.specs.declared.kind.ActKind.TheVariants as kind
-use Rattle.cf_codec.specs.Formats.{Format}
-use Rattle.cf_codec.specs.Fields.{half, word, key, day}
-use Rattle.cf_codec.specs.Kinds.{kind_of, kind}
+use Rattle.cf_fields.specs.Formats.{Format}
+use Rattle.cf_fields.specs.Fields.{half, word, key, day}
+use Rattle.cf_fields.specs.Kinds.{kind_of, kind}
 use Rattle.cf_codec.specs.Acts.{act_for}
 use Rattle.cf_codec.specs.Entries.{may_be_on, on_for, none_drawn, one_drawn, two_drawn, payment_drawn, drawn_for, entry, payload, placed, read_of, HasPayload, BeginsWith}
 use Rattle.cf_codec.specs.declared.fault.CodecRefused.{CodecRefused}
 use Rattle.cf_codec.specs.Answers.{Answers}
-use Rattle.cf_codec.proofs.Exact.{IsBytes, IsWhole, Any, step, last, same, whole, ok_is, kept-exact}
-use Rattle.cf_codec.proofs.FieldsExact.{half-exact, word-exact, day-exact, key-exact}
+use Rattle.cf_fields.proofs.Exact.{IsBytes, IsWhole, Any, step, last, same, whole, ok_is, kept-exact}
+use Rattle.cf_fields.proofs.FieldsExact.{half-exact, word-exact, day-exact, key-exact}
 use Rattle.cf_codec.proofs.ActsExact.{kind-exact, ActForm, act-exact}
 
 -- ---- the day

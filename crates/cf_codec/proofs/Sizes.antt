@@ -14,10 +14,10 @@ use Rattle.cf_calls.specs.declared.items.Liquidation.TheVariants.{Lesser, Record
 use Rattle.cf_calls.specs.declared.entry.Drawn.{Drawn}
 use Rattle.cf_calls.specs.declared.entry.Entry.{Entry}
 use Rattle.cf_calls.specs.declared.kind.ActKind.{ActKind}
-use Rattle.cf_codec.specs.Formats.{Format, number_bytes, kept, each_bytes, each_size, list, field, ◌>>=◌, done}
-use Rattle.cf_codec.specs.Fields.{byte, half, word, flag, year, amount, most_amount}
-use Rattle.cf_codec.specs.Kinds.{kind_of, kind}
-use Rattle.cf_codec.specs.Fields.{key}
+use Rattle.cf_fields.specs.Formats.{Format, number_bytes, kept, each_bytes, each_size, list, field, ◌>>=◌, done}
+use Rattle.cf_fields.specs.Fields.{byte, half, word, flag, year, amount, most_amount}
+use Rattle.cf_fields.specs.Kinds.{kind_of, kind}
+use Rattle.cf_fields.specs.Fields.{key}
 use Rattle.cf_codec.specs.Acts.{line_amount, source_amount, account_item, charge, voucher_item, line_amounts, source_amounts, account_items, voucher_items, voucher_numbers, principals, adoption, new_requisition, optional, new_order, new_voucher, payment, issue, act_bytes, act_size, act_for}
 use Rattle.cf_codec.specs.Entries.{drawn_for, on_for, entry, payload}
 

@@ -1,27 +1,10 @@
--- What a reader answers: what the definition gives, or that memory was short.
-use Rattle.std.specs.Prelude.{◌≡◌, ℕ, List, ◌++◌, Result, Ok, Err, ⊤}
-use Rattle.cf_codec.specs.Formats.{and_then}
-use Rattle.cf_codec.specs.declared.fault.Refused.{Refused}
-use Rattle.cf_codec.specs.declared.fault.Refused.TheVariants as refused
+-- What reading an entry answers: what the definition gives, or that memory was short.
+use Rattle.std.specs.Prelude.{◌≡◌, ℕ, Result, Ok, Err, ⊤}
 use Rattle.cf_codec.specs.declared.fault.CodecRefused.{CodecRefused}
 use Rattle.cf_codec.specs.declared.fault.CodecRefused.TheVariants.{Fault, NoMemory}
-
--- a reader of a part answers with this refusal
-abbrev pub Fails : {B : Type 0} → Refused → Result B ℕ → Type 0
-Fails (refused.Faulty left) x = x ≡ Err left
-Fails refused.NoMemory x = ⊤
-
--- what a reader of a part gives, its bytes seen as a list, is this
-abbrev pub Gives : {A B : Type 0} → (A → B) → Result A Refused → Result B ℕ → Type 0
-Gives view (Ok a) x = x ≡ Ok (view a)
-Gives view (Err e) x = Fails e x
 
 -- the answer is this one, or memory was short
 abbrev pub Answers : {A : Type 0} → Result A CodecRefused → Result A ℕ → Type 0
 Answers (Ok a) x = x ≡ Ok a
 Answers (Err (Fault f)) x = x ≡ Err f.offset
 Answers (Err NoMemory) x = ⊤
-
--- what was read before, in front of what is still read
-abbrev pub with_front : {A : Type 0} → List A → Result (List A × List ℕ) ℕ → Result (List A × List ℕ) ℕ
-with_front front reading = and_then reading (λ xs rest. Ok (front ++ xs, rest))

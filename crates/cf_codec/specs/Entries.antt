@@ -9,9 +9,9 @@ use Rattle.cf_calls.specs.declared.entry.Entry.{Entry}
 use Rattle.cf_calls.specs.Form.{IsEntryInForm}
 use Rattle.cf_calls.specs.declared.kind.ActKind.{ActKind}
 use Rattle.cf_calls.specs.declared.kind.ActKind.TheVariants as kind
-use Rattle.cf_codec.specs.Formats.{Format, kept, field, ◌>>=◌, done}
-use Rattle.cf_codec.specs.Fields.{half, word, key, day}
-use Rattle.cf_codec.specs.Kinds.{kind_of, kind}
+use Rattle.cf_fields.specs.Formats.{Format, kept, field, ◌>>=◌, done}
+use Rattle.cf_fields.specs.Fields.{half, word, key, day}
+use Rattle.cf_fields.specs.Kinds.{kind_of, kind}
 use Rattle.cf_codec.specs.Acts.{act_for}
 
 -- a bond is issued on a day from 1 to 28 of its month

@@ -3,13 +3,9 @@
 
 mod fault;
 mod items;
-mod kind;
-mod lists;
 mod measure;
-mod put;
 mod put_acts;
 mod read;
-mod take;
 mod take_acts;
 mod write;
 

@@ -8,10 +8,10 @@ ghost use Rattle.cf_codec.specs.Entries as entries;
 use crate::items::{
     AccountElement, LineElement, Principal, SourceElement, VoucherElement, VoucherNumber,
 };
-use crate::lists::list_len;
 use cf_base::Day;
 use cf_calls::acts::{Adoption, AssetAct, LeaveAct, Period};
 use cf_calls::{Act, Entry};
+use cf_fields::lists::list_len;
 
 fn adoption_len(adoption: &Adoption) -> u64
     requires { IsAdoptionForm adoption.now }

@@ -3,21 +3,21 @@
 ghost use Rattle.std.specs.Prelude.{◌≡◌, ◌<◌, true, length};
 ghost use Rattle.cf_calls.specs.Form.{IsActInForm, IsAdoptionForm, is_period};
 ghost use Rattle.cf_codec.specs.Acts as spec;
-ghost use Rattle.cf_codec.specs.Kinds.{kind_of};
-ghost use Rattle.cf_codec.specs.Puts.{Adds, HasRoom, Puts};
+ghost use Rattle.cf_fields.specs.Kinds.{kind_of};
+ghost use Rattle.cf_fields.specs.Puts.{Adds, HasRoom, Puts};
 
 use crate::items::{
     AccountElement, LineElement, Principal, SourceElement, VoucherElement, VoucherNumber,
-};
-use crate::lists::{Element, put_list};
-use crate::put::{
-    put_byte, put_flag, put_half, put_long, put_month, put_move_kind, put_signed, put_word,
 };
 use cf_base::Day;
 use cf_calls::Act;
 use cf_calls::acts::{
     Adoption, Amendment, AssetAct, BillAmount, BondIssue, DebtPayment, FundMove, LeaveAct,
     LeaveAmount, LeaveMaturity, LineTransfer, NewBill, NewOrder, NewVoucher, OrderChange, Period,
+};
+use cf_fields::lists::{Element, put_list};
+use cf_fields::put::{
+    put_byte, put_flag, put_half, put_long, put_month, put_move_kind, put_signed, put_word,
 };
 
 fn put_adoption(out: &mut Vec<u8>, adoption: &Adoption)

@@ -2,16 +2,18 @@
 
 ghost use Rattle.std.specs.Prelude.{◌≡◌, ◌++◌, ℕ, List, length, IfOk, Ok};
 ghost use Rattle.cf_calls.specs.declared.entry.Entry.{Entry};
-ghost use Rattle.cf_codec.specs.Answers.{Answers, Gives};
+ghost use Rattle.cf_codec.specs.Answers.{Answers};
+ghost use Rattle.cf_fields.specs.Readings.{Gives};
 ghost use Rattle.cf_codec.specs.Entries as spec;
 ghost use Rattle.cf_codec.specs.Entries.{BeginsWith, HasPayload, payload, read_of};
 
-use crate::fault::{CodecFault, CodecRefused, Refused};
-use crate::take::{faulty, take_day, take_half, take_key, take_kind, take_word};
+use crate::fault::{CodecFault, CodecRefused};
 use crate::take_acts::take_act;
 use cf_base::Day;
 use cf_calls::acts::AssetAct;
 use cf_calls::{Act, ActKind, Change, Drawn, Entry};
+use cf_fields::Refused;
+use cf_fields::take::{faulty, take_day, take_half, take_key, take_kind, take_word};
 use std::alloc::Global;
 
 /// Whether an entry of a kind may be dated so: a bond is issued on one of the first 28 days of a month.

@@ -5,18 +5,12 @@ ghost use Rattle.std.specs.Prelude.{◌≡◌, ◌≤◌, ◌+◌, ◌*◌, ◌<
 ghost use Rattle.cf_base.specs.Limits.{last_year};
 ghost use Rattle.cf_calls.specs.Form.{is_period, month_number};
 ghost use Rattle.cf_codec.specs.Acts as spec;
-ghost use Rattle.cf_codec.specs.Answers.{Gives};
-ghost use Rattle.cf_codec.specs.Formats.{kept};
-ghost use Rattle.cf_codec.specs.Fields.{byte};
+ghost use Rattle.cf_fields.specs.Readings.{Gives};
+ghost use Rattle.cf_fields.specs.Formats.{kept};
+ghost use Rattle.cf_fields.specs.Fields.{byte};
 
-use crate::fault::Refused;
 use crate::items::{
     AccountElement, LineElement, Principal, SourceElement, VoucherElement, VoucherNumber,
-};
-use crate::lists::{Element, take_distinct, take_list};
-use crate::take::{
-    faulty, or_faulty, take_amount, take_between, take_byte, take_flag, take_half, take_month,
-    take_most_amount, take_move_kind, take_one_of, take_signed, take_word, take_year,
 };
 use cf_base::{Day, LAST_YEAR};
 use cf_calls::acts::{
@@ -26,6 +20,12 @@ use cf_calls::acts::{
 };
 use cf_calls::items::Principals;
 use cf_calls::{Act, ActKind};
+use cf_fields::Refused;
+use cf_fields::lists::{Element, take_distinct, take_list};
+use cf_fields::take::{
+    faulty, or_faulty, take_amount, take_between, take_byte, take_flag, take_half, take_month,
+    take_most_amount, take_move_kind, take_one_of, take_signed, take_word, take_year,
+};
 use std::alloc::Global;
 
 fn take_adoption(alloc: Global, bytes: &[u8]) -> Result<(Adoption, &[u8]), Refused>

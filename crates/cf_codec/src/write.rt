@@ -4,15 +4,15 @@ ghost use Rattle.std.specs.Prelude.{◌≡◌, ◌+◌, ◌≤◌, ◌++◌, tru
 ghost use Rattle.cf_calls.specs.Form.{IsEntryInForm, IsPaymentNumber};
 ghost use Rattle.cf_codec.specs.Entries.{HasPayload, drawn_for, payload};
 ghost use Rattle.cf_codec.specs.Entries as spec;
-ghost use Rattle.cf_codec.specs.Puts.{HasRoom, Puts};
+ghost use Rattle.cf_fields.specs.Puts.{HasRoom, Puts};
 
 use crate::fault::NoMemory;
-use crate::kind::kind_of;
 use crate::measure::entry_len;
-use crate::put::{put_day, put_half, put_key, put_kind, put_word};
 use crate::put_acts::put_act;
 use cf_calls::acts::AssetAct;
 use cf_calls::{Act, Drawn, Entry};
+use cf_fields::kind::kind_of;
+use cf_fields::put::{put_day, put_half, put_key, put_kind, put_word};
 
 /// Writes the numbers that an act draws.
 fn put_drawn(out: &mut Vec<u8>, act: &Act, drawn: Drawn)

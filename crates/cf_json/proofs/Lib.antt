@@ -1,6 +1,1 @@
-pub mod LeastNames
-pub mod Names
-pub mod Numbers
-pub mod ObjectTexts
-pub mod Plain
 pub mod Values

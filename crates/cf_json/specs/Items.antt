@@ -1,8 +1,7 @@
--- The lists of a call, and what stands in them.
-use Rattle.std.specs.Prelude.{◌≡◌, ℕ, ◌&&◌, List, [], ◌∷◌, length, Bool, true, false, not, nat_le, codes, is_none, if◌then◌else◌, Option, Some, None, option_map, option_and_then}
-use Rattle.std.specs.List.{All}
-use Rattle.serde_json.specs.Data.{Data, Items, no_items, item}
-use Rattle.serde_json.specs.Find.{get, as_array, as_bool}
+-- What stands in the lists of a call.
+use Rattle.std.specs.Prelude.{ℕ, ◌&&◌, List, [], ◌∷◌, Bool, true, false, not, codes, is_none, if◌then◌else◌, Option, Some, None, option_map, option_and_then}
+use Rattle.serde_json.specs.Data.{Data, item}
+use Rattle.serde_json.specs.Find.{get, as_bool}
 use Rattle.cf_calls.specs.declared.items.LineAmount.{LineAmount}
 use Rattle.cf_calls.specs.declared.items.SourceAmount.{SourceAmount}
 use Rattle.cf_calls.specs.declared.items.AccountItem.{AccountItem}
@@ -11,24 +10,10 @@ use Rattle.cf_calls.specs.declared.items.Charge.{Charge}
 use Rattle.cf_calls.specs.declared.items.Charge.TheVariants.{Direct, OnOrder}
 use Rattle.cf_calls.specs.declared.items.Liquidation.{Liquidation}
 use Rattle.cf_calls.specs.declared.items.Liquidation.TheVariants.{Lesser, Recorded, Final}
-use Rattle.cf_calls.specs.Form.{is_distinct, IsCount, same_line, same_source, same_number, same_order_item}
-use Rattle.cf_json.specs.Fields.{maybe, has_only}
-use Rattle.cf_json.specs.Kinds.{kept, as_n16, as_n32, as_count, as_amount}
-
--- each value as an item, where all are items
-abbrev pub each : {A : Type 0} → (Data → Option A) → Items → Option (List A)
-each kind no_items = Some []
-each kind (item d ds) = option_and_then (λ x. option_map (λ xs. x ∷ xs) (each kind ds)) (kind d)
-
--- from `least` to `most` items, of which no two clash
-abbrev pub as_list : {A : Type 0} → (Data → Option A) → (A → A → Bool) → ℕ → ℕ → Data → Option (List A)
-as_list kind clash least most d = option_and_then (kept (λ xs. nat_le least (length xs) && nat_le (length xs) most && is_distinct clash xs)) (option_and_then (each kind) (as_array d))
-
--- what holds of a list that was read
-pub record IsListOf {A : Type 0} (fits : A → Type 0) (clash : A → A → Bool) (least most : ℕ) (xs : List A) : Type 0 where
-  pub count : IsCount least most (length xs)
-  pub apart : is_distinct clash xs ≡ true
-  pub each_fits : All fits xs
+use Rattle.cf_calls.specs.Form.{same_line, same_source, same_number, same_order_item}
+use Rattle.cf_members.specs.Fields.{maybe, has_only}
+use Rattle.cf_members.specs.Kinds.{kept, as_n16, as_n32, as_count, as_amount}
+use Rattle.cf_members.specs.Lists.{as_list}
 
 -- ---- the items
 

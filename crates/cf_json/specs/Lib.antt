@@ -1,11 +1,6 @@
 pub mod Acts
 pub mod Calls
-pub mod Faults
-pub mod Fields
 pub mod Items
-pub mod Kinds
-pub mod Objects
-pub mod Parts
 pub mod Reads
 pub mod Refusals
 pub mod Replies

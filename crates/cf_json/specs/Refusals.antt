@@ -13,7 +13,7 @@ use Rattle.cf_calls.specs.declared.refusal.AssetFault.{AssetFault}
 use Rattle.cf_calls.specs.declared.refusal.AssetFault.TheVariants as asset
 use Rattle.cf_calls.specs.declared.refusal.Refusal.{Refusal}
 use Rattle.cf_calls.specs.declared.refusal.Refusal.TheVariants.{DeskUnknown, Ahead, KeyReused, NotThisDesk, HistoryFull, AmountRange, UnknownName, PeriodClosed, YearNotOpen, YearClosed, Adopted, NotAdopted, DocState, SameHand, NotOnOrder, OverOpen, OverReceivable, AssetState, NotDue, LeaveShort, MonthOrder, DebtDue, WindowOpen, Exceeds, CashShort}
-use Rattle.cf_json.specs.Objects.{fields, count, cents, signed_cents, day, month}
+use Rattle.cf_members.specs.Objects.{fields, count, cents, signed_cents, day, month}
 
 abbrev pub role_word : Role → List ℕ
 role_word role.Council = codes "council"

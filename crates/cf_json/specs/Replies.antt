@@ -8,9 +8,9 @@ use Rattle.cf_calls.specs.declared.reply.Body.TheVariants.{Done, Refused, Shown}
 use Rattle.cf_calls.specs.declared.reply.Reply.{Reply}
 use Rattle.cf_calls.specs.declared.reply.Posted.{Posted}
 use Rattle.cf_calls.specs.declared.reply.Posted.TheVariants as posted
-use Rattle.cf_json.specs.declared.fault.FormFault.{FormFault}
-use Rattle.cf_json.specs.declared.fault.FormFault.TheVariants as fault
-use Rattle.cf_json.specs.Objects.{fields, count, cents, numbers_from, text_of}
+use Rattle.cf_members.specs.declared.fault.FormFault.{FormFault}
+use Rattle.cf_members.specs.declared.fault.FormFault.TheVariants as fault
+use Rattle.cf_members.specs.Objects.{fields, count, cents, numbers_from, text_of}
 use Rattle.cf_json.specs.Refusals.{refusal_data}
 use Rattle.cf_json.specs.Shown.{shown_data}
 

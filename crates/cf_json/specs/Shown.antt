@@ -18,7 +18,7 @@ use Rattle.cf_calls.specs.declared.shown.AssetState.{AssetState}
 use Rattle.cf_calls.specs.declared.shown.AssetState.TheVariants as asset
 use Rattle.cf_calls.specs.declared.shown.Shown.{Shown}
 use Rattle.cf_calls.specs.declared.shown.Shown.TheVariants.{Line, Requisition, Order, Voucher, Bill, Asset, Bond, Leave, Account, Reconcile, Report}
-use Rattle.cf_json.specs.Objects.{fields, count, cents, signed_cents, day}
+use Rattle.cf_members.specs.Objects.{fields, count, cents, signed_cents, day}
 
 abbrev pub requisition_word : RequisitionState → List ℕ
 requisition_word requisition.Open = codes "open"

@@ -4,14 +4,10 @@ ghost use Rattle.std.specs.Prelude.{◌≡◌, ◌≢◌, ◌≤◌, ◌+◌, �
 ghost use Rattle.cf_base.specs.Limits.{last_year};
 ghost use Rattle.serde_json.specs.View.{view};
 ghost use Rattle.cf_calls.specs.Form.{IsAdoptionForm, IsCount, IsYear, IsIssueForm, IsVoucherForm, IsPeriodForm, IsActInForm, is_by, is_distinct, is_period, month_number, same_number};
-ghost use Rattle.cf_json.specs.Faults.{Gives};
+ghost use Rattle.cf_members.specs.Faults.{Gives};
 ghost use Rattle.cf_json.specs.Acts as spec;
 
-use crate::fault::CallRefused;
-use crate::fields::{may, must, need};
 use crate::items::{ChargedItem, LineItem, PlainItem, Principal, SourceItem, VoucherNumber};
-use crate::kinds::{By, Count, Flag, MonthText, N16, N32, Year};
-use crate::lists::list;
 use crate::words::{AssetWord, LeaveWord, MoveWord, PeriodWord};
 use cf_base::{Day, LAST_YEAR};
 use cf_calls::acts::{
@@ -21,6 +17,10 @@ use cf_calls::acts::{
 };
 use cf_calls::items::SourceAmount;
 use cf_calls::{Act, ActKind};
+use cf_members::CallRefused;
+use cf_members::fields::{may, must, need};
+use cf_members::kinds::{By, Count, Flag, MonthText, N16, N32, Year};
+use cf_members::lists::list;
 use serde_json::Value;
 use std::alloc::Global;
 

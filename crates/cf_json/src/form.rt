@@ -3,18 +3,18 @@
 ghost use Rattle.std.specs.Prelude.{◌≡◌, ◌+◌, ◌≤◌, [], ◌∷◌, ◌++◌, true, length, codes, string_bytes, IfOk, OnOk, OnErr, IsOk, vec_len, vec_capacity};
 ghost use Rattle.std.specs.List.{list_all};
 ghost use Rattle.serde_json.specs.Data.{string};
-ghost use Rattle.cf_json.specs.Objects.{fields, head_text, text_of};
-ghost use Rattle.cf_json.specs.Parts.{is_plain};
+ghost use Rattle.cf_members.specs.Objects.{fields, head_text, text_of};
+ghost use Rattle.cf_members.specs.Parts.{is_plain};
 ghost use Rattle.cf_json.specs.Replies as spec;
 
-use crate::fault::FormFault;
-use crate::parts::Part::Word;
-use crate::parts::{put_head, put_object};
+use cf_members::FormFault;
+use cf_members::parts::Part::Word;
+use cf_members::parts::{put_head, put_object};
 use serde_json::Value;
 use std::alloc::{AllocError, Global};
 
 /// The JSON of a text.
-#[tactic(auto, unfolding(crate::specs::Objects::text_of))]
+#[tactic(auto, unfolding(cf_members::specs::Objects::text_of))]
 pub fn quoted(alloc: Global, text: &str) -> Result<String, AllocError>
     ensures { IfOk result (λ s. string_bytes s ≡ text_of (string text.now)) }
 {
@@ -37,7 +37,7 @@ fn write_word(out: &mut Vec<u8>, word: &str) -> Result<(), AllocError>
 }
 
 /// Appends the form reply that names a field, whose name is already JSON.
-#[tactic(auto, unfolding(crate::specs::Objects::text_of))]
+#[tactic(auto, unfolding(cf_members::specs::Objects::text_of))]
 fn put_name(out: &mut Vec<u8>, json: &str) -> Result<(), AllocError>
     ensures text { OnOk result (out.new.items ≡ out.old.items ++ (head_text (codes "form") (string (codes "fields")) (codes "name") ++ (json.now ++ 125 ∷ []))) }
     ensures longer { vec_len out.new ≤ vec_len out.old + (length json.now + 32) }
@@ -51,7 +51,7 @@ fn put_name(out: &mut Vec<u8>, json: &str) -> Result<(), AllocError>
 }
 
 /// Appends the form reply that names a field, and keeps room for one byte more.
-#[tactic(auto, unfolding(crate::specs::Objects::text_of))]
+#[tactic(auto, unfolding(cf_members::specs::Objects::text_of))]
 fn write_fields(alloc: Global, name: &str, out: &mut Vec<u8>) -> Result<(), AllocError>
     ensures text { OnOk result (out.new.items ≡ out.old.items ++ text_of (fields ((codes "form", string (codes "fields")) ∷ (codes "name", string name.now) ∷ []))) }
     ensures err { OnErr result (out.new.items ≡ out.old.items) }

@@ -1,7 +1,7 @@
 //! What is given for a call, in JSON.
 
 ghost use Rattle.std.specs.Prelude.{◌≡◌, ◌+◌, ◌≤◌, ◌++◌, IsOk, OnOk, OnErr, vec_len, vec_capacity};
-ghost use Rattle.cf_json.specs.Objects.{text_of};
+ghost use Rattle.cf_members.specs.Objects.{text_of};
 ghost use Rattle.cf_json.specs.Replies as spec;
 ghost use Rattle.cf_json.specs.Replies.{IsBrief};
 

@@ -3,12 +3,10 @@
 ghost use Rattle.std.specs.Prelude.{◌≡◌, ◌+◌, ◌≤◌, [], ◌∷◌, ◌++◌, ◌&&◌, true, codes, length, IsOk, OnOk, vec_len, vec_capacity};
 ghost use Rattle.std.specs.List.{list_all};
 ghost use Rattle.cf_calls.specs.declared.refusal.Refusal.TheVariants as refused;
-ghost use Rattle.cf_json.specs.Objects.{fields, count, text_of};
-ghost use Rattle.cf_json.specs.Parts.{part_data, part_room, is_plain, is_plain_part};
+ghost use Rattle.cf_members.specs.Objects.{fields, count, text_of};
+ghost use Rattle.cf_members.specs.Parts.{part_data, part_room, is_plain, is_plain_part};
 ghost use Rattle.cf_json.specs.Refusals as spec;
 
-use crate::parts::Part::{Cents, Date, Number, Signed, Word, YearMonth};
-use crate::parts::{Part, put_object};
 use cf_base::Day;
 use cf_calls::Refusal::{
     Adopted, Ahead, AmountRange, AssetState, CashShort, DebtDue, DeskUnknown, DocState, Exceeds,
@@ -17,6 +15,8 @@ use cf_calls::Refusal::{
     YearNotOpen,
 };
 use cf_calls::{AssetFault, DocumentKind, DocumentState, NameKind, Refusal, Role};
+use cf_members::parts::Part::{Cents, Date, Number, Signed, Word, YearMonth};
+use cf_members::parts::{Part, put_object};
 use std::alloc::AllocError;
 
 fn role_word(role: Role) -> &'static str

@@ -5,14 +5,14 @@ ghost use Rattle.std.specs.List.{list_all};
 ghost use Rattle.serde_json.specs.Data.{array, boolean};
 ghost use Rattle.serde_json.specs.Written.{members_text};
 ghost use Rattle.cf_calls.specs.declared.reply.Body.TheVariants as body;
-ghost use Rattle.cf_json.specs.Objects.{count, fields, members, numbers_from, text_of};
-ghost use Rattle.cf_json.specs.Parts.{is_plain};
+ghost use Rattle.cf_members.specs.Objects.{count, fields, members, numbers_from, text_of};
+ghost use Rattle.cf_members.specs.Parts.{is_plain};
 ghost use Rattle.cf_json.specs.Replies.{made_data, assets_of, was_fields, reply_data};
 
-use crate::parts::Part::{Cents, Number, True};
-use crate::parts::{put_field, put_head, put_numbers, put_object, put_quoted};
 use crate::refusals::put_refusal;
 use cf_calls::{Made, Refusal};
+use cf_members::parts::Part::{Cents, Number, True};
+use cf_members::parts::{put_field, put_head, put_numbers, put_object, put_quoted};
 use std::alloc::AllocError;
 
 /// Appends an object of one number.
@@ -27,7 +27,7 @@ fn put_one(out: &mut Vec<u8>, name: &str, n: u64) -> Result<(), AllocError>
 }
 
 /// Appends the numbers of a voucher and of its assets.
-#[tactic(auto, unfolding(crate::specs::Objects::text_of))]
+#[tactic(auto, unfolding(cf_members::specs::Objects::text_of))]
 fn put_voucher(out: &mut Vec<u8>, number: u32, first: u32, assets: u16) -> Result<(), AllocError>
     ensures text { OnOk result (out.new.items ≡ out.old.items ++ text_of (fields ((codes "assets", array (numbers_from first assets)) ∷ (codes "voucher", count number) ∷ []))) }
     ensures longer { vec_len out.new ≤ vec_len out.old + (80 + 21 * assets) }
@@ -78,7 +78,7 @@ fn put_made(out: &mut Vec<u8>, made: &Made) -> Result<(), AllocError>
 }
 
 /// Appends the place of the earlier entry, where the call is a repeat, and the end of the reply.
-#[tactic(auto, unfolding(crate::specs::Objects::text_of))]
+#[tactic(auto, unfolding(cf_members::specs::Objects::text_of))]
 fn put_was(out: &mut Vec<u8>, was: Option<u64>) -> Result<(), AllocError>
     ensures text { OnOk result (out.new.items ≡ out.old.items ++ members_text true (members (was_fields was))) }
     ensures longer { vec_len out.new ≤ vec_len out.old + 32 }
@@ -100,7 +100,7 @@ fn put_was(out: &mut Vec<u8>, was: Option<u64>) -> Result<(), AllocError>
 }
 
 /// Appends the reply to an accepted change.
-#[tactic(auto, unfolding(crate::specs::Objects::text_of))]
+#[tactic(auto, unfolding(cf_members::specs::Objects::text_of))]
 fn put_done(out: &mut Vec<u8>, at: u64, made: &Made, was: Option<u64>) -> Result<(), AllocError>
     ensures text { OnOk result (out.new.items ≡ out.old.items ++ text_of (reply_data (record { at = at; body = body.Done made.now was }))) }
     ensures longer { vec_len out.new ≤ vec_len out.old + (160 + 21 * assets_of made.now) }
@@ -113,7 +113,7 @@ fn put_done(out: &mut Vec<u8>, at: u64, made: &Made, was: Option<u64>) -> Result
 }
 
 /// Appends the reply to a refused call.
-#[tactic(auto, unfolding(crate::specs::Objects::text_of))]
+#[tactic(auto, unfolding(cf_members::specs::Objects::text_of))]
 fn put_refused(out: &mut Vec<u8>, at: u64, refusal: &Refusal) -> Result<(), AllocError>
     ensures text { OnOk result (out.new.items ≡ out.old.items ++ text_of (reply_data (record { at = at; body = body.Refused refusal.now }))) }
     ensures longer { vec_len out.new ≤ vec_len out.old + 300 }

@@ -8,14 +8,12 @@ ghost use Rattle.serde_json.specs.Written.{items_text, comma_if};
 ghost use Rattle.json.specs.Print as json;
 ghost use Rattle.cf_calls.specs.declared.reply.Body.TheVariants as body;
 ghost use Rattle.cf_calls.specs.declared.shown.Shown.TheVariants as variant;
-ghost use Rattle.cf_json.specs.Objects.{fields, count, signed_cents, text_of};
-ghost use Rattle.cf_json.specs.Parts.{is_plain};
+ghost use Rattle.cf_members.specs.Objects.{fields, count, signed_cents, text_of};
+ghost use Rattle.cf_members.specs.Parts.{is_plain};
 ghost use Rattle.cf_json.specs.Replies.{reply_data};
 ghost use Rattle.cf_json.specs.Shown as spec;
 
 use crate::form::quoted;
-use crate::parts::Part::{Cents, Date, Number, Signed, Word};
-use crate::parts::{put_field, put_head, put_object, put_quoted, put_signed};
 use cf_base::Day;
 use cf_calls::Row;
 use cf_calls::items::LineAmount;
@@ -23,6 +21,8 @@ use cf_calls::shown::{
     AssetState, ItemState, LineNumbers, OrderItemShown, ReconShown, RequisitionState, Shown,
     VoucherState,
 };
+use cf_members::parts::Part::{Cents, Date, Number, Signed, Word};
+use cf_members::parts::{put_field, put_head, put_object, put_quoted, put_signed};
 use std::alloc::{AllocError, Global};
 
 fn requisition_word(state: RequisitionState) -> &'static str
@@ -113,7 +113,7 @@ impl Element for OrderItemShown {
 impl Element for i128 {
     ghost value = { signed_cents };
 
-    #[tactic(auto, unfolding(crate::specs::Objects::text_of))]
+    #[tactic(auto, unfolding(cf_members::specs::Objects::text_of))]
     fn put(&self, _alloc: Global, out: &mut Vec<u8>) -> Result<(), AllocError> {
         put_signed(out, *self)
     }
@@ -122,7 +122,7 @@ impl Element for i128 {
 impl Element for Row {
     ghost value = { spec.row_data };
 
-    #[tactic(auto, unfolding(crate::specs::Objects::text_of))]
+    #[tactic(auto, unfolding(cf_members::specs::Objects::text_of))]
     fn put(&self, alloc: Global, out: &mut Vec<u8>) -> Result<(), AllocError> {
         out.push(b'[')?;
         put_text(alloc, out, self.label.as_str())?;
@@ -154,7 +154,7 @@ fn put_element<T: Element>(
 }
 
 /// Appends the elements of an array and its end. Before the first stands a comma where others are written.
-#[tactic(auto, unfolding(crate::specs::Objects::text_of))]
+#[tactic(auto, unfolding(cf_members::specs::Objects::text_of))]
 fn put_elements<T: Element>(
     alloc: Global,
     out: &mut Vec<u8>,
@@ -173,7 +173,7 @@ fn put_elements<T: Element>(
 }
 
 /// Appends an array.
-#[tactic(auto, unfolding(crate::specs::Objects::text_of))]
+#[tactic(auto, unfolding(cf_members::specs::Objects::text_of))]
 fn put_array<T: Element>(alloc: Global, out: &mut Vec<u8>, elements: &[T]) -> Result<(), AllocError>
     ensures { OnOk result (out.new.items ≡ out.old.items ++ text_of (spec.list_of T.value elements.now)) }
 {
@@ -213,7 +213,7 @@ fn put_line(out: &mut Vec<u8>, numbers: &LineNumbers) -> Result<(), AllocError>
     )
 }
 
-#[tactic(auto, unfolding(crate::specs::Objects::text_of))]
+#[tactic(auto, unfolding(cf_members::specs::Objects::text_of))]
 fn put_requisition(
     alloc: Global,
     out: &mut Vec<u8>,
@@ -232,7 +232,7 @@ fn put_requisition(
     Ok(())
 }
 
-#[tactic(auto, unfolding(crate::specs::Objects::text_of))]
+#[tactic(auto, unfolding(cf_members::specs::Objects::text_of))]
 fn put_order(
     alloc: Global,
     out: &mut Vec<u8>,
@@ -336,7 +336,7 @@ fn put_recon(out: &mut Vec<u8>, recon: ReconShown) -> Result<(), AllocError>
     )
 }
 
-#[tactic(auto, unfolding(crate::specs::Objects::text_of))]
+#[tactic(auto, unfolding(cf_members::specs::Objects::text_of))]
 fn put_report(alloc: Global, out: &mut Vec<u8>, rows: &[Row], title: &str) -> Result<(), AllocError>
     ensures { OnOk result (out.new.items ≡ out.old.items ++ text_of (spec.shown_data (variant.Report rows.now title.now))) }
 {
@@ -386,7 +386,7 @@ fn put_shown(alloc: Global, out: &mut Vec<u8>, shown: &Shown) -> Result<(), Allo
 }
 
 /// The reply with the answer of a look.
-#[tactic(auto, unfolding(crate::specs::Objects::text_of))]
+#[tactic(auto, unfolding(cf_members::specs::Objects::text_of))]
 fn reply(alloc: Global, at: u64, shown: &Shown) -> Result<Vec<u8>, AllocError>
     ensures { IfOk result (λ v. v.items ≡ text_of (reply_data (record { at = at; body = body.Shown shown.now }))) }
 {

@@ -1,13 +1,13 @@
 //! The words of calls and of their fields.
 
 ghost use Rattle.std.specs.Prelude.{◌≡◌};
-ghost use Rattle.cf_json.specs.Kinds.{as_word, word_in};
+ghost use Rattle.cf_members.specs.Kinds.{as_word, word_in};
 ghost use Rattle.cf_json.specs.Words.{change_words, look_words, asset_words, leave_words, move_words, period_words, basis_words, statement_words};
 
-use crate::kinds::FieldKind;
 use cf_base::Kind;
 use cf_calls::acts::FundMoveKind;
 use cf_calls::{ActKind, Basis};
+use cf_members::kinds::FieldKind;
 use serde_json::Value;
 
 /// Which look a line is.

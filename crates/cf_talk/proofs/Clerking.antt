@@ -10,10 +10,10 @@ use Rattle.cf_calls.specs.Form.{IsCallInForm}
 use Rattle.cf_chart.specs.Plan.{Plan}
 use Rattle.cf_http.specs.declared.request.Request.{Request}
 use Rattle.cf_http.specs.Asking.{Answered, IsAnswerCode}
-use Rattle.cf_json.specs.declared.fault.CallRefused.{CallRefused}
-use Rattle.cf_json.specs.declared.fault.CallRefused.TheVariants.{Form}
-use Rattle.cf_json.specs.declared.fault.FormFault.{FormFault}
-use Rattle.cf_json.specs.Faults.{Gives}
+use Rattle.cf_members.specs.declared.fault.CallRefused.{CallRefused}
+use Rattle.cf_members.specs.declared.fault.CallRefused.TheVariants.{Form}
+use Rattle.cf_members.specs.declared.fault.FormFault.{FormFault}
+use Rattle.cf_members.specs.Faults.{Gives}
 use Rattle.cf_json.specs.Replies.{IsBrief, IsBriefBody, form_text, text}
 use Rattle.cf_names.specs.Lists.{entries_of}
 use Rattle.cf_turns.specs.States.{PassState}

@@ -13,7 +13,7 @@ use Rattle.cf_heads.specs.declared.route.Route.{Route}
 use Rattle.cf_heads.specs.declared.route.Route.TheVariants as route
 use Rattle.cf_http.specs.declared.request.Request.{Request}
 use Rattle.cf_http.specs.Doors.{Tells, DoorServed}
-use Rattle.cf_json.specs.declared.fault.FormFault.{FormFault}
+use Rattle.cf_members.specs.declared.fault.FormFault.{FormFault}
 use Rattle.cf_json.specs.Calls.{call_of}
 use Rattle.cf_json.specs.Replies.{text, form_text}
 use Rattle.cf_turns.specs.States.{PassState}

@@ -2,7 +2,7 @@ use Rattle.std.proofs.Common.{[], ◌∷◌, codes, FitsSigned, rules}
 use Rattle.std.proofs.Math.Facts.{to_z-of_z}
 use Rattle.std.specs.Int.{w64}
 use Rattle.std.proofs.lemmas.Result.{on_ok_weaker}
-use Rattle.cf_json.specs.Objects.{count}
+use Rattle.cf_members.specs.Objects.{count}
 use Rattle.cf_call_text.specs.Values.{signed}
 use Rattle.cf_call_text.proofs.Objects.{two_appended}
 use Rattle.cf_call_text.proofs.acts.put_order_change.Goals as goal

@@ -1,7 +1,7 @@
 use Rattle.std.proofs.Common.{[], ◌∷◌, codes}
 use Rattle.std.proofs.lemmas.Result.{on_ok_weaker}
 use Rattle.serde_json.specs.Data.{string}
-use Rattle.cf_json.specs.Objects.{count, day}
+use Rattle.cf_members.specs.Objects.{count, day}
 use Rattle.cf_call_text.proofs.Objects.{first_appended}
 use Rattle.cf_call_text.proofs.line.put_front.Goals as goal
 

@@ -1,6 +1,6 @@
 use Rattle.std.proofs.Common.{◌≡◌, ◌++◌, true, drop}
 use Rattle.std.specs.List.{list_all}
-use Rattle.cf_json.specs.Parts.{is_plain_field, fields_of}
+use Rattle.cf_members.specs.Parts.{is_plain_field, fields_of}
 use Rattle.cf_call_text.specs.CallText.{fields_text}
 use Rattle.cf_call_text.proofs.pieces.put_fields.Given as goal
 

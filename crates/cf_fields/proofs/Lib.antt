@@ -1,0 +1,4 @@
+pub mod Exact
+pub mod FieldsExact
+pub mod Keys
+pub mod Loop

@@ -1,0 +1,5 @@
+pub mod Fields
+pub mod Formats
+pub mod Kinds
+pub mod Puts
+pub mod Readings

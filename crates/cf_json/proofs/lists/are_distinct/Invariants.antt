@@ -1,9 +1,0 @@
-use Rattle.std.proofs.Common.{◌≡◌, length}
-use Rattle.cf_calls.specs.Form.{is_distinct}
-use Rattle.cf_json.proofs.lists.are_distinct.Given as goal
-
-abbrev pub invariant-loop-first : goal.invariant-loop-first
-invariant-loop-first g l = is_distinct g.T.Item.clash l.fn.items ≡ is_distinct g.T.Item.clash l.rest
-
-abbrev pub decreases-loop-first : goal.decreases-loop-first
-decreases-loop-first g l = length l.rest

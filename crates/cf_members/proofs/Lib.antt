@@ -1,0 +1,5 @@
+pub mod LeastNames
+pub mod Names
+pub mod Numbers
+pub mod ObjectTexts
+pub mod Plain
