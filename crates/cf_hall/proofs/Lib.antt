@@ -1,7 +1,9 @@
 pub mod Begun
 pub mod Counting
 pub mod Ending
+pub mod Fronts
 pub mod Longer
 pub mod Resting
 pub mod Saying
+pub mod Sending
 pub mod Standing

@@ -1,5 +1,5 @@
 -- The book of a hall, and how a call changes its list.
-use Rattle.std.specs.Prelude.{◌≡◌, ◌⊎◌, ℕ, List, [], ◌∷◌, ◌++◌, length}
+use Rattle.std.specs.Prelude.{◌≡◌, ◌⊎◌, ℕ, Bool, IsTrue, List, [], ◌∷◌, ◌++◌, length}
 use Rattle.atomic_table.specs.Seated.{TableId}
 use Rattle.cf_book.specs.DurableState.{DurableBook}
 use Rattle.cf_budget.specs.Tables.{Tables, has_line}
@@ -13,6 +13,7 @@ use Rattle.cf_registers.specs.Lines.{LendsTouched}
 use Rattle.cf_turns.specs.Lists.{TaggedEntry}
 use Rattle.cf_turns.specs.States.{RecorderState}
 use Rattle.cf_book.specs.Archives.{IsOwed}
+use Rattle.cf_hall.specs.Fronts.{IsKeptSince}
 
 -- what contracts see of a hall that is shared
 pub record SharedState : Type 0 where
@@ -25,13 +26,15 @@ pub record BookState (D : Type 0) : Type 0 where
   pub recorder : RecorderState
 
 -- The history is the recorder's list, of this chart. So many calls were accepted as it has entries, and the disk's count of
--- faults has risen by the fault replies at least. No pass was ended.
-pub record IsHallBook {D : Type 0} (faults : D → ℕ) (under : Plan) (risen : ℕ) (archive : DurableBook D) (recorder : RecorderState) (totals : TotalsState) : Type 0 where
+-- faults has risen by the fault replies at least. No pass was ended. Since the hall was opened a crash left what recovers to a
+-- front of the history, or to that and one entry.
+pub record IsHallBook {D : Type 0} (tells : Bool) (moment : D → ℕ) (was_image : D → ℕ → List ℕ → Type 0) (faults : D → ℕ) (under : Plan) (begun risen : ℕ) (archive : DurableBook D) (recorder : RecorderState) (totals : TotalsState) : Type 0 where
   pub plan : archive.plan ≡ under
   pub list : archive.entries ≡ entries_of recorder.list
   pub accepted : totals.accepted ≡ length recorder.list
   pub faulted : RoseBy totals.faulted risen (faults archive.disk)
   pub none_ended : recorder.ended ≡ []
+  pub since : IsTrue tells → IsKeptSince moment was_image archive.plan archive.entries begun archive.disk
 
 -- the list stays, or grows by one entry for the pass of this number
 abbrev pub ListGrows : List TaggedEntry → ℕ → List TaggedEntry → Type 0

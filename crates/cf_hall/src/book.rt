@@ -34,7 +34,8 @@ use std::alloc::Global;
 use std::marker::Model;
 
 /// The history with its journal and disk, and all that counts it. Contracts see the archive and the recorder. Whatever a
-/// crash leaves of the disk recovers to the history, or to it and the entry in doubt, for that is the archive's promise.
+/// crash leaves of the disk recovers to the history, or to it and the entry in doubt, for that is the archive's promise; and
+/// what it left at each moment since the hall was opened, to a front of the history, or to that and one entry.
 #[derive(Drop)]
 pub struct HallBook<N: City, D: Disk + Drop> {
     pub(crate) archive: Archive<D>,
@@ -49,7 +50,7 @@ impl<N: City, D: Disk + Drop> Model for HallBook<N, D> {
 
     ghost view = { λ b. record { archive = b.archive; recorder = b.recording } };
 
-    ghost invariant = { λ b. IsHallBook D.faults N.plan N.risen b.archive b.recording b.totals };
+    ghost invariant = { λ b. IsHallBook D.tells D.moment D.was_image D.faults N.plan N.begun N.risen b.archive b.recording b.totals };
 }
 
 /// What the pass sees after an answer that added nothing. A fault reply is counted.
@@ -175,7 +176,7 @@ impl<N: City, D: Disk + Drop> HallBook<N, D> {
         requires empty { receipts.old.items ≡ [] }
         requires room { vec_len receipts.old + length passes.items ≤ vec_capacity receipts.old }
         ensures receipts { receipts.new.items ≡ map receipts_of passes.items }
-        ensures ends { HallEnds D.tells D.is_image D.faults N.plan N.risen kept passes.items result.length result.disk }
+        ensures ends { HallEnds D.tells D.is_image D.moment D.was_image D.faults N.plan N.begun N.risen kept passes.items result.length result.disk }
     {
         let HallBook {
             archive,

@@ -39,6 +39,7 @@ impl<N: City, D: Disk + Drop> Hall<N, D> {
         requires stripes { (k : ℕ) → k < 8 → name_at opening.stripes k ≡ N.stripes k }
         requires ledgers { (opening.accepted.name ≡ N.accepted) × (opening.faulted.name ≡ N.faulted) }
         requires plan { (book.plan ≡ N.plan) × (chart ≡ N.plan) }
+        requires begun { D.moment book.disk ≡ N.begun }
         requires risen { D.faults book.disk ≡ N.risen }
         ensures entered { result.entered ≡ 0 }
         ensures seen { entries_of result.kept.seen ≡ book.entries }
@@ -104,7 +105,7 @@ impl<N: City, D: Disk + Drop> Hall<N, D> {
         requires empty { receipts.old.items ≡ [] }
         requires room { vec_len receipts.old + length passes.items ≤ vec_capacity receipts.old }
         ensures receipts { receipts.new.items ≡ map receipts_of passes.items }
-        ensures ends { HallEnds D.tells D.is_image D.faults N.plan N.risen self.kept passes.items result.length result.disk }
+        ensures ends { HallEnds D.tells D.is_image D.moment D.was_image D.faults N.plan N.begun N.risen self.kept passes.items result.length result.disk }
     {
         let Hall {
             shared,

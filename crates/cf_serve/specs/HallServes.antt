@@ -4,6 +4,7 @@ use Rattle.cf_book.specs.Books.{RecoversNear}
 use Rattle.cf_book.specs.DurableState.{DurableBook}
 use Rattle.cf_calls.specs.declared.entry.Entry.{Entry}
 use Rattle.cf_chart.specs.Plan.{Plan}
+use Rattle.cf_hall.specs.Fronts.{KeptSince}
 use Rattle.cf_http.specs.Doors.{Tells}
 use Rattle.cf_model.specs.State.{IsSoundState}
 use Rattle.cf_serve.specs.declared.end.ServeEnd.{ServeEnd}
@@ -15,6 +16,8 @@ use Rattle.cf_talk.specs.ServeRuns.{DoorState, ServeRan}
 pub record DiskTells (D : Type 0) : Type 1 where
   pub tells : Bool
   pub is_image : D → List ℕ → Type 0
+  pub moment : D → ℕ
+  pub was_image : D → ℕ → List ℕ → Type 0
   pub faults : D → ℕ
 
 -- Whatever a crash leaves of the disk recovers to the history, or to it and the entry in doubt, with which it is sound too.
@@ -23,11 +26,13 @@ pub record IsKeptOn {D : Type 0} (device : DiskTells D) (plan : Plan) (history :
   pub images : IsTrue device.tells → (image : List ℕ) → device.is_image disk image → RecoversNear plan history (λ e. doubt ≡ Some e) image
   pub doubt_sound : IfSome doubt (λ e. IsSoundState (record { plan = plan; entries = history ++ e ∷ [] }))
 
--- The doors were served from the book's history to the last one, which the disk keeps, and gave so many links.
+-- The doors were served from the book's history to the last one, which the disk keeps, and gave so many links. At each moment
+-- since then a crash left what recovers to a front of the last history, or to that and one entry.
 pub record HallRan {D L : Type 0} (device : DiskTells D) (tells : Tells L) (known : Bool) (links : ℕ) (book : DurableBook D) (disk : D) (olds news : List (DoorState L)) (given : ℕ) : Type 0 where
   pub last : List Entry
   pub ran : ServeRan tells known book.plan book.entries last links (device.faults book.disk) (device.faults disk) olds news
   pub kept : IsKeptOn device book.plan last disk
+  pub any_moment : IsTrue device.tells → KeptSince device.moment device.was_image book.plan last (device.moment book.disk) disk
   pub given_is : given ≡ links_given olds news
 
 -- The doors were served and none failed; or one failed, whose count rose; or there was no memory, and the doors and the disk

@@ -5,7 +5,7 @@ ghost use Rattle.std.specs.Vec.{vec_len, vec_capacity};
 ghost use Rattle.cf_calls.specs.Form.{IsCallInForm};
 ghost use Rattle.cf_calls.specs.declared.reply.Posted.TheVariants as posted;
 ghost use Rattle.cf_heads.specs.Routes.{IsRouteInForm};
-ghost use Rattle.cf_json.specs.Faults.{Gives};
+ghost use Rattle.cf_members.specs.Faults.{Gives};
 ghost use Rattle.cf_json.specs.Replies.{IsBrief, form_text, text};
 ghost use Rattle.cf_talk.specs.Clerks as clerks;
 ghost use Rattle.cf_talk.specs.Clerks.{AnswersCall, IsWritten, asked_by, code_by, code_of};

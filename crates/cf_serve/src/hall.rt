@@ -55,10 +55,11 @@ where
     requires stripes { (k : ℕ) → k < 8 → name_at opening.stripes k ≡ N.stripes k }
     requires ledgers { (opening.accepted.name ≡ N.accepted) × (opening.faulted.name ≡ N.faulted) }
     requires plan { (book.plan ≡ N.plan) × (chart ≡ N.plan) }
+    requires begun { D.moment book.disk ≡ N.begun }
     requires risen { D.faults book.disk ≡ N.risen }
     ensures many { length doors.new.items ≡ length doors.old.items }
     ensures untouched { result.end ≡ ServeEnd.NoMemory → doors.new.items ≡ doors.old.items }
-    ensures ends { Serves (record { tells = D.tells; is_image = D.is_image; faults = D.faults })
+    ensures ends { Serves (record { tells = D.tells; is_image = D.is_image; moment = D.moment; was_image = D.was_image; faults = D.faults })
         (record { received = R.Link.received; sent = R.Link.sent; ended = R.Link.ended; faults = R.Link.faults })
         R.tells links book result.disk (map (door_state R.finished R.given R.coming R.faults) doors.old.items)
         (map (door_state R.finished R.given R.coming R.faults) doors.new.items) result.links result.end }

@@ -45,7 +45,7 @@ module _ {D R L : Type 0} (device : Device D) (kind : DoorKind R L) (links : ℕ
 
   served_by : (book : DurableBook D) (bytes : List ℕ) (olds news : List (DoorState L)) (given : ℕ)
       → OpensBook device.tells device.content device.is_image device.moment device.was_image device.faults old book → chart_of bytes ≡ Ok book.plan
-      → HallRan (record { tells = device.tells; is_image = device.is_image; faults = device.faults }) kind.tells kind.known links book new olds news given
+      → HallRan (record { tells = device.tells; is_image = device.is_image; moment = device.moment; was_image = device.was_image; faults = device.faults }) kind.tells kind.known links book new olds news given
       → Served device kind links old new olds news
   served_by book bytes olds news given opens states h = record {
     plan = book.plan;
@@ -53,16 +53,19 @@ module _ {D R L : Type 0} (device : Device D) (kind : DoorKind R L) (links : ℕ
     last = h.last;
     doubt = h.kept.doubt;
     recovers = opens.recovers;
+    disk = book.disk;
+    opening = opens.any_moment;
     ran = subst (λ (n : ℕ). ServeRan kind.tells kind.known book.plan book.entries h.last links n (device.faults new) olds news) opens.quiet h.ran;
     closed = closed_years_always book.plan h.last (read_chart bytes book.plan states).whole h.ran.sound.legal;
     articulates = articulates_always bytes book.plan h.last states h.ran.sound.legal;
     images = h.kept.images;
     doubt_sound = h.kept.doubt_sound;
+    any_moment = h.any_moment;
   }
 
   pub doors_kept : (book : DurableBook D) (bytes : List ℕ) (doors doors' : List R) (given : ℕ) (how : ServeEnd)
       → OpensBook device.tells device.content device.is_image device.moment device.was_image device.faults old book → chart_of bytes ≡ Ok book.plan
-      → Serves (record { tells = device.tells; is_image = device.is_image; faults = device.faults }) kind.tells kind.known links book new (map kind.state doors) (map kind.state doors') given how
+      → Serves (record { tells = device.tells; is_image = device.is_image; moment = device.moment; was_image = device.was_image; faults = device.faults }) kind.tells kind.known links book new (map kind.state doors) (map kind.state doors') given how
       → (how ≡ end.NoMemory → doors' ≡ doors) → KeepsDoors device kind links old new doors doors' (kept_of given how)
   doors_kept book bytes doors doors' given end.Served opens states h stay =
       (served_by book bytes (map kind.state doors) (map kind.state doors') given opens states h.0, h.1, h.0.given_is)

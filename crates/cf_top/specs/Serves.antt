@@ -10,6 +10,8 @@ use Rattle.cf_calls.specs.declared.entry.Entry.{Entry}
 use Rattle.cf_chart.specs.Plan.{Plan}
 use Rattle.cf_closed.specs.ClosedYears.{ClosedYearsStay}
 use Rattle.cf_desk.specs.Sinks.{Wrote}
+use Rattle.cf_disk.specs.Moments.{AtEachMoment}
+use Rattle.cf_hall.specs.Fronts.{KeptSince}
 use Rattle.cf_model.specs.State.{IsSoundState}
 use Rattle.cf_serve.specs.declared.end.ServeEnd.{ServeEnd}
 use Rattle.cf_serve.specs.declared.end.ServeEnd.TheVariants as end
@@ -24,18 +26,23 @@ use Rattle.cf_top.specs.Refused.{status_of_refused}
 
 -- Doors were kept over the journal of a disk, from the history that its content recovers to up to the last one. That is sound,
 -- no entry of it posts to a closed fiscal year, and its statements articulate. Whatever a crash leaves of the disk at the
--- end recovers to it, or to it and the entry in doubt, with which it is sound too.
+-- end recovers to it, or to it and the entry in doubt, with which it is sound too. Until the journal was opened a crash left
+-- what it could have left before the run; at each moment from then on, what recovers to a front of the last history, or to
+-- that and one entry.
 pub record Served {D R L : Type 0} (device : Device D) (kind : DoorKind R L) (links : ℕ) (old new : D) (olds news : List (DoorState L)) : Type 0 where
   pub plan : Plan
   pub first : List Entry
   pub last : List Entry
   pub doubt : Option Entry
   pub recovers : IsTrue device.tells → RecoversTo plan first (device.content old)
+  pub disk : D
+  pub opening : AtEachMoment device.moment device.was_image old disk (device.is_image old)
   pub ran : ServeRan kind.tells kind.known plan first last links (device.faults old) (device.faults new) olds news
   pub closed : ClosedYearsStay plan last
   pub articulates : AllArticulate plan last
   pub images : IsTrue device.tells → (image : List ℕ) → device.is_image new image → RecoversNear plan last (λ e. doubt ≡ Some e) image
   pub doubt_sound : IfSome doubt (λ e. IsSoundState (record { plan = plan; entries = last ++ e ∷ [] }))
+  pub any_moment : IsTrue device.tells → KeptSince device.moment device.was_image plan last (device.moment disk) new
 
 -- the doors are as they were, and a read of the disk gives what it gave
 pub record IsUnserved {D R : Type 0} (device : Device D) (old new : D) (doors doors' : List R) : Type 0 where

@@ -8,5 +8,6 @@ ghosts-serve_hall g a = record {
   stripes = name_at a.opening.stripes;
   accepted = a.opening.accepted.name;
   faulted = a.opening.faulted.name;
+  begun = g.D.Disk.moment a.book.disk;
   risen = g.D.Disk.faults a.book.disk;
 }

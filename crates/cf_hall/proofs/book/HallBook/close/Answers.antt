@@ -6,7 +6,9 @@ use Rattle.cf_names.specs.Closing.{RoseBy, faults_in, receipts_of}
 use Rattle.cf_names.specs.Lists.{entries_of}
 use Rattle.cf_names.proofs.Entries.{entries_length}
 use Rattle.cf_turns.specs.States.{RecorderState}
+use Rattle.cf_hall.specs.Fronts.{KeptSince}
 use Rattle.cf_hall.proofs.Ending.{rose_less}
+use Rattle.cf_hall.proofs.Fronts.{kept_end}
 use Rattle.cf_hall.proofs.book.HallBook.close.Goals as goal
 
 pub returns-clause-ends : goal.returns-clause-ends
@@ -30,6 +32,11 @@ returns-clause-ends g c =
       sound = subst IsSoundState office c.close.ensures.sound;
       doubt_sound = subst (λ (s : OfficeState). IfSome doubt (λ (e : Entry). IsSoundState (record { plan = s.plan; entries = s.entries ++ e ∷ [] }))) office c.close.ensures.doubt_sound;
       images = λ tells image is. subst (λ (s : OfficeState). RecoversNear s.plan s.entries (λ (e : Entry). doubt ≡ Some e) image) office (c.close.ensures.images tells image is);
+      any_moment = λ tells.
+          subst (λ (disk : g.row.D.Denot). KeptSince d.moment d.was_image g.N.City.plan (entries_of list) g.N.City.begun disk) (sym c.close.ensures.disk)
+          (subst (λ (s : OfficeState). KeptSince d.moment d.was_image s.plan s.entries g.N.City.begun b.archive.disk) office
+          (kept_end d.moment d.was_image b.archive.plan d.is_image b.archive.entries (λ (e : Entry). doubt ≡ Some e) g.N.City.begun b.archive.disk (g.met.D.Disk.only_now b.archive.disk)
+          (λ image is. c.close.ensures.images tells image (subst (λ (disk : g.row.D.Denot). d.is_image disk image) (sym c.close.ensures.disk) is)) (c.self.invariant.since tells)));
       faulted =
           subst (λ (disk : g.row.D.Denot). RoseBy (faults_in (map receipts_of c.args.passes.items)) g.N.City.risen (d.faults disk)) (sym c.close.ensures.disk)
           (rose_less _ b.totals.faulted g.N.City.risen (d.faults b.archive.disk) c.close_in.ensures.faulted c.self.invariant.faulted);

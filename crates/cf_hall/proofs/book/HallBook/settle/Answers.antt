@@ -1,4 +1,5 @@
-use Rattle.std.proofs.Common.{◌≡◌, ℕ, ◌+◌, ◌∷◌, ◌++◌, [], List, Option, None, length, sym, ap, subst, ◌∙◌, arith}
+use Rattle.std.proofs.Common.{◌≡◌, ℕ, ◌+◌, ◌∷◌, ◌++◌, [], List, Option, None, length, sym, ap, subst, ◌∙◌, inr, arith}
+use Rattle.std.proofs.lemmas.List.{append-nil}
 use Rattle.cf_budget.specs.declared.changes.LineChange.{LineChange}
 use Rattle.cf_calls.specs.declared.entry.Entry.{Entry}
 use Rattle.cf_calls.specs.declared.reply.Posted.TheVariants as posted
@@ -10,8 +11,10 @@ use Rattle.cf_names.specs.Shares.{TotalsState}
 use Rattle.cf_registers.specs.Moved.{AreTablesOf}
 use Rattle.cf_turns.specs.Lists.{TaggedEntry}
 use Rattle.cf_turns.specs.States.{RecorderState}
+use Rattle.cf_hall.specs.Fronts.{KeptSince}
 use Rattle.cf_hall.specs.Passes.{Sights, faults_by}
 use Rattle.cf_hall.specs.TakenState.{AreTakenStripes, AllSeen}
+use Rattle.cf_hall.proofs.Fronts.{kept_on}
 use Rattle.cf_hall.proofs.Saying.{risen_by, said_at, told_kept, told_added}
 use Rattle.cf_hall.proofs.Standing.{kept}
 use Rattle.cf_hall.proofs.book.HallBook.settle.Goals as goal
@@ -41,6 +44,10 @@ invariant_of-self g c =
           subst (λ (n : ℕ). RoseBy n g.N.City.risen (d.faults c.settle.new.self.disk)) (sym faulted)
           (risen_by (state_of d.faults b.archive) c.args.call.now c.in-Kept.answer (state_of d.faults c.settle.new.self) b.totals.faulted g.N.City.risen c.in-Kept.ensures.reply c.self.invariant.faulted);
       none_ended = ap (λ (r : RecorderState). r.ended) c.see.ensures.recorder ∙ ap (λ (r : RecorderState). r.ended) c.catch_up.ensures.recorder ∙ c.self.invariant.none_ended;
+      since = λ tells. inr (
+          subst (λ (p : Plan). KeptSince d.moment d.was_image p c.settle.new.self.entries g.N.City.begun c.settle.new.self.disk) (sym c.settle.ensures.plan)
+          (kept_on d.moment d.was_image b.archive.plan b.archive.entries c.settle.new.self.entries [] _ g.N.City.begun b.archive.disk c.settle.new.self.disk
+          (c.in-Kept.ensures.grows ∙ sym (append-nil b.archive.entries)) (c.self.invariant.since tells) (c.settle.ensures.any_moment tells)));
     }
 
 pub invariant_of-taken : goal.invariant_of-taken
@@ -110,6 +117,10 @@ invariant_of-self-in-Added g c =
           subst (λ (n : ℕ). RoseBy n g.N.City.risen (d.faults c.settle.new.self.disk)) (none ∙ sym faulted)
           (risen_by (state_of d.faults b.archive) c.args.call.now (posted.Reply c.in-Added.reply) (state_of d.faults c.settle.new.self) b.totals.faulted g.N.City.risen c.in-Added.ensures.reply c.self.invariant.faulted);
       none_ended = c.add_last.ensures.recorder.ended ∙ ap (λ (r : RecorderState). r.ended) c.catch_up.ensures.recorder ∙ c.self.invariant.none_ended;
+      since = λ tells. inr (
+          subst (λ (p : Plan). KeptSince d.moment d.was_image p c.settle.new.self.entries g.N.City.begun c.settle.new.self.disk) (sym c.settle.ensures.plan)
+          (kept_on d.moment d.was_image b.archive.plan b.archive.entries c.settle.new.self.entries (c.in-Added.ensures.grows.0 ∷ []) _ g.N.City.begun b.archive.disk c.settle.new.self.disk
+          c.in-Added.ensures.grows.1 (c.self.invariant.since tells) (c.settle.ensures.any_moment tells)));
     }
 
 pub returns-in-Added-clause-pass : goal.returns-in-Added-clause-pass

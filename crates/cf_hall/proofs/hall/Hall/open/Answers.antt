@@ -1,9 +1,13 @@
-use Rattle.std.proofs.Common.{◌≡◌, List, sym, ap, subst, ◌∙◌}
+use Rattle.std.proofs.Common.{◌≡◌, ℕ, List, length, sym, ap, subst, ◌∙◌, inl, arith}
 use Rattle.cf_book.specs.DurableState.{DurableBook}
 use Rattle.cf_calls.specs.declared.entry.Entry.{Entry}
 use Rattle.cf_chart.specs.Plan.{Plan}
 use Rattle.cf_names.specs.Lists.{entries_of}
+use Rattle.cf_names.specs.Shares.{TotalsState}
+use Rattle.cf_names.proofs.Entries.{entries_length}
 use Rattle.cf_registers.specs.Moved.{AreTablesOf}
+use Rattle.cf_turns.specs.Lists.{TaggedEntry}
+use Rattle.cf_turns.specs.States.{RecorderState}
 use Rattle.cf_hall.proofs.Begun.{begun}
 use Rattle.cf_hall.proofs.hall.Hall.open.Goals as goal
 
@@ -18,3 +22,33 @@ invariant_of-taken g c =
     let tables : AreTablesOf plan (entries_of list) lines =
     subst (λ (p : Plan). AreTablesOf p (entries_of list) lines) c.requires.plan.0 (subst (λ (h : List Entry). AreTablesOf c.args.book.plan h lines) entries parts.tables) in
     begun g.N.City.table plan lines list c.begin-recording.new.ties tables parts.whole c.begin-recording.ensures.ties
+
+pub invariant_of-book : goal.invariant_of-book
+invariant_of-book g c =
+    let d = g.D.Disk in
+    let parts = c.into_parts-lines.ensures in
+    let list = c.record_all.new.recorder.list in
+    let here : c.begin-recording.result.list ≡ list = c.begin-recording.ensures.list in
+    let entries : c.into_parts-lines.result.1.entries ≡ entries_of list = sym (c.entries-entries.ensures.value ∙ c.rest.ensures.entries) ∙ sym c.record_all.ensures.list in
+    record {
+      plan = ap (λ (a : DurableBook g.row.D.Denot). a.plan) parts.archive ∙ c.requires.plan.0;
+      list = entries ∙ ap entries_of (sym here);
+      accepted = omega (
+        arith,
+        ap (λ (t : TotalsState). t.accepted) c.record_all.ensures.totals,
+        ap (λ (t : TotalsState). t.accepted) c.open-totals.ensures.totals,
+        ap length c.record_all.ensures.list,
+        entries_length list,
+        ap (λ (l : List TaggedEntry). length l) here,
+      );
+      faulted = omega (
+        arith,
+        ap (λ (t : TotalsState). t.faulted) c.record_all.ensures.totals,
+        ap (λ (t : TotalsState). t.faulted) c.open-totals.ensures.totals,
+        c.requires.risen,
+        ap (λ (a : DurableBook g.row.D.Denot). d.faults a.disk) parts.archive,
+      );
+      none_ended = c.begin-recording.ensures.recorder.ended ∙ c.record_all.ensures.recorder.ended ∙ ap (λ (r : RecorderState). r.ended) c.open_pass.ensures.recorder ∙ c.open_ties-counts.ensures.recorder.2
+          ∙ ap (λ (r : RecorderState). r.ended) c.args.opening.fresh;
+      since = λ tells. inl (ap (λ (a : DurableBook g.row.D.Denot). d.moment a.disk) parts.archive ∙ c.requires.begun);
+    }
