@@ -1,0 +1,13 @@
+use Rattle.cf_hall.specs.OpeningNames.{name_at}
+use Rattle.hall_cases.proofs.hall.play_table.Given as goal
+
+abbrev pub ghosts-play_over : goal.ghosts-play_over
+ghosts-play_over g a = record {
+  table = a.opening.turns;
+  plan = a.chart;
+  stripes = name_at a.opening.stripes;
+  accepted = a.opening.accepted.name;
+  faulted = a.opening.faulted.name;
+  begun = g.D.Disk.moment a.book.disk;
+  risen = g.D.Disk.faults a.book.disk;
+}

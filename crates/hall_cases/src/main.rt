@@ -1,0 +1,40 @@
+//! Plays a script of callers over a hall, each in a thread of its own, and prints each line of the script with what the
+//! callers were answered. A hall that holds up a call for ever is told by a count of turns, and not by a program that hangs.
+//!
+//! | Line of the script | What it does |
+//! |---|---|
+//! | `# ..` | a heading |
+//! | `chart FILE` | the chart of the next journal |
+//! | `{..` | a call of the caller that came last; before the first caller, one of the desk that kept the journal before the hall is opened |
+//! | `caller` | a caller more |
+//! | `wait held`, `wait N` | the caller's next call is begun once a call is held at its gate, or once N calls were answered |
+//! | `hold N` | the caller's next call is held at its gate, its stripes taken, until N calls were answered |
+//! | `keep N` | the same until N calls were begun, and then for some turns more |
+//! | `play` | plays all callers over a new journal: prints what each was answered, how many entries there are, how many calls of each caller were accepted, and how many calls were held, gave up waiting or were overtaken while they were kept |
+//! | `mixed N` | plays them so many times, and prints what is the same whoever comes first: the replies without their places, then the places, both sorted |
+//! | `time`, `time desk`, `time read` | plays them, has a desk take their calls one after another, or reads their calls alone, and prints how long that took |
+#![tactic(auto)]
+
+mod board;
+mod caller;
+mod hall;
+mod journal;
+mod play;
+mod stage;
+mod summary;
+mod word;
+
+use play::play;
+use stage::Stage;
+use std::io;
+use word::word_of;
+
+fn main(rt: HostRuntime) -> io::Result<()> {
+    let mut stage = Stage::new(rt.alloc());
+    for line in rt.lines(rt.alloc()) {
+        let line = line?;
+        println!(rt; "{line}")?;
+        play(&rt, &mut stage, &word_of(line.as_str()))?;
+    }
+    Ok(())
+}
