@@ -151,6 +151,47 @@ def two_doors_at_once():
     verdicts.same("the line has no room", json.loads(replies[0])["is"]["room"], "0")
 
 
+def one_line_at_many_doors():
+    """Four doors spend on one line at once, together more than it has: each voucher is answered, and as many find room as there is."""
+    found(adopt([(0, 100)]))
+    serve = Serve(PROGRAM, 4, 1)
+    said, go = {}, threading.Barrier(4)
+
+    def speak(door):
+        with serve.link(door) as link:
+            go.wait(PATIENCE)
+            said[door] = [link.call(voucher(f"v{door}-{number}", 510, 1)) for number in range(40)]
+
+    speakers = [threading.Thread(target=speak, args=(door,)) for door in range(4)]
+    for speaker in speakers:
+        speaker.start()
+    for speaker in speakers:
+        speaker.join()
+    ends("one line at many doors", serve, 0, "served 4 links\n")
+    answers = [answer for answers in said.values() for answer in answers]
+    verdicts.same("each voucher is answered", len(answers), 160)
+    places = sorted(reply["at"] for code, reply in answers if code == 200)
+    verdicts.same("the line's room is spent, each cent of it once", places, list(range(2, 102)))
+    no = {"at": 101, "no": {"asked": "1", "code": 24, "line": 0, "name": "Exceeds", "room": "0"}}
+    verdicts.same("the others find no room", [answer for answer in answers if answer[0] != 200], [(409, no)] * 60)
+
+
+def half_a_call():
+    """A link that has sent half of a call holds up no other door: the call is judged once the rest has come."""
+    found(adopt([(0, 100000)]))
+    serve = Serve(PROGRAM, 2, 1)
+    call = post(json.dumps(voucher("v1", 510, 60000)))
+    with serve.link(0) as half, serve.link(1) as other:
+        half.send(call[:-20])
+        code, reply = other.call(voucher("v2", 510, 60000))
+        verdicts.same("a call at the other door", (code, reply and reply["at"]), (200, 2))
+        half.send(call[-20:])
+        answer = half.answer()
+        no = {"asked": "60000", "code": 24, "line": 0, "name": "Exceeds", "room": "40000"}
+        verdicts.same("the rest of the call", answer and (answer.code, json.loads(answer.body)), (409, {"at": 2, "no": no}))
+    ends("half a call", serve, 0, "served 2 links\n")
+
+
 def after_across_doors():
     found(adopt([(0, 100000)]))
     serve = Serve(PROGRAM, 2, 1)
@@ -295,8 +336,8 @@ def beside_a_desk():
     verdicts.same("a desk after serve", desk([look(0)])[1], 0)
 
 
-for part in (texts, a_day, two_doors_at_once, after_across_doors, one_link_at_a_door, slow_and_silent, lost_replies,
-             a_door_that_cannot_open, no_room_for_the_last_line, beside_a_desk):
+for part in (texts, a_day, two_doors_at_once, one_line_at_many_doors, half_a_call, after_across_doors, one_link_at_a_door,
+             slow_and_silent, lost_replies, a_door_that_cannot_open, no_room_for_the_last_line, beside_a_desk):
     try:
         part()
     except (OSError, AttributeError, TypeError, KeyError) as fault:
