@@ -24,9 +24,9 @@ use cf_budget::Lines;
 use cf_calls::{Body, Call, Change, Drawn, Entry, Posted, Reply, Verdict, entry_of};
 use cf_disk::Disk;
 use cf_journal::Journal;
+use cf_looks::look_reply;
 use cf_office::{
-    Lent, Prepared, PreparedLines, Rest, apply_rest, judge, look_reply, refusal_reply,
-    repeat_reply, reserve,
+    Lent, Prepared, PreparedLines, Rest, apply_rest, judge, refusal_reply, repeat_reply, reserve,
 };
 use std::alloc::Global;
 use std::marker::Model;

@@ -2,5 +2,4 @@ pub mod Dues
 pub mod LastRules
 pub mod Least
 pub mod Short
-pub mod SmallBalance
 pub mod Verdicts

@@ -1,3 +1,1 @@
-pub mod Books
 pub mod Least
-pub mod Posts

@@ -1,30 +1,27 @@
-//! The verdict on a change, and the answer of a look: the rules in their order, over any history.
+//! The verdict on a change: the rules in their order, over any history.
 
-ghost use Rattle.std.specs.Prelude.{◌≡◌, ◌<◌, true, None, Some, IfOk};
+ghost use Rattle.std.specs.Prelude.{◌≡◌, true, None};
 ghost use Rattle.cf_base.specs.Calendar.{is_day};
-ghost use Rattle.cf_calls.specs.Form.{IsChangeInForm, IsReadInForm};
+ghost use Rattle.cf_calls.specs.Form.{IsChangeInForm};
 ghost use Rattle.cf_model.specs.Documents.{documents_of};
-ghost use Rattle.cf_registers.specs.Lines.{LendsTouched, LendsRead};
+ghost use Rattle.cf_registers.specs.Lines.{LendsTouched};
 ghost use Rattle.cf_model.specs.RegisterRules.{register_name_refusal};
 ghost use Rattle.cf_model.specs.Registers.{registers_of};
 ghost use Rattle.cf_model.specs.Rules as rules;
 ghost use Rattle.cf_model.specs.Step as step;
-ghost use Rattle.cf_registers.specs.RegistersState.{register_rules, register_shown};
+ghost use Rattle.cf_registers.specs.RegistersState.{register_rules};
 
 use crate::cash::cash_rule;
 use crate::exceeds::exceed_rule;
-use crate::history::{History, debt_of, orders_of};
+use crate::history::{History, orders_of};
 use crate::names::name_rule;
-use crate::register_names::{leave_fault, register_name_rule};
-use crate::reports::show_report;
+use crate::register_names::register_name_rule;
 use crate::rules::{
     adopted_rule, ahead_rule, amount_rule, closed_rule, closing_rule, desk_rule, full_rule,
     levy_rule, or, payment_rule, period_rule, role_rule, unadopted_rule, year_rule,
 };
 use crate::windows::window_rule;
-use cf_calls::{Body, Change, Look, NameKind, Read, Refusal, Shown, Verdict};
-use cf_registers::Registers;
-use std::alloc::{AllocError, Global};
+use cf_calls::{Change, Refusal, Verdict};
 
 /// The rules before a repeat: an unknown desk, and a caller that has seen more than the history has.
 fn first_rules<H: History>(history: &H, change: &Change) -> Option<Refusal>
@@ -171,108 +168,5 @@ pub fn judge<H: History>(history: &H, change: &Change) -> Verdict
     match history.known(change) {
         Some(was) => judge_known(history, change, was),
         None => judge_new(history, change),
-    }
-}
-
-/// The numbers of a line and year, or that there is no such line.
-fn show_line<H: History>(history: &H, line: u16, year: u16) -> Body
-    requires year { year < 2201 }
-    requires lent { H.lends history.now line ≡ true }
-    ensures { result ≡ step.line_shown (H.plan history.now) (H.entries history.now) line year }
-{
-    match history.chart().line(line) {
-        Some(_) => Body::Shown(Shown::Line(history.numbers(line, year))),
-        None => Body::Refused(Refusal::UnknownName {
-            kind: NameKind::Line,
-            id: u32::from(line),
-        }),
-    }
-}
-
-/// What a look at a document or a bill shows, if there is one of its number.
-fn look_at<H: History>(alloc: Global, history: &H, read: &Read) -> Result<Option<Shown>, AllocError>
-    ensures { IfOk result (λ s. s ≡ register_shown (H.plan history.now) (registers_of (H.plan history.now) (H.entries history.now)) read.now) }
-{
-    history.registers().look(alloc, history.chart(), read)
-}
-
-/// What a look at a document or a bill shows, or that there is none of its number.
-fn show_numbered<H: History>(
-    alloc: Global,
-    history: &H,
-    kind: NameKind,
-    number: u32,
-    read: &Read,
-) -> Result<Body, AllocError>
-    ensures { IfOk result (λ b. b ≡ step.or_refused kind number (register_shown (H.plan history.now) (registers_of (H.plan history.now) (H.entries history.now)) read.now)) }
-{
-    match look_at(alloc, history, read)? {
-        Some(shown) => Ok(Body::Shown(shown)),
-        None => Ok(Body::Refused(Refusal::UnknownName { kind, id: number })),
-    }
-}
-
-/// The leave of a fund's department that is left, or that there is no such fund or department.
-fn show_leave<H: History>(history: &H, fund: u16, dept: u16) -> Body
-    ensures { result ≡ step.shown_of (H.plan history.now) (H.entries history.now) (Read.Leave fund dept) }
-{
-    match leave_fault(history.chart(), fund, dept) {
-        Some(refusal) => Body::Refused(refusal),
-        None => Body::Shown(Shown::Leave {
-            left: debt_of(history).leave_of(fund, dept),
-        }),
-    }
-}
-
-/// What a look shows, but for what its caller has seen.
-fn show<H: History>(alloc: Global, history: &H, read: &Read) -> Result<Body, AllocError>
-    requires form { IsReadInForm read.now }
-    requires lent { LendsRead (H.lends history.now) read.now }
-    ensures { IfOk result (λ b. b ≡ step.shown_of (H.plan history.now) (H.entries history.now) read.now) }
-{
-    match *read {
-        Read::Line { line, year } => Ok(show_line(history, line, year)),
-        Read::Requisition { requisition } => {
-            show_numbered(alloc, history, NameKind::Requisition, requisition, read)
-        }
-        Read::Order { order } => { show_numbered(alloc, history, NameKind::Order, order, read) }
-        Read::Voucher { voucher } => {
-            show_numbered(alloc, history, NameKind::Voucher, voucher, read)
-        }
-        Read::Bill { bill } => { show_numbered(alloc, history, NameKind::Bill, bill, read) }
-        Read::Asset { asset } => { show_numbered(alloc, history, NameKind::Asset, asset, read) }
-        Read::Bond { bond } => { show_numbered(alloc, history, NameKind::Bond, bond, read) }
-        Read::Leave { fund, dept } => Ok(show_leave(history, fund, dept)),
-        Read::Account {
-            basis,
-            year,
-            fund,
-            account,
-        } => {
-            let balance = history.balance(basis, year, fund, account);
-            Ok(Body::Shown(Shown::Account { balance }))
-        }
-        Read::Reconcile { year } => {
-            let recon = history.recon(year);
-            Ok(Body::Shown(Shown::Reconcile(recon)))
-        }
-        Read::Report { year, kind } => {
-            let shown = show_report(alloc, history, year, kind)?;
-            Ok(Body::Shown(shown))
-        }
-    }
-}
-
-/// What a look shows. A look is refused where the caller has seen more than the history has, and where there is
-/// nothing of its name. Its list of items takes memory.
-pub fn answer<H: History>(alloc: Global, history: &H, look: &Look) -> Result<Body, AllocError>
-    requires form { IsReadInForm look.now.read }
-    requires lent { LendsRead (H.lends history.now) look.now.read }
-    ensures { IfOk result (λ b. b ≡ step.look_body (H.plan history.now) (H.entries history.now) look.now) }
-{
-    let body = show(alloc, history, &look.read)?;
-    match ahead_rule(look.after, history.len()) {
-        Some(refusal) => Ok(Body::Refused(refusal)),
-        None => Ok(body),
     }
 }

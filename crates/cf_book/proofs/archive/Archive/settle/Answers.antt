@@ -2,7 +2,7 @@ use Rattle.std.proofs.Common.{inl, sym, subst}
 use Rattle.cf_calls.specs.declared.call.Call.{Call}
 use Rattle.cf_calls.specs.declared.call.Call.TheVariants as calls
 use Rattle.cf_office.specs.LentState.{LentState}
-use Rattle.cf_rules.specs.Posts.{Posts}
+use Rattle.cf_looks.specs.Posts.{Posts}
 use Rattle.cf_book.specs.DurableState.{DurableState}
 use Rattle.cf_book.specs.Settling.{Settles}
 use Rattle.cf_book.specs.Snapshots.{doubt_of}

@@ -4,11 +4,11 @@ ghost use Rattle.std.specs.Prelude.{◌≡◌, ◌<◌, ◌*◌, ◌^◌, ◌+�
 ghost use Rattle.cf_model.specs.Postings.{balance_of};
 ghost use Rattle.cf_model.specs.Report as spec;
 ghost use Rattle.cf_model.specs.Report.{sums_of};
-ghost use Rattle.cf_rules.specs.Books.{assets_of, debts_of, liabilities_of};
+ghost use Rattle.cf_looks.specs.Books.{assets_of, debts_of, liabilities_of};
 
-use crate::history::History;
 use cf_calls::{Basis, LineNumbers};
 use cf_chart::Chart;
+use cf_rules::History;
 use cf_statements::Figures;
 
 /// A history, lent to those who make statements of it.

@@ -9,7 +9,7 @@ use Rattle.cf_model.specs.DocumentsShown.{requisition_shown, order_shown, vouche
 use Rattle.cf_model.specs.Registers.{registers_of}
 use Rattle.cf_model.specs.Step.{or_refused, shown_of}
 use Rattle.cf_registers.specs.RegistersState.{register_shown}
-use Rattle.cf_rules.proofs.verdict.show.Goals as goal
+use Rattle.cf_looks.proofs.looks.show.Goals as goal
 
 pub returns-in-Line : goal.returns-in-Line
 returns-in-Line g c =

@@ -2,7 +2,7 @@ use Rattle.std.proofs.Common.{◌≡◌, subst, IfOk}
 use Rattle.cf_chart.specs.Plan.{Plan}
 use Rattle.cf_model.specs.Registers.{Registers}
 use Rattle.cf_registers.specs.RegistersState.{register_shown}
-use Rattle.cf_rules.proofs.verdict.look_at.Goals as goal
+use Rattle.cf_looks.proofs.looks.look_at.Goals as goal
 
 pub returns : goal.returns
 returns g c =

@@ -2,8 +2,8 @@ use Rattle.std.proofs.Common.{◌<◌, ◌^◌, ◌≤◌, length, unsigned_abs,
 use Rattle.std.proofs.lemmas.Int.{to_z-of_z}
 use mir.Val.{SFits}
 use mir.Syntax.{w128}
-use Rattle.cf_rules.proofs.SmallBalance.{small_balance}
-use Rattle.cf_rules.proofs.books.balance.Goals as goal
+use Rattle.cf_looks.proofs.SmallBalance.{small_balance}
+use Rattle.cf_looks.proofs.books.balance.Goals as goal
 
 pub returns-clause-small : goal.returns-clause-small
 returns-clause-small g c =

@@ -3,7 +3,7 @@ use Rattle.std.proofs.lemmas.Int.{to_z-of_z}
 use mir.Val.{SFits}
 use mir.Syntax.{w128}
 use Rattle.cf_model.proofs.FundAccounts.{fund_balance_is}
-use Rattle.cf_rules.proofs.books.fund_balance.Goals as goal
+use Rattle.cf_looks.proofs.books.fund_balance.Goals as goal
 
 pub returns : goal.returns
 returns g c =

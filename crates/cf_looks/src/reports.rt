@@ -5,10 +5,10 @@ ghost use Rattle.cf_calls.specs.Form.{IsYear};
 ghost use Rattle.cf_model.specs.Report as spec;
 
 use crate::books::Books;
-use crate::history::History;
 use cf_base::Kind;
 use cf_calls::{Label, List, Row, Shown};
 use cf_recon::{change_rows, recon_rows};
+use cf_rules::History;
 use cf_statements::{
     balance_sheet, comparison, net_position, operating_statement, statement_of_activities, title,
 };

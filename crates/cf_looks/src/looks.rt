@@ -1,0 +1,133 @@
+//! The answer of a look, over any history.
+
+ghost use Rattle.std.specs.Prelude.{◌≡◌, ◌<◌, true, IfOk};
+ghost use Rattle.cf_calls.specs.Form.{IsReadInForm};
+ghost use Rattle.cf_calls.specs.declared.call.Call.TheVariants as calls;
+ghost use Rattle.cf_model.specs.Registers.{registers_of};
+ghost use Rattle.cf_model.specs.Step as step;
+ghost use Rattle.cf_registers.specs.Lines.{LendsRead};
+ghost use Rattle.cf_registers.specs.RegistersState.{register_shown};
+ghost use Rattle.cf_looks.specs.Posts.{Posts};
+
+use crate::reports::show_report;
+use cf_calls::{Body, Look, NameKind, Posted, Read, Refusal, Reply, Shown};
+use cf_rules::{History, ahead_rule, debt_of, leave_fault};
+use std::alloc::{AllocError, Global};
+
+/// The numbers of a line and year, or that there is no such line.
+fn show_line<H: History>(history: &H, line: u16, year: u16) -> Body
+    requires year { year < 2201 }
+    requires lent { H.lends history.now line ≡ true }
+    ensures { result ≡ step.line_shown (H.plan history.now) (H.entries history.now) line year }
+{
+    match history.chart().line(line) {
+        Some(_) => Body::Shown(Shown::Line(history.numbers(line, year))),
+        None => Body::Refused(Refusal::UnknownName {
+            kind: NameKind::Line,
+            id: u32::from(line),
+        }),
+    }
+}
+
+/// What a look at a document or a bill shows, if there is one of its number.
+fn look_at<H: History>(alloc: Global, history: &H, read: &Read) -> Result<Option<Shown>, AllocError>
+    ensures { IfOk result (λ s. s ≡ register_shown (H.plan history.now) (registers_of (H.plan history.now) (H.entries history.now)) read.now) }
+{
+    history.registers().look(alloc, history.chart(), read)
+}
+
+/// What a look at a document or a bill shows, or that there is none of its number.
+fn show_numbered<H: History>(
+    alloc: Global,
+    history: &H,
+    kind: NameKind,
+    number: u32,
+    read: &Read,
+) -> Result<Body, AllocError>
+    ensures { IfOk result (λ b. b ≡ step.or_refused kind number (register_shown (H.plan history.now) (registers_of (H.plan history.now) (H.entries history.now)) read.now)) }
+{
+    match look_at(alloc, history, read)? {
+        Some(shown) => Ok(Body::Shown(shown)),
+        None => Ok(Body::Refused(Refusal::UnknownName { kind, id: number })),
+    }
+}
+
+/// The leave of a fund's department that is left, or that there is no such fund or department.
+fn show_leave<H: History>(history: &H, fund: u16, dept: u16) -> Body
+    ensures { result ≡ step.shown_of (H.plan history.now) (H.entries history.now) (Read.Leave fund dept) }
+{
+    match leave_fault(history.chart(), fund, dept) {
+        Some(refusal) => Body::Refused(refusal),
+        None => Body::Shown(Shown::Leave {
+            left: debt_of(history).leave_of(fund, dept),
+        }),
+    }
+}
+
+/// What a look shows, but for what its caller has seen.
+fn show<H: History>(alloc: Global, history: &H, read: &Read) -> Result<Body, AllocError>
+    requires form { IsReadInForm read.now }
+    requires lent { LendsRead (H.lends history.now) read.now }
+    ensures { IfOk result (λ b. b ≡ step.shown_of (H.plan history.now) (H.entries history.now) read.now) }
+{
+    match *read {
+        Read::Line { line, year } => Ok(show_line(history, line, year)),
+        Read::Requisition { requisition } => {
+            show_numbered(alloc, history, NameKind::Requisition, requisition, read)
+        }
+        Read::Order { order } => { show_numbered(alloc, history, NameKind::Order, order, read) }
+        Read::Voucher { voucher } => {
+            show_numbered(alloc, history, NameKind::Voucher, voucher, read)
+        }
+        Read::Bill { bill } => { show_numbered(alloc, history, NameKind::Bill, bill, read) }
+        Read::Asset { asset } => { show_numbered(alloc, history, NameKind::Asset, asset, read) }
+        Read::Bond { bond } => { show_numbered(alloc, history, NameKind::Bond, bond, read) }
+        Read::Leave { fund, dept } => Ok(show_leave(history, fund, dept)),
+        Read::Account {
+            basis,
+            year,
+            fund,
+            account,
+        } => {
+            let balance = history.balance(basis, year, fund, account);
+            Ok(Body::Shown(Shown::Account { balance }))
+        }
+        Read::Reconcile { year } => {
+            let recon = history.recon(year);
+            Ok(Body::Shown(Shown::Reconcile(recon)))
+        }
+        Read::Report { year, kind } => {
+            let shown = show_report(alloc, history, year, kind)?;
+            Ok(Body::Shown(shown))
+        }
+    }
+}
+
+/// What a look shows. A look is refused where the caller has seen more than the history has, and where there is
+/// nothing of its name. Its list of items takes memory.
+pub fn answer<H: History>(alloc: Global, history: &H, look: &Look) -> Result<Body, AllocError>
+    requires form { IsReadInForm look.now.read }
+    requires lent { LendsRead (H.lends history.now) look.now.read }
+    ensures { IfOk result (λ b. b ≡ step.look_body (H.plan history.now) (H.entries history.now) look.now) }
+{
+    let body = show(alloc, history, &look.read)?;
+    match ahead_rule(look.after, history.len()) {
+        Some(refusal) => Ok(Body::Refused(refusal)),
+        None => Ok(body),
+    }
+}
+
+/// What is given for a look: what it shows, or want of memory.
+pub fn look_reply<H: History>(alloc: Global, history: &H, look: &Look) -> Posted
+    requires form { IsReadInForm look.now.read }
+    requires lent { LendsRead (H.lends history.now) look.now.read }
+    ensures { Posts (H.plan history.now) (H.entries history.now) (calls.Look look.now) (H.entries history.now) result }
+{
+    match answer(alloc, history, look) {
+        Ok(body) => Posted::Reply(Reply {
+            at: history.len(),
+            body,
+        }),
+        Err(_) => Posted::NoMemory,
+    }
+}
