@@ -1,6 +1,6 @@
 //! The run of `desk`.
 
-ghost use Rattle.std.specs.Prelude.{◌≡◌, ◌⊎◌, [], None, Some, map, string_bytes};
+ghost use Rattle.std.specs.Prelude.{◌≡◌, ◌≢◌, ◌⊎◌, [], None, Some, map, string_bytes};
 ghost use Rattle.std.specs.Io.KnownBytes.{Consumes};
 ghost use Rattle.cf_base.specs.Causes.{Rose};
 ghost use Rattle.cf_desk.specs.declared.ended.Ended.TheVariants as ended;
@@ -44,6 +44,8 @@ fn keep_desk<I: Source, O: Sink, D: Disk + Drop>(
     ensures read { result.0 ≡ ended.ReadFault → Rose (I.faults input.old) (I.faults input.new) }
     ensures write { result.0 ≡ ended.WriteFault → Rose (O.faults out.old) (O.faults out.new) }
     ensures memory { result.0 ≡ ended.NoMemory → (I.faults input.new ≡ I.faults input.old) × (O.faults out.new ≡ O.faults out.old) }
+    ensures input_quiet { result.0 ≢ ended.ReadFault → I.faults input.new ≡ I.faults input.old }
+    ensures out_quiet { result.0 ≢ ended.WriteFault → O.faults out.new ≡ O.faults out.old }
 {
     let mut clerk = Clerk { alloc, book };
     let how = run_lines(alloc, &mut clerk, input, out);
@@ -65,6 +67,8 @@ fn desk_over<I: Source, O: Sink, D: Disk + Drop>(
     ensures disk { result.status ≡ Status.DiskFault → Rose (D.faults disk) (D.faults result.disk) }
     ensures memory { result.status ≡ Status.NoMemory → (I.faults input.new ≡ I.faults input.old) × (O.faults out.new ≡ O.faults out.old)
         × (D.faults result.disk ≡ D.faults disk) }
+    ensures input_quiet { result.status ≢ Status.ReadFault → I.faults input.new ≡ I.faults input.old }
+    ensures out_quiet { result.status ≢ Status.WriteFault → O.faults out.new ≡ O.faults out.old }
 {
     match open(alloc, disk) {
         Ok(book) => {
@@ -100,6 +104,8 @@ pub fn run_desk<I: Source, O: Sink, D: Disk + Drop>(
     ensures disk { result.status ≡ Status.DiskFault → Rose (D.faults disk) (D.faults result.disk) }
     ensures memory { result.status ≡ Status.NoMemory → (I.faults input.new ≡ I.faults input.old) × (O.faults out.new ≡ O.faults out.old)
         × (D.faults result.disk ≡ D.faults disk) }
+    ensures input_quiet { result.status ≢ Status.ReadFault → I.faults input.new ≡ I.faults input.old }
+    ensures out_quiet { result.status ≢ Status.WriteFault → O.faults out.new ≡ O.faults out.old }
 {
     match read_words(alloc, words) {
         Ok(Command::Desk) => desk_over(alloc, input, out, disk),

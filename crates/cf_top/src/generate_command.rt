@@ -1,6 +1,6 @@
 //! The run of `generate`.
 
-ghost use Rattle.std.specs.Prelude.{◌≡◌, ◌⊎◌, ◌≤◌, ◌++◌, ℕ, Some, IfOk, OnOk, map, string_bytes};
+ghost use Rattle.std.specs.Prelude.{◌≡◌, ◌≢◌, ◌⊎◌, ◌≤◌, ◌++◌, ℕ, Some, IfOk, OnOk, map, string_bytes};
 ghost use Rattle.cf_base.specs.Causes.{Rose};
 ghost use Rattle.cf_statements.specs.Sums.{single};
 ghost use Rattle.cf_text.specs.Statement.{row_line};
@@ -63,6 +63,7 @@ fn print_generated<O: Sink>(alloc: Global, n: u32, out: &mut O) -> Status
     ensures ends { GenerateEnds n (O.held out.old) (O.held out.new) result }
     ensures write { result ≡ Status.WriteFault → Rose (O.faults out.old) (O.faults out.new) }
     ensures memory { result ≡ Status.NoMemory → O.faults out.new ≡ O.faults out.old }
+    ensures out_quiet { result ≢ Status.WriteFault → O.faults out.new ≡ O.faults out.old }
 {
     print(run_lines(alloc, n), out)
 }
@@ -77,6 +78,7 @@ pub fn run_generate<O: Sink>(alloc: Global, words: &[String], out: &mut O) -> St
         → ((result ≡ Status.BadWords) ⊎ (result ≡ Status.NoMemory)) × (O.held out.new ≡ O.held out.old) }
     ensures write { result ≡ Status.WriteFault → Rose (O.faults out.old) (O.faults out.new) }
     ensures memory { result ≡ Status.NoMemory → O.faults out.new ≡ O.faults out.old }
+    ensures out_quiet { result ≢ Status.WriteFault → O.faults out.new ≡ O.faults out.old }
 {
     match read_words(alloc, words) {
         Ok(Command::Generate { n }) => print_generated(alloc, n, out),

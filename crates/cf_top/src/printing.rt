@@ -1,6 +1,6 @@
 //! Prints the text of a command.
 
-ghost use Rattle.std.specs.Prelude.{◌≡◌, ℕ, List, IfOk, OnErr};
+ghost use Rattle.std.specs.Prelude.{◌≡◌, ◌≢◌, ℕ, List, IfOk, OnErr};
 ghost use Rattle.cf_base.specs.Causes.{Rose};
 ghost use Rattle.cf_top.specs.Printing.{Prints};
 
@@ -15,6 +15,7 @@ pub(crate) fn print<O: Sink>(text: Result<Vec<u8>, AllocError>, out: &mut O) -> 
     ensures none { OnErr text (result ≡ Status.NoMemory) }
     ensures write { result ≡ Status.WriteFault → Rose (O.faults out.old) (O.faults out.new) }
     ensures memory { result ≡ Status.NoMemory → O.faults out.new ≡ O.faults out.old }
+    ensures out_quiet { result ≢ Status.WriteFault → O.faults out.new ≡ O.faults out.old }
 {
     match text {
         Ok(text) => match write_all(out, text.as_slice()) {

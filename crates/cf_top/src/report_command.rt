@@ -1,6 +1,6 @@
 //! The run of `report`.
 
-ghost use Rattle.std.specs.Prelude.{◌≡◌, ◌⊎◌, ℕ, Bool, Some, IfOk, map, string_bytes};
+ghost use Rattle.std.specs.Prelude.{◌≡◌, ◌≢◌, ◌⊎◌, ℕ, Bool, Some, IfOk, map, string_bytes};
 ghost use Rattle.cf_base.specs.Causes.{Rose};
 ghost use Rattle.cf_base.specs.declared.statement.Kind.{Kind};
 ghost use Rattle.cf_calls.specs.Form.{IsYear};
@@ -50,6 +50,7 @@ fn report_over<O: Sink, D: Disk + Drop>(
     ensures write { result.status ≡ Status.WriteFault → Rose (O.faults out.old) (O.faults out.new) }
     ensures disk { result.status ≡ Status.DiskFault → Rose (D.faults disk) (D.faults result.disk) }
     ensures memory { result.status ≡ Status.NoMemory → (O.faults out.new ≡ O.faults out.old) × (D.faults result.disk ≡ D.faults disk) }
+    ensures out_quiet { result.status ≢ Status.WriteFault → O.faults out.new ≡ O.faults out.old }
 {
     match open(alloc, disk) {
         Ok(book) => {
@@ -83,6 +84,7 @@ pub fn run_report<O: Sink, D: Disk + Drop>(
     ensures write { result.status ≡ Status.WriteFault → Rose (O.faults out.old) (O.faults out.new) }
     ensures disk { result.status ≡ Status.DiskFault → Rose (D.faults disk) (D.faults result.disk) }
     ensures memory { result.status ≡ Status.NoMemory → (O.faults out.new ≡ O.faults out.old) × (D.faults result.disk ≡ D.faults disk) }
+    ensures out_quiet { result.status ≢ Status.WriteFault → O.faults out.new ≡ O.faults out.old }
 {
     match read_words(alloc, words) {
         Ok(Command::Report { year, kind, csv }) => report_over(alloc, year, kind, csv, out, disk),

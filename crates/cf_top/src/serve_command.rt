@@ -1,6 +1,6 @@
 //! The run of `serve`.
 
-ghost use Rattle.std.specs.Prelude.{◌≡◌, ◌⊎◌, ◌+◌, ◌-◌, ◌≤◌, ◌<◌, ◌++◌, ℕ, [], Some, IfOk, drop, length, map, reverse, string_bytes, take};
+ghost use Rattle.std.specs.Prelude.{◌≡◌, ◌≢◌, ◌⊎◌, ◌+◌, ◌-◌, ◌≤◌, ◌<◌, ◌++◌, ℕ, [], Some, IfOk, drop, length, map, reverse, string_bytes, take};
 ghost use Rattle.std.specs.Vec.{vec_len, vec_capacity};
 ghost use Rattle.cf_base.specs.Causes.{Rose};
 ghost use Rattle.cf_talk.specs.ServeEnds.{served_text};
@@ -97,6 +97,7 @@ fn put_served(line: &mut Vec<u8>, links: u64)
 fn put_line<O: Sink>(line: &[u8], out: &mut O) -> Status
     ensures line { PutsLine line.now (O.held out.old) (O.held out.new) result }
     ensures write { result ≡ Status.WriteFault → Rose (O.faults out.old) (O.faults out.new) }
+    ensures out_quiet { result ≢ Status.WriteFault → O.faults out.new ≡ O.faults out.old }
 {
     match write_all(out, line) {
         Ok(()) => Status::Ok,
@@ -111,6 +112,7 @@ fn tell_kept<O: Sink>(kept: Kept, line: &mut Vec<u8>, out: &mut O) -> Status
     ensures told { TellsKept kept (O.held out.old) (O.held out.new) result }
     ensures write { result ≡ Status.WriteFault → Rose (O.faults out.old) (O.faults out.new) }
     ensures quiet { result ≡ Status.NoMemory → O.faults out.new ≡ O.faults out.old }
+    ensures out_quiet { result ≢ Status.WriteFault → O.faults out.new ≡ O.faults out.old }
 {
     match kept {
         Kept::Served { links } => {
@@ -248,6 +250,7 @@ where
     ensures write { result.status ≡ Status.WriteFault → Rose (O.faults out.old) (O.faults out.new) }
     ensures disk { result.status ≡ Status.DiskFault → Rose (D.faults disk) (D.faults result.disk) }
     ensures memory { result.status ≡ Status.NoMemory → (O.faults out.new ≡ O.faults out.old) × (D.faults result.disk ≡ D.faults disk) }
+    ensures out_quiet { result.status ≢ Status.WriteFault → O.faults out.new ≡ O.faults out.old }
     ensures words { result.status ≡ Status.BadWords → length doors.old.items < count }
 {
     if doors.len() < count {
@@ -294,6 +297,7 @@ where
     ensures write { result.status ≡ Status.WriteFault → Rose (O.faults out.old) (O.faults out.new) }
     ensures disk { result.status ≡ Status.DiskFault → Rose (D.faults disk) (D.faults result.disk) }
     ensures memory { result.status ≡ Status.NoMemory → (O.faults out.new ≡ O.faults out.old) × (D.faults result.disk ≡ D.faults disk) }
+    ensures out_quiet { result.status ≢ Status.WriteFault → O.faults out.new ≡ O.faults out.old }
 {
     match read_words(alloc, words) {
         Ok(
