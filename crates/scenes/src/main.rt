@@ -7,6 +7,7 @@
 //! | `{..` | a line for the next desk |
 //! | `lines FILE` | the lines of a file for the next desk |
 //! | `chart FILE`, `swap OLD => NEW` | the chart for the next `found`, and a change of it |
+//! | `check OLD => NEW` | prints the exit code and the notice of `books check-chart` for that chart with a change, in which `;` is the end of a line |
 //! | `fail N`, `stop N` | the next run's disk fails at its call N, or stops there |
 //! | `limit N` | the next run's output takes N bytes |
 //! | `door`, `door N` | a door more for the next run, whose call N for a link fails |
@@ -20,6 +21,7 @@
 //! | `tears` | prints what a desk with the lines says over each image that a crash at the end of the last run may leave: first of a desk that runs on, and then of one whose disk stops at one of its first five calls |
 #![tactic(auto)]
 
+mod checks;
 mod cuts;
 mod doors;
 mod images;

@@ -1,5 +1,6 @@
 //! What each line of the script does.
 
+use crate::checks::show_check;
 use crate::cuts::show_cuts;
 use crate::doors::show_doors;
 use crate::stage::Stage;
@@ -62,6 +63,7 @@ fn play_shown<R: Files + Print + AllocGlobal + Threads + Wait + Sync>(
             stage.chart = fs::read_to_string(rt, file)?;
             Ok(())
         }
+        Word::Check { old, new } => { show_check(rt, stage.alloc, stage.chart.as_str(), old, new) }
         Word::Run(words) => show_run(rt, stage, words),
         Word::Calls => show_calls(rt, stage),
         Word::Same => show_same(rt, stage),

@@ -8,6 +8,7 @@ pub enum Word<'a> {
     Lines(&'a str),
     Chart(&'a str),
     Swap { old: &'a str, new: &'a str },
+    Check { old: &'a str, new: &'a str },
     Fail(u64),
     Stop(u64),
     Limit(usize),
@@ -46,6 +47,13 @@ pub fn byte(word: &str) -> u8 {
 fn swap(rest: &str) -> Word<'_> {
     match rest.split_once(" => ") {
         Some((old, new)) => Word::Swap { old, new },
+        None => Word::Heading,
+    }
+}
+
+fn check(rest: &str) -> Word<'_> {
+    match rest.split_once(" => ") {
+        Some((old, new)) => Word::Check { old, new },
         None => Word::Heading,
     }
 }
@@ -100,6 +108,7 @@ pub fn word_of(line: &str) -> Word<'_> {
         "lines" => Word::Lines(rest),
         "chart" => Word::Chart(rest),
         "swap" => swap(rest),
+        "check" => check(rest),
         "fail" => Word::Fail(number(rest)),
         "stop" => Word::Stop(number(rest)),
         "limit" => Word::Limit(size(rest)),
