@@ -1,158 +1,9 @@
-//! The text of an act.
+//! The text of an act: a struct by its name and fields.
 
-use crate::told::{Told, told_list, told_number};
+use crate::items::tell_list;
+use crate::page::Page;
 use cf_calls::Act;
-use cf_calls::acts::{
-    Adoption, Amendment, AssetAct, BillAmount, BondIssue, DebtPayment, FundMove, FundMoveKind,
-    LeaveAct, LeaveAmount, LineTransfer, NewBill, NewOrder, NewRequisition, NewVoucher,
-    OrderChange, Payment, Period,
-};
-use std::alloc::{AllocError, Global};
-
-impl Told for Adoption {
-    fn told(&self, alloc: Global) -> Result<String, AllocError> {
-        let lines = told_list(alloc, self.lines.as_slice())?;
-        let estimates = told_list(alloc, self.estimates.as_slice())?;
-        format!(in alloc;
-            "Adoption {{ fund: {}, year: {}, lines: {lines}, estimates: {estimates} }}",
-            self.fund, self.year
-        )
-    }
-}
-
-impl Told for Amendment {
-    fn told(&self, alloc: Global) -> Result<String, AllocError> {
-        format!(in alloc;
-            "Amendment {{ fund: {}, year: {}, line: {}, by: {} }}",
-            self.fund, self.year, self.line, self.by
-        )
-    }
-}
-
-impl Told for LineTransfer {
-    fn told(&self, alloc: Global) -> Result<String, AllocError> {
-        format!(in alloc;
-            "LineTransfer {{ fund: {}, year: {}, from: {}, to: {}, amount: {} }}",
-            self.fund, self.year, self.from, self.to, self.amount
-        )
-    }
-}
-
-impl Told for NewRequisition {
-    fn told(&self, alloc: Global) -> Result<String, AllocError> {
-        let items = told_list(alloc, self.items.as_slice())?;
-        format!(in alloc; "NewRequisition {{ items: {items} }}")
-    }
-}
-
-impl Told for NewOrder {
-    fn told(&self, alloc: Global) -> Result<String, AllocError> {
-        let requisition = told_number(alloc, self.requisition.map(u64::from))?;
-        let items = told_list(alloc, self.items.as_slice())?;
-        format!(in alloc;
-            "NewOrder {{ vendor: {}, requisition: {requisition}, items: {items} }}",
-            self.vendor
-        )
-    }
-}
-
-impl Told for OrderChange {
-    fn told(&self, alloc: Global) -> Result<String, AllocError> {
-        format!(in alloc;
-            "OrderChange {{ order: {}, item: {}, fund: {}, dept: {}, object: {}, by: {} }}",
-            self.order, self.item, self.fund, self.dept, self.object, self.by
-        )
-    }
-}
-
-impl Told for NewVoucher {
-    fn told(&self, alloc: Global) -> Result<String, AllocError> {
-        let items = told_list(alloc, self.items.as_slice())?;
-        format!(in alloc;
-            "NewVoucher {{ vendor: {}, back: {}, items: {items} }}",
-            self.vendor, self.back
-        )
-    }
-}
-
-impl Told for Payment {
-    fn told(&self, alloc: Global) -> Result<String, AllocError> {
-        let vouchers = told_list(alloc, self.vouchers.as_slice())?;
-        format!(in alloc; "Payment {{ vouchers: {vouchers} }}")
-    }
-}
-
-impl Told for NewBill {
-    fn told(&self, alloc: Global) -> Result<String, AllocError> {
-        format!(in alloc;
-            "NewBill {{ source: {}, levy_year: {}, payer: {}, amount: {} }}",
-            self.source, self.levy_year, self.payer, self.amount
-        )
-    }
-}
-
-impl Told for BillAmount {
-    fn told(&self, alloc: Global) -> Result<String, AllocError> {
-        let BillAmount { bill, amount } = self;
-        format!(in alloc; "BillAmount {{ bill: {bill}, amount: {amount} }}")
-    }
-}
-
-impl Told for AssetAct {
-    fn told(&self, alloc: Global) -> Result<String, AllocError> {
-        match self {
-            AssetAct::Donate(it) => format!(in alloc;
-                "Donate(Donation {{ dept: {}, object: {}, amount: {} }})",
-                it.dept, it.object, it.amount
-            ),
-            AssetAct::Dispose(it) => format!(in alloc;
-                "Dispose(Disposal {{ asset: {}, fund: {}, proceeds: {} }})",
-                it.asset, it.fund, it.proceeds
-            ),
-        }
-    }
-}
-
-impl Told for BondIssue {
-    fn told(&self, alloc: Global) -> Result<String, AllocError> {
-        let principals = told_list(alloc, self.principals.as_slice())?;
-        format!(in alloc;
-            "BondIssue {{ fund: {}, amount: {}, rate_bp: {}, every: {}, principals: {principals} }}",
-            self.fund, self.amount, self.rate_bp, self.every
-        )
-    }
-}
-
-impl Told for DebtPayment {
-    fn told(&self, alloc: Global) -> Result<String, AllocError> {
-        format!(in alloc;
-            "DebtPayment {{ bond: {}, fund: {}, dept: {}, principal: {}, interest: {} }}",
-            self.bond, self.fund, self.dept, self.principal, self.interest
-        )
-    }
-}
-
-impl Told for LeaveAmount {
-    fn told(&self, alloc: Global) -> Result<String, AllocError> {
-        format!(in alloc;
-            "LeaveAmount {{ fund: {}, dept: {}, amount: {} }}",
-            self.fund, self.dept, self.amount
-        )
-    }
-}
-
-impl Told for LeaveAct {
-    fn told(&self, alloc: Global) -> Result<String, AllocError> {
-        match self {
-            LeaveAct::Earn(it) => named(alloc, "Earn", it),
-            LeaveAct::Use(it) => named(alloc, "Use", it),
-            LeaveAct::Mature(it) => format!(in alloc;
-                "Mature(LeaveMaturity {{ fund: {}, dept: {}, object: {}, amount: {} }})",
-                it.fund, it.dept, it.object, it.amount
-            ),
-        }
-    }
-}
+use cf_calls::acts::{AssetAct, FundMoveKind, LeaveAct, NewOrder, Period};
 
 fn move_word(kind: FundMoveKind) -> &'static str {
     match kind {
@@ -162,60 +13,215 @@ fn move_word(kind: FundMoveKind) -> &'static str {
     }
 }
 
-impl Told for FundMove {
-    fn told(&self, alloc: Global) -> Result<String, AllocError> {
-        format!(in alloc;
-            "FundMove {{ what: {}, from: {}, to: {}, amount: {} }}",
-            move_word(self.what),
-            self.from,
-            self.to,
-            self.amount
-        )
+fn tell_asset(page: &mut Page, it: AssetAct) {
+    match it {
+        AssetAct::Donate(it) => page.put_numbers(
+            "Donate(Donation { dept: #, object: #, amount: # })",
+            &[it.dept as i128, it.object as i128, it.amount as i128],
+        ),
+        AssetAct::Dispose(it) => page.put_numbers(
+            "Dispose(Disposal { asset: #, fund: #, proceeds: # })",
+            &[it.asset as i128, it.fund as i128, it.proceeds as i128],
+        ),
     }
 }
 
-impl Told for Period {
-    fn told(&self, alloc: Global) -> Result<String, AllocError> {
-        match self {
-            Period::Month(month) => format!(in alloc;
-                "Month(Month {{ year: {}, month: {} }})",
-                month.year, month.month
-            ),
-            Period::Year(year) => format!(in alloc; "Year({year})"),
+fn tell_leave(page: &mut Page, it: LeaveAct) {
+    let (template, it) = match it {
+        LeaveAct::Earn(it) => ("Earn(LeaveAmount { fund: #, dept: #, amount: # })", it),
+        LeaveAct::Use(it) => ("Use(LeaveAmount { fund: #, dept: #, amount: # })", it),
+        LeaveAct::Mature(it) => {
+            let numbers = [
+                it.fund as i128,
+                it.dept as i128,
+                it.object as i128,
+                it.amount as i128,
+            ];
+            return page.put_numbers(
+                "Mature(LeaveMaturity { fund: #, dept: #, object: #, amount: # })",
+                &numbers,
+            );
         }
+    };
+    page.put_numbers(
+        template,
+        &[it.fund as i128, it.dept as i128, it.amount as i128],
+    );
+}
+
+fn tell_period(page: &mut Page, it: Period) {
+    match it {
+        Period::Month(it) => page.put_numbers(
+            "Month(Month { year: #, month: # })",
+            &[it.year as i128, it.month as i128],
+        ),
+        Period::Year(year) => page.put_numbers("Year(#)", &[year as i128]),
     }
 }
 
-/// A text in brackets behind a name.
-fn named<T: Told>(alloc: Global, name: &str, value: &T) -> Result<String, AllocError> {
-    let value = value.told(alloc)?;
-    format!(in alloc; "{name}({value})")
-}
-
-impl Told for Act {
-    fn told(&self, alloc: Global) -> Result<String, AllocError> {
-        match self {
-            Act::Adopt(it) => named(alloc, "Adopt", it),
-            Act::Amend(it) => named(alloc, "Amend", it),
-            Act::Transfer(it) => named(alloc, "Transfer", it),
-            Act::Requisition(it) => named(alloc, "Requisition", it),
-            Act::Withdraw(it) => named(alloc, "Withdraw", it),
-            Act::Order(it) => named(alloc, "Order", it),
-            Act::ChangeOrder(it) => named(alloc, "ChangeOrder", it),
-            Act::CancelOrder(it) => named(alloc, "CancelOrder", it),
-            Act::Voucher(it) => named(alloc, "Voucher", it),
-            Act::VoidVoucher(it) => named(alloc, "VoidVoucher", it),
-            Act::Pay(it) => named(alloc, "Pay", it),
-            Act::Bill(it) => named(alloc, "Bill", it),
-            Act::Collect(it) => named(alloc, "Collect", it),
-            Act::Receive(it) => named(alloc, "Receive", it),
-            Act::WriteOff(it) => named(alloc, "WriteOff", it),
-            Act::Asset(it) => named(alloc, "Asset", it),
-            Act::Issue(it) => named(alloc, "Issue", it),
-            Act::PayDue(it) => named(alloc, "PayDue", it),
-            Act::Leave(it) => named(alloc, "Leave", it),
-            Act::Interfund(it) => named(alloc, "Interfund", it),
-            Act::Close(it) => named(alloc, "Close", it),
+/// An act on assets, debt, leave, cash between funds, or a period.
+fn tell_closing(page: &mut Page, act: &Act) {
+    match act {
+        Act::Asset(it) => {
+            page.put("Asset(");
+            tell_asset(page, *it);
         }
+        Act::Issue(it) => {
+            let numbers = [
+                it.fund as i128,
+                it.amount as i128,
+                it.rate_bp as i128,
+                it.every as i128,
+            ];
+            let template =
+                "Issue(BondIssue { fund: #, amount: #, rate_bp: #, every: #, principals: ";
+            page.put_numbers(template, &numbers);
+            tell_list(page, it.principals.as_slice());
+            page.put(" }");
+        }
+        Act::PayDue(it) => page.put_numbers(
+            "PayDue(DebtPayment { bond: #, fund: #, dept: #, principal: #, interest: # }",
+            &[
+                it.bond as i128,
+                it.fund as i128,
+                it.dept as i128,
+                it.principal as i128,
+                it.interest as i128,
+            ],
+        ),
+        Act::Leave(it) => {
+            page.put("Leave(");
+            tell_leave(page, *it);
+        }
+        Act::Interfund(it) => {
+            let numbers = [it.from as i128, it.to as i128, it.amount as i128];
+            page.put("Interfund(FundMove { what: ");
+            page.put(move_word(it.what));
+            page.put_numbers(", from: #, to: #, amount: # }", &numbers);
+        }
+        Act::Close(it) => {
+            page.put("Close(");
+            tell_period(page, *it);
+        }
+        _ => {}
     }
+}
+
+/// An act on vouchers, bills or receipts.
+fn tell_cash(page: &mut Page, act: &Act) {
+    match act {
+        Act::Voucher(it) => {
+            page.put_numbers(
+                "Voucher(NewVoucher { vendor: #, back: ",
+                &[it.vendor as i128],
+            );
+            page.put(if it.back { "true" } else { "false" });
+            page.put(", items: ");
+            tell_list(page, it.items.as_slice());
+            page.put(" }");
+        }
+        Act::VoidVoucher(voucher) => page.put_numbers("VoidVoucher(#", &[*voucher as i128]),
+        Act::Pay(it) => {
+            page.put("Pay(Payment { vouchers: ");
+            tell_list(page, it.vouchers.as_slice());
+            page.put(" }");
+        }
+        Act::Bill(it) => page.put_numbers(
+            "Bill(NewBill { source: #, levy_year: #, payer: #, amount: # }",
+            &[
+                it.source as i128,
+                it.levy_year as i128,
+                it.payer as i128,
+                it.amount as i128,
+            ],
+        ),
+        Act::Collect(it) => page.put_numbers(
+            "Collect(BillAmount { bill: #, amount: # }",
+            &[it.bill as i128, it.amount as i128],
+        ),
+        Act::Receive(it) => page.put_numbers(
+            "Receive(SourceAmount { source: #, amount: # }",
+            &[it.source as i128, it.amount as i128],
+        ),
+        Act::WriteOff(it) => page.put_numbers(
+            "WriteOff(BillAmount { bill: #, amount: # }",
+            &[it.bill as i128, it.amount as i128],
+        ),
+        _ => tell_closing(page, act),
+    }
+}
+
+fn tell_order(page: &mut Page, it: &NewOrder) {
+    page.put_numbers(
+        "Order(NewOrder { vendor: #, requisition: ",
+        &[it.vendor as i128],
+    );
+    page.put_option(match it.requisition {
+        Some(requisition) => Some(requisition as u64),
+        None => None,
+    });
+    page.put(", items: ");
+    tell_list(page, it.items.as_slice());
+    page.put(" }");
+}
+
+/// An act on requisitions and orders.
+fn tell_purchase(page: &mut Page, act: &Act) {
+    match act {
+        Act::Requisition(it) => {
+            page.put("Requisition(NewRequisition { items: ");
+            tell_list(page, it.items.as_slice());
+            page.put(" }");
+        }
+        Act::Withdraw(requisition) => page.put_numbers("Withdraw(#", &[*requisition as i128]),
+        Act::Order(it) => tell_order(page, it),
+        Act::ChangeOrder(it) => page.put_numbers(
+            "ChangeOrder(OrderChange { order: #, item: #, fund: #, dept: #, object: #, by: # }",
+            &[
+                it.order as i128,
+                it.item as i128,
+                it.fund as i128,
+                it.dept as i128,
+                it.object as i128,
+                it.by as i128,
+            ],
+        ),
+        Act::CancelOrder(order) => page.put_numbers("CancelOrder(#", &[*order as i128]),
+        _ => tell_cash(page, act),
+    }
+}
+
+/// Appends the text of an act.
+pub fn tell_act(page: &mut Page, act: &Act) {
+    match act {
+        Act::Adopt(it) => {
+            let numbers = [it.fund as i128, it.year as i128];
+            page.put_numbers("Adopt(Adoption { fund: #, year: #, lines: ", &numbers);
+            tell_list(page, it.lines.as_slice());
+            page.put(", estimates: ");
+            tell_list(page, it.estimates.as_slice());
+            page.put(" }");
+        }
+        Act::Amend(it) => page.put_numbers(
+            "Amend(Amendment { fund: #, year: #, line: #, by: # }",
+            &[
+                it.fund as i128,
+                it.year as i128,
+                it.line as i128,
+                it.by as i128,
+            ],
+        ),
+        Act::Transfer(it) => page.put_numbers(
+            "Transfer(LineTransfer { fund: #, year: #, from: #, to: #, amount: # }",
+            &[
+                it.fund as i128,
+                it.year as i128,
+                it.from as i128,
+                it.to as i128,
+                it.amount as i128,
+            ],
+        ),
+        _ => tell_purchase(page, act),
+    }
+    page.put(")");
 }

@@ -1,63 +1,44 @@
-//! The text of a chart that the script changes, and what is said of it.
+//! What is said of the text of a chart.
 
+use crate::page::Page;
+use crate::rows::{tell_line, tell_rows};
 use cf_chart::{Chart, ChartRefused};
-use std::alloc::{AllocError, Global};
+use std::alloc::Global;
 
-/// The text that the script changes.
-#[derive(Drop)]
-pub struct Document {
-    pub alloc: Global,
-    pub text: String,
+/// What is asked of a text.
+#[derive(Clone, Copy)]
+pub enum Asked {
+    /// Whether it is a chart, or its first fault.
+    Fault,
+    /// The rows of the chart.
+    Rows,
+    /// The control line of an account.
+    Line { fund: u16, dept: u16, object: u16 },
 }
 
-impl Document {
-    pub fn new(alloc: Global) -> Document {
-        Document {
-            alloc,
-            text: String::new(alloc),
-        }
-    }
-
-    /// The text with a change, where it has the old words.
-    pub fn changed(&self, old: &str, new: &str) -> Result<String, AllocError> {
-        match self.text.as_str().split_once(old) {
-            Some((before, after)) => {
-                let text = format!(in self.alloc; "{before}{new}{after}")?;
-                text.as_str().replace(self.alloc, ";", "\n")
-            }
-            None => String::from_str(self.alloc, "no such words"),
-        }
-    }
-
-    /// Puts a table of empty rows before the text.
-    pub fn put_rows(&mut self, table: &str, rows: u16) -> Result<(), AllocError> {
-        let mut text = format!(in self.alloc; "{table} = [")?;
-        for _ in 0..rows {
-            text.push_str("{},")?;
-        }
-        text.push_str("]\n")?;
-        text.push_str(self.text.as_str())?;
-        self.text = text;
-        Ok(())
+fn tell_chart(page: &mut Page, chart: &Chart, asked: Asked) {
+    match asked {
+        Asked::Fault => page.put("  good\n"),
+        Asked::Rows => tell_rows(page, chart),
+        Asked::Line { fund, dept, object } => tell_line(page, chart, fund, dept, object),
     }
 }
 
-/// What is said of a refused chart.
-fn refusal_text(alloc: Global, refused: &ChartRefused) -> Result<String, AllocError> {
-    refused.to_string(alloc)
+fn tell_refused(page: &mut Page, alloc: Global, refused: ChartRefused) {
+    match refused.to_string(alloc) {
+        Ok(text) => {
+            page.put("  ");
+            page.put(text.as_str());
+            page.put("\n");
+        }
+        Err(_) => page.note(false),
+    }
 }
 
-/// What is said of a chart of these bytes.
-pub fn said_of(alloc: Global, bytes: &[u8]) -> Result<String, AllocError> {
+/// Appends what is asked of a text, or the first fault that it has as a chart.
+pub fn tell_document(page: &mut Page, alloc: Global, bytes: &[u8], asked: Asked) {
     match Chart::read(alloc, bytes) {
-        Ok(_) => String::from_str(alloc, "good"),
-        Err(refused) => refusal_text(alloc, &refused),
+        Ok(chart) => tell_chart(page, &chart, asked),
+        Err(refused) => tell_refused(page, alloc, refused),
     }
-}
-
-/// What is said of so many blanks with these bytes behind them.
-pub fn said_of_blanks(alloc: Global, count: usize, behind: &[u8]) -> Result<String, AllocError> {
-    let mut bytes = vec![in alloc; b' '; count]?;
-    bytes.extend_from_slice(behind)?;
-    said_of(alloc, bytes.as_slice())
 }

@@ -2,11 +2,12 @@
 
 ghost use Rattle.cf_calls.specs.Form.{IsEntryInForm};
 
-use crate::lines::head_text;
-use crate::told::Told;
+use crate::acts::tell_act;
+use crate::lines::tell_head;
+use crate::page::Page;
 use cf_calls::Entry;
 use cf_codec::{CodecFault, CodecRefused, payload_len, read_entry, write_entry};
-use std::alloc::{AllocError, Global};
+use std::alloc::Global;
 
 /// Whether an entry's payload has this length and is written as these bytes.
 fn is_written_so(alloc: Global, entry: &Entry, bytes: &[u8]) -> bool
@@ -17,53 +18,67 @@ fn is_written_so(alloc: Global, entry: &Entry, bytes: &[u8]) -> bool
     is_written && out.as_slice() == bytes && payload_len(entry) == bytes.len() as u64
 }
 
-fn entry_text(alloc: Global, entry: &Entry, length: usize) -> Result<String, AllocError> {
-    let head = head_text(alloc, &entry.change)?;
-    let act = entry.change.act.told(alloc)?;
-    let drawn = entry.drawn;
-    format!(in alloc;
-        "{head} {act} {} {} of {length}",
-        drawn.number, drawn.second
-    )
-}
-
-/// The entry with its drawn numbers and its length, where it is written again as it was read, or the offset of
-/// the fault.
-pub fn entry_said(alloc: Global, bytes: &[u8]) -> Result<String, AllocError> {
-    match read_entry(alloc, bytes) {
-        Ok((entry, length)) => {
-            let (payload, _) = bytes.split_at(length.min(bytes.len()));
-            if is_written_so(alloc, &entry, payload) {
-                entry_text(alloc, &entry, length)
-            } else {
-                String::from_str(alloc, "written otherwise")
-            }
-        }
-        Err(CodecRefused::Fault(CodecFault { offset })) => format!(in alloc; "fault {offset}"),
-        Err(CodecRefused::NoMemory) => Err(AllocError),
-    }
-}
-
-/// Appends an entry's payload to a byte 7 in so much room, and says how much room there then is, the first byte,
-/// and how many bytes follow that are the payload's.
-fn appended(alloc: Global, entry: &Entry, bytes: &[u8], room: usize) -> Result<String, AllocError>
+/// Appends an entry with its drawn numbers and its length, where it is written again as it was read.
+fn tell_entry(page: &mut Page, alloc: Global, entry: &Entry, length: usize, bytes: &[u8])
     requires { IsEntryInForm entry.now }
 {
-    let mut out = Vec::with_capacity(alloc, room)?;
-    out.push(7)?;
-    let is_written = write_entry(entry, &mut out).is_ok();
-    let first = out.first().copied().unwrap_or(0);
-    let is_payload = out.get(1..) == Some(bytes);
-    format!(in alloc;
-        "written: {is_written}, room: {}, first byte: {first}, then the payload: {is_payload}",
-        out.capacity()
-    )
+    let (payload, _) = bytes.split_at(length.min(bytes.len()));
+    if is_written_so(alloc, entry, payload) {
+        let drawn = entry.drawn;
+        tell_head(page, &entry.change);
+        tell_act(page, &entry.change.act);
+        page.put_numbers(
+            " # # of #",
+            &[drawn.number as i128, drawn.second as i128, length as i128],
+        );
+    } else {
+        page.put("written otherwise");
+    }
 }
 
-/// What writing the entry of a payload behind one byte leaves of so much room.
-pub fn room_said(alloc: Global, bytes: &[u8], room: usize) -> Result<String, AllocError> {
-    match read_entry(alloc, bytes) {
-        Ok((entry, _)) => appended(alloc, &entry, bytes, room),
-        Err(_) => String::from_str(alloc, "no entry"),
+/// Writes an entry's payload behind a byte 7 in so much room, and says how much room there then is, the first byte,
+/// and whether the bytes that follow are the payload's.
+fn tell_room(page: &mut Page, entry: &Entry, bytes: &[u8], out: &mut Vec<u8>)
+    requires { IsEntryInForm entry.now }
+{
+    let is_written = out.push(7).is_ok() && write_entry(entry, out).is_ok();
+    let first = out.first().copied().unwrap_or(0);
+    let is_payload = out.get(1..) == Some(bytes);
+    page.put(if is_written {
+        "written: true"
+    } else {
+        "written: false"
+    });
+    page.put_numbers(
+        ", room: #, first byte: #, then the payload: ",
+        &[out.capacity() as i128, first as i128],
+    );
+    page.put(if is_payload { "true" } else { "false" });
+}
+
+/// The same over a list with so much room.
+fn tell_in_room(page: &mut Page, alloc: Global, entry: &Entry, bytes: &[u8], room: usize)
+    requires { IsEntryInForm entry.now }
+{
+    match Vec::with_capacity(alloc, room) {
+        Ok(mut out) => tell_room(page, entry, bytes, &mut out),
+        Err(_) => page.note(false),
     }
+}
+
+/// Appends the entry that a payload begins with, or what writing it leaves of so much room, or the offset of the
+/// fault.
+pub fn tell_payload(page: &mut Page, alloc: Global, bytes: &[u8], room: Option<usize>) {
+    page.put("  ");
+    match read_entry(alloc, bytes) {
+        Ok((entry, length)) => match room {
+            Some(room) => tell_in_room(page, alloc, &entry, bytes, room),
+            None => tell_entry(page, alloc, &entry, length, bytes),
+        },
+        Err(CodecRefused::Fault(CodecFault { offset })) => {
+            page.put_numbers("fault #", &[offset as i128]);
+        }
+        Err(CodecRefused::NoMemory) => page.note(false),
+    }
+    page.put("\n");
 }

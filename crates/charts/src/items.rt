@@ -1,58 +1,92 @@
-//! The text of what stands in the lists of a call.
+//! The text of what stands in the lists of a call: a struct by its name and fields.
 
-use crate::told::Told;
+use crate::page::Page;
 use cf_calls::items::{AccountItem, Charge, LineAmount, Liquidation, SourceAmount, VoucherItem};
-use std::alloc::{AllocError, Global};
+
+/// What stands in a list.
+pub trait Told {
+    /// Appends its text.
+    fn tell(&self, page: &mut Page);
+}
+
+/// Appends the text of a list.
+pub fn tell_list<T: Told>(page: &mut Page, items: &[T]) {
+    page.put("List { items: [");
+    let mut between = "";
+    for item in items {
+        page.put(between);
+        item.tell(page);
+        between = ", ";
+    }
+    page.put("] }");
+}
+
+impl Told for u32 {
+    fn tell(&self, page: &mut Page) {
+        page.put_number(*self as i128);
+    }
+}
+
+impl Told for u64 {
+    fn tell(&self, page: &mut Page) {
+        page.put_number(*self as i128);
+    }
+}
 
 impl Told for LineAmount {
-    fn told(&self, alloc: Global) -> Result<String, AllocError> {
-        let LineAmount { line, amount } = self;
-        format!(in alloc; "LineAmount {{ line: {line}, amount: {amount} }}")
+    fn tell(&self, page: &mut Page) {
+        let numbers = [self.line as i128, self.amount as i128];
+        page.put_numbers("LineAmount { line: #, amount: # }", &numbers);
     }
 }
 
 impl Told for SourceAmount {
-    fn told(&self, alloc: Global) -> Result<String, AllocError> {
-        let SourceAmount { source, amount } = self;
-        format!(in alloc; "SourceAmount {{ source: {source}, amount: {amount} }}")
+    fn tell(&self, page: &mut Page) {
+        let numbers = [self.source as i128, self.amount as i128];
+        page.put_numbers("SourceAmount { source: #, amount: # }", &numbers);
     }
+}
+
+fn tell_item(page: &mut Page, item: AccountItem) {
+    page.put_numbers(
+        "AccountItem { fund: #, dept: #, object: #, amount: # }",
+        &[
+            item.fund as i128,
+            item.dept as i128,
+            item.object as i128,
+            item.amount as i128,
+        ],
+    );
 }
 
 impl Told for AccountItem {
-    fn told(&self, alloc: Global) -> Result<String, AllocError> {
-        format!(in alloc;
-            "AccountItem {{ fund: {}, dept: {}, object: {}, amount: {} }}",
-            self.fund, self.dept, self.object, self.amount
-        )
+    fn tell(&self, page: &mut Page) {
+        tell_item(page, *self);
     }
 }
 
-impl Told for Liquidation {
-    fn told(&self, alloc: Global) -> Result<String, AllocError> {
-        match self {
-            Liquidation::Lesser => String::from_str(alloc, "Lesser"),
-            Liquidation::Recorded(amount) => format!(in alloc; "Recorded({amount})"),
-            Liquidation::Final => String::from_str(alloc, "Final"),
-        }
-    }
-}
-
-impl Told for Charge {
-    fn told(&self, alloc: Global) -> Result<String, AllocError> {
-        match self {
-            Charge::Direct => String::from_str(alloc, "Direct"),
-            Charge::OnOrder { order, item, how } => {
-                let how = how.told(alloc)?;
-                format!(in alloc; "OnOrder {{ order: {order}, item: {item}, how: {how} }}")
-            }
-        }
+fn tell_liquidation(page: &mut Page, how: Liquidation) {
+    match how {
+        Liquidation::Lesser => page.put("Lesser"),
+        Liquidation::Recorded(amount) => page.put_numbers("Recorded(#)", &[amount as i128]),
+        Liquidation::Final => page.put("Final"),
     }
 }
 
 impl Told for VoucherItem {
-    fn told(&self, alloc: Global) -> Result<String, AllocError> {
-        let account = self.account.told(alloc)?;
-        let charge = self.charge.told(alloc)?;
-        format!(in alloc; "VoucherItem {{ account: {account}, charge: {charge} }}")
+    fn tell(&self, page: &mut Page) {
+        page.put("VoucherItem { account: ");
+        tell_item(page, self.account);
+        page.put(", charge: ");
+        match self.charge {
+            Charge::Direct => page.put("Direct"),
+            Charge::OnOrder { order, item, how } => {
+                let numbers = [order as i128, item as i128];
+                page.put_numbers("OnOrder { order: #, item: #, how: ", &numbers);
+                tell_liquidation(page, how);
+                page.put(" }");
+            }
+        }
+        page.put(" }");
     }
 }

@@ -1,50 +1,51 @@
 //! What is said of a line: the call that it is, or the form reply.
 
-use crate::told::{Told, told_number};
+use crate::acts::tell_act;
+use crate::looks::tell_read;
+use crate::page::Page;
 use cf_base::day_text;
-use cf_calls::{Call, Change, Look};
+use cf_calls::{Call, Change};
 use cf_json::{CallRefused, FormFault, read_call, write_form};
-use std::alloc::{AllocError, Global};
+use std::alloc::Global;
 
-/// A change by its desk, key and day.
-pub fn head_text(alloc: Global, change: &Change) -> Result<String, AllocError> {
+/// Appends a change by its desk, key and day.
+pub fn tell_head(page: &mut Page, change: &Change) {
     let day = day_text(change.on);
-    let on = str::from_utf8(&day).unwrap_or("no day");
-    let key = change.key.as_str();
-    format!(in alloc; "{} {key} {on}", change.desk)
+    page.put_numbers("# ", &[change.desk as i128]);
+    page.put(change.key.as_str());
+    page.put(" ");
+    page.put(str::from_utf8(&day).unwrap_or("no day"));
+    page.put(" ");
 }
 
-fn look_text(alloc: Global, look: &Look) -> Result<String, AllocError> {
-    let after = told_number(alloc, look.after)?;
-    let read = look.read.told(alloc)?;
-    format!(in alloc; "{after} {read}")
-}
-
-fn change_text(alloc: Global, change: &Change) -> Result<String, AllocError> {
-    let head = head_text(alloc, change)?;
-    let after = told_number(alloc, change.after)?;
-    let act = change.act.told(alloc)?;
-    format!(in alloc; "{head} {after} {act}")
-}
-
-fn call_text(alloc: Global, call: &Call) -> Result<String, AllocError> {
+fn tell_call(page: &mut Page, call: &Call) {
     match call {
-        Call::Look(look) => look_text(alloc, look),
-        Call::Change(change) => change_text(alloc, change),
+        Call::Look(look) => {
+            page.put_option(look.after);
+            page.put(" ");
+            tell_read(page, look.read);
+        }
+        Call::Change(change) => {
+            tell_head(page, change);
+            page.put_option(change.after);
+            page.put(" ");
+            tell_act(page, &change.act);
+        }
     }
 }
 
-fn form_text(alloc: Global, fault: &FormFault) -> Result<String, AllocError> {
-    let mut out = Vec::new(alloc);
-    write_form(alloc, fault, &mut out)?;
-    String::from_str(alloc, str::from_utf8(out.as_slice()).unwrap_or("no text"))
+fn tell_form(page: &mut Page, alloc: Global, fault: &FormFault) {
+    let is_there = write_form(alloc, fault, &mut page.bytes).is_ok();
+    page.note(is_there);
 }
 
-/// A call by its desk, key, day, `after` and act, a look by `after` and what it reads, or the form reply.
-pub fn line_said(alloc: Global, line: &[u8]) -> Result<String, AllocError> {
+/// Appends a call by its desk, key, day, `after` and act, a look by `after` and what it reads, or the form reply.
+pub fn tell_line(page: &mut Page, alloc: Global, line: &[u8]) {
+    page.put("  ");
     match read_call(alloc, line) {
-        Ok(call) => call_text(alloc, &call),
-        Err(CallRefused::NoMemory) => Err(AllocError),
-        Err(CallRefused::Form(fault)) => form_text(alloc, &fault),
+        Ok(call) => tell_call(page, &call),
+        Err(CallRefused::NoMemory) => page.note(false),
+        Err(CallRefused::Form(fault)) => tell_form(page, alloc, &fault),
     }
+    page.put("\n");
 }

@@ -25,24 +25,22 @@ mod hex;
 mod items;
 mod lines;
 mod looks;
+mod page;
 mod play;
 mod refusals;
 mod replies;
 mod rows;
-mod told;
-mod word;
+mod stage;
 
-use document::Document;
 use play::play;
+use stage::Stage;
 use std::io;
-use word::word_of;
 
 fn main(rt: HostRuntime) -> io::Result<()> {
-    let mut document = Document::new(rt.alloc());
+    let mut stage = Stage::new(rt.alloc());
     for line in rt.lines(rt.alloc()) {
         let line = line?;
-        println!(rt; "{line}")?;
-        play(&rt, &mut document, &word_of(line.as_str()))?;
+        play(&rt, &mut stage, line.as_str())?;
     }
     Ok(())
 }

@@ -1,125 +1,101 @@
-//! What is printed for each line of the script.
+//! What is done for each line of the script.
 
-use crate::document::{Document, said_of, said_of_blanks};
-use crate::entries::{entry_said, room_said};
-use crate::hex::bytes_of;
-use crate::lines::line_said;
-use crate::replies::show_replies;
-use crate::rows::{show_line, show_rows};
-use crate::word::Word;
-use cf_chart::Chart;
-use std::alloc::Global;
+use crate::document::Asked;
+use crate::replies::tell_replies;
+use crate::stage::Stage;
 use std::rt::Files;
 use std::{fs, io};
 
-/// Prints an answer.
-fn print_answer(rt: &impl Print, said: &str) -> io::Result<()> {
-    println!(rt; "  {said}")
+/// A number of the script.
+fn number(word: &str) -> u16 {
+    word.parse::<u16>().unwrap_or(0)
 }
 
-/// Prints what is said of a text with a change.
-fn play_change(rt: &impl Print, document: &Document, old: &str, new: &str) -> io::Result<()> {
-    let text = document.changed(old, new)?;
-    let said = said_of(document.alloc, text.as_bytes())?;
-    print_answer(rt, said.as_str())
+/// A size of the script.
+fn size(word: &str) -> usize {
+    word.parse::<usize>().unwrap_or(0)
 }
 
-/// Prints what is said of the text.
-fn play_said(rt: &impl Print, document: &Document) -> io::Result<()> {
-    let said = said_of(document.alloc, document.text.as_bytes())?;
-    print_answer(rt, said.as_str())
+/// The first word of a line, and its rest.
+fn pair(line: &str) -> (&str, &str) {
+    line.split_once(" ").unwrap_or((line, ""))
 }
 
-/// Prints the rows of the chart that the text states.
-fn play_show<R: Print + AllocGlobal>(rt: &R, document: &Document) -> io::Result<()> {
-    match Chart::read(document.alloc, document.text.as_bytes()) {
-        Ok(chart) => show_rows(rt, &chart),
-        Err(_) => print_answer(rt, "no chart"),
+/// An account: its fund, department and object.
+fn account(words: &str) -> Asked {
+    let mut words = words.split_whitespace();
+    Asked::Line {
+        fund: number(words.next().unwrap_or("")),
+        dept: number(words.next().unwrap_or("")),
+        object: number(words.next().unwrap_or("")),
     }
 }
 
-/// Prints the control line of an account of the chart that the text states.
-fn play_line(
-    rt: &impl Print,
-    document: &Document,
-    fund: u16,
-    dept: u16,
-    object: u16,
-) -> io::Result<()> {
-    match Chart::read(document.alloc, document.text.as_bytes()) {
-        Ok(chart) => show_line(rt, &chart, fund, dept, object),
-        Err(_) => print_answer(rt, "no chart"),
+/// Says what a line on payloads or replies asks for. What is none of the words is a heading.
+fn tell_entry(stage: &mut Stage, verb: &str, rest: &str) {
+    match verb {
+        "payload" => stage.tell_payload(rest, None),
+        "room" => {
+            let (room, digits) = pair(rest);
+            stage.tell_payload(digits, Some(size(room)));
+        }
+        "replies" => tell_replies(&mut stage.said, stage.alloc),
+        _ => {}
     }
 }
 
-/// Prints what is said of a chart of these bytes.
-fn play_document(rt: &impl Print, alloc: Global, digits: &str) -> io::Result<()> {
-    let bytes = bytes_of(alloc, digits)?;
-    let said = said_of(alloc, bytes.as_slice())?;
-    print_answer(rt, said.as_str())
+/// Says what a line that is no change of a chart asks for.
+fn tell_word(stage: &mut Stage, verb: &str, rest: &str) {
+    match verb {
+        "clear" => stage.text.clear(),
+        "rows" => {
+            let (table, rows) = pair(rest);
+            stage.put_rows(table, number(rows));
+        }
+        "said" => stage.tell_text(Asked::Fault),
+        "show" => stage.tell_text(Asked::Rows),
+        "line" => stage.tell_text(account(rest)),
+        "document" => stage.tell_blanks(0, rest),
+        "blanks" => {
+            let (count, digits) = pair(rest);
+            stage.tell_blanks(size(count), digits);
+        }
+        "call" => stage.tell_line(rest),
+        "bytes" => stage.tell_bytes(rest),
+        _ => tell_entry(stage, verb, rest),
+    }
 }
 
-/// Prints what is said of blanks with these bytes behind them.
-fn play_blanks(rt: &impl Print, alloc: Global, count: usize, digits: &str) -> io::Result<()> {
-    let bytes = bytes_of(alloc, digits)?;
-    let said = said_of_blanks(alloc, count, bytes.as_slice())?;
-    print_answer(rt, said.as_str())
+/// Says what a line asks for.
+fn tell(stage: &mut Stage, line: &str) {
+    stage.said.clear();
+    match line.split_once(" => ") {
+        Some((old, new)) => stage.tell_change(old, new),
+        None => {
+            let (verb, rest) = pair(line);
+            tell_word(stage, verb, rest);
+        }
+    }
 }
 
-/// Prints what is said of a line.
-fn play_call(rt: &impl Print, alloc: Global, line: &[u8]) -> io::Result<()> {
-    let said = line_said(alloc, line)?;
-    print_answer(rt, said.as_str())
+/// Has the lines below change the text of a file.
+fn open<R: Files + AllocGlobal>(rt: &R, stage: &mut Stage, file: &str) -> io::Result<()> {
+    let text = fs::read_to_string(rt, file)?;
+    stage.text.clear();
+    stage.text.put(text.as_str());
+    Ok(())
 }
 
-/// Prints what is said of a line of these bytes.
-fn play_bytes(rt: &impl Print, alloc: Global, digits: &str) -> io::Result<()> {
-    let bytes = bytes_of(alloc, digits)?;
-    play_call(rt, alloc, bytes.as_slice())
-}
-
-/// Prints what is said of a payload.
-fn play_payload(rt: &impl Print, alloc: Global, digits: &str) -> io::Result<()> {
-    let bytes = bytes_of(alloc, digits)?;
-    let said = entry_said(alloc, bytes.as_slice())?;
-    print_answer(rt, said.as_str())
-}
-
-/// Prints what writing a payload's entry leaves of so much room.
-fn play_room(rt: &impl Print, alloc: Global, digits: &str, room: usize) -> io::Result<()> {
-    let bytes = bytes_of(alloc, digits)?;
-    let said = room_said(alloc, bytes.as_slice(), room)?;
-    print_answer(rt, said.as_str())
-}
-
-/// Prints what a word asks for.
+/// Prints a line and what is said of it.
 pub fn play<R: Files + Print + AllocGlobal>(
     rt: &R,
-    document: &mut Document,
-    word: &Word<'_>,
+    stage: &mut Stage,
+    line: &str,
 ) -> io::Result<()> {
-    let alloc = document.alloc;
-    match *word {
-        Word::Heading => Ok(()),
-        Word::Chart(file) => {
-            document.text = fs::read_to_string(rt, file)?;
-            Ok(())
-        }
-        Word::Clear => {
-            document.text.clear();
-            Ok(())
-        }
-        Word::Change { old, new } => play_change(rt, document, old, new),
-        Word::Rows { table, rows } => Ok(document.put_rows(table, rows)?),
-        Word::Said => play_said(rt, document),
-        Word::Show => play_show(rt, document),
-        Word::Line { fund, dept, object } => play_line(rt, document, fund, dept, object),
-        Word::Document(digits) => play_document(rt, alloc, digits),
-        Word::Blanks { count, behind } => play_blanks(rt, alloc, count, behind),
-        Word::Call(line) => play_call(rt, alloc, line.as_bytes()),
-        Word::Bytes(digits) => play_bytes(rt, alloc, digits),
-        Word::Payload(digits) => play_payload(rt, alloc, digits),
-        Word::Room { digits, room } => play_room(rt, alloc, digits, room),
-        Word::Replies => show_replies(rt, alloc),
+    println!(rt; "{line}")?;
+    if let Some(file) = line.strip_prefix("chart ") {
+        return open(rt, stage, file);
     }
+    tell(stage, line);
+    print!(rt; "{}", stage.said.text())
 }

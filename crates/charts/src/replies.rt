@@ -1,5 +1,6 @@
 //! The text of each refusal, each result, what is no reply, and each look, with the values that the code states.
 
+use crate::page::Page;
 use crate::refusals::{REFUSALS, RESULTS};
 use cf_base::Day;
 use cf_calls::items::LineAmount;
@@ -9,43 +10,52 @@ use cf_calls::shown::{
 use cf_calls::{Body, Label, LineNumbers, List, Made, Posted, Reply, Row, Shown};
 use cf_json::write_posted;
 use std::alloc::{AllocError, Global};
-use std::io;
 
-/// Prints the text of what is given for a call.
-fn show_posted(rt: &impl Print, alloc: Global, posted: &Posted) -> io::Result<()> {
-    let mut out = Vec::new(alloc);
-    write_posted(alloc, posted, &mut out)?;
-    println!(rt; "  {}", str::from_utf8(out.as_slice()).unwrap_or("no text"))
+/// Appends the text of what is given for a call.
+fn tell_posted(page: &mut Page, alloc: Global, posted: &Posted) {
+    page.put("  ");
+    let is_there = write_posted(alloc, posted, &mut page.bytes).is_ok();
+    page.note(is_there);
+    page.put("\n");
 }
 
-fn show_body(rt: &impl Print, alloc: Global, body: Body) -> io::Result<()> {
-    show_posted(rt, alloc, &Posted::Reply(Reply { at: 7, body }))
+fn tell_body(page: &mut Page, alloc: Global, body: Body) {
+    tell_posted(page, alloc, &Posted::Reply(Reply { at: 7, body }));
 }
 
-fn show_refusals(rt: &impl Print, alloc: Global) -> io::Result<()> {
-    for refusal in REFUSALS {
-        show_body(rt, alloc, Body::Refused(refusal))?;
+fn tell_refusals(page: &mut Page, alloc: Global) {
+    for refusal in &REFUSALS {
+        tell_body(page, alloc, Body::Refused(*refusal));
     }
-    Ok(())
 }
 
-fn show_results(rt: &impl Print, alloc: Global) -> io::Result<()> {
-    for made in RESULTS {
-        show_body(rt, alloc, Body::Done { made, was: None })?;
+fn tell_made(page: &mut Page, alloc: Global, made: Made, was: Option<u64>) {
+    tell_body(page, alloc, Body::Done { made, was });
+}
+
+fn tell_results(page: &mut Page, alloc: Global) {
+    for made in &RESULTS {
+        tell_made(page, alloc, *made, None);
     }
-    Ok(())
 }
 
 /// A repeat, a fault of the disk and want of memory.
-fn show_others(rt: &impl Print, alloc: Global) -> io::Result<()> {
-    let made = Made::Nothing;
-    show_body(rt, alloc, Body::Done { made, was: Some(4) })?;
-    show_posted(rt, alloc, &Posted::Disk)?;
-    show_posted(rt, alloc, &Posted::NoMemory)
+fn tell_others(page: &mut Page, alloc: Global) {
+    tell_made(page, alloc, Made::Nothing, Some(4));
+    tell_posted(page, alloc, &Posted::Disk);
+    tell_posted(page, alloc, &Posted::NoMemory);
 }
 
-fn show_look(rt: &impl Print, alloc: Global, shown: Shown) -> io::Result<()> {
-    show_body(rt, alloc, Body::Shown(shown))
+fn tell_look(page: &mut Page, alloc: Global, shown: Shown) {
+    tell_body(page, alloc, Body::Shown(shown));
+}
+
+/// Appends a look that was made in memory.
+fn tell_made_look(page: &mut Page, alloc: Global, shown: Result<Shown, AllocError>) {
+    match shown {
+        Ok(shown) => tell_look(page, alloc, shown),
+        Err(AllocError) => page.note(false),
+    }
 }
 
 fn requisition(alloc: Global) -> Result<Shown, AllocError> {
@@ -81,62 +91,51 @@ fn order(alloc: Global) -> Result<Shown, AllocError> {
     })
 }
 
-/// A requisition of two lines, and an order.
-fn show_items(rt: &impl Print, alloc: Global) -> io::Result<()> {
-    show_look(rt, alloc, requisition(alloc)?)?;
-    show_look(rt, alloc, order(alloc)?)
-}
-
 /// A voucher, a bill and an asset.
-fn show_papers(rt: &impl Print, alloc: Global) -> io::Result<()> {
+fn tell_papers(page: &mut Page, alloc: Global) {
     let voucher = Shown::Voucher {
         amount: 5,
         state: VoucherState::Paid,
         year: 2027,
     };
-    show_look(rt, alloc, voucher)?;
+    tell_look(page, alloc, voucher);
     let bill = Shown::Bill {
         left: 5,
         levy_year: 2027,
         source: 1,
     };
-    show_look(rt, alloc, bill)?;
+    tell_look(page, alloc, bill);
     let asset = Shown::Asset {
         cost: 12,
         depreciation: 3,
         state: AssetState::Held,
     };
-    show_look(rt, alloc, asset)
-}
-
-fn show_bond(
-    rt: &impl Print,
-    alloc: Global,
-    accrued: i128,
-    next: Option<Day>,
-    outstanding: u64,
-) -> io::Result<()> {
-    let bond = Shown::Bond {
-        accrued,
-        next,
-        outstanding,
-    };
-    show_look(rt, alloc, bond)
+    tell_look(page, alloc, asset);
 }
 
 /// A bond after its last payment and before its next.
-fn show_bonds(rt: &impl Print, alloc: Global) -> io::Result<()> {
+fn tell_bonds(page: &mut Page, alloc: Global) {
+    let paid = Shown::Bond {
+        accrued: -1,
+        next: None,
+        outstanding: 0,
+    };
+    tell_look(page, alloc, paid);
     let next = Day {
         year: 2027,
         month: 1,
         day: 28,
     };
-    show_bond(rt, alloc, -1, None, 0)?;
-    show_bond(rt, alloc, 1, Some(next), 8)
+    let due = Shown::Bond {
+        accrued: 1,
+        next: Some(next),
+        outstanding: 8,
+    };
+    tell_look(page, alloc, due);
 }
 
 /// A line, leave and an account.
-fn show_sums(rt: &impl Print, alloc: Global) -> io::Result<()> {
+fn tell_sums(page: &mut Page, alloc: Global) {
     let line = Shown::Line(LineNumbers {
         original: 1,
         appropriated: 2,
@@ -145,13 +144,12 @@ fn show_sums(rt: &impl Print, alloc: Global) -> io::Result<()> {
         expended: 5,
         room: -10,
     });
-    show_look(rt, alloc, line)?;
-    show_look(rt, alloc, Shown::Leave { left: 6 })?;
-    show_look(rt, alloc, Shown::Account { balance: -250000 })
+    tell_look(page, alloc, line);
+    tell_look(page, alloc, Shown::Leave { left: 6 });
+    tell_look(page, alloc, Shown::Account { balance: -250000 });
 }
 
-/// The reconciliation, and a report.
-fn show_statements(rt: &impl Print, alloc: Global) -> io::Result<()> {
+fn tell_reconciliation(page: &mut Page, alloc: Global) {
     let reconciliation = Shown::Reconcile(ReconShown {
         fund_balances: 1,
         capital_assets: 2,
@@ -161,8 +159,7 @@ fn show_statements(rt: &impl Print, alloc: Global) -> io::Result<()> {
         leave: -6,
         net_position: -9,
     });
-    show_look(rt, alloc, reconciliation)?;
-    show_look(rt, alloc, report(alloc)?)
+    tell_look(page, alloc, reconciliation);
 }
 
 fn row(alloc: Global, label: &str, amounts: &[i128]) -> Result<Row, AllocError> {
@@ -182,14 +179,16 @@ fn report(alloc: Global) -> Result<Shown, AllocError> {
     })
 }
 
-/// Prints the text of each reply, at 7.
-pub fn show_replies(rt: &impl Print, alloc: Global) -> io::Result<()> {
-    show_refusals(rt, alloc)?;
-    show_results(rt, alloc)?;
-    show_others(rt, alloc)?;
-    show_items(rt, alloc)?;
-    show_papers(rt, alloc)?;
-    show_bonds(rt, alloc)?;
-    show_sums(rt, alloc)?;
-    show_statements(rt, alloc)
+/// Appends the text of each reply, at 7.
+pub fn tell_replies(page: &mut Page, alloc: Global) {
+    tell_refusals(page, alloc);
+    tell_results(page, alloc);
+    tell_others(page, alloc);
+    tell_made_look(page, alloc, requisition(alloc));
+    tell_made_look(page, alloc, order(alloc));
+    tell_papers(page, alloc);
+    tell_bonds(page, alloc);
+    tell_sums(page, alloc);
+    tell_reconciliation(page, alloc);
+    tell_made_look(page, alloc, report(alloc));
 }

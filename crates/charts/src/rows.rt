@@ -1,9 +1,8 @@
 //! The rows of a chart, as its readers give them.
 
+use crate::page::Page;
 use cf_calls::Role;
-use cf_chart::{Chart, FundType, Level, LinePart, ObjectKind, Policy, RevenueKind};
-use std::alloc::{AllocError, Global};
-use std::io;
+use cf_chart::{Chart, Fund, FundType, Level, LinePart, ObjectKind, Policy, RevenueKind};
 
 fn type_word(fund_type: FundType) -> &'static str {
     match fund_type {
@@ -44,153 +43,157 @@ fn role_word(role: Role) -> &'static str {
     }
 }
 
-fn object_text(alloc: Global, kind: ObjectKind) -> Result<String, AllocError> {
+fn tell_object(page: &mut Page, kind: ObjectKind) {
     match kind {
-        ObjectKind::Current => String::from_str(alloc, "Current"),
-        ObjectKind::Capital { life } => format!(in alloc; "Capital {{ life: {life} }}"),
-        ObjectKind::Principal => String::from_str(alloc, "Principal"),
-        ObjectKind::Interest => String::from_str(alloc, "Interest"),
+        ObjectKind::Current => page.put(" Current\n"),
+        ObjectKind::Capital { life } => {
+            page.put_numbers(" Capital { life: # }\n", &[life as i128]);
+        }
+        ObjectKind::Principal => page.put(" Principal\n"),
+        ObjectKind::Interest => page.put(" Interest\n"),
     }
 }
 
-fn revenue_text(alloc: Global, kind: RevenueKind) -> Result<String, AllocError> {
-    match kind {
-        RevenueKind::PropertyTax => String::from_str(alloc, "PropertyTax"),
-        RevenueKind::Tax => String::from_str(alloc, "Tax"),
-        RevenueKind::General => String::from_str(alloc, "General"),
-        RevenueKind::Charges { function } => {
-            format!(in alloc; "Charges {{ function: {function} }}")
-        }
-        RevenueKind::OperatingGrant { function } => {
-            format!(in alloc; "OperatingGrant {{ function: {function} }}")
-        }
-        RevenueKind::CapitalGrant { function } => {
-            format!(in alloc; "CapitalGrant {{ function: {function} }}")
-        }
-    }
+fn tell_revenue(page: &mut Page, kind: RevenueKind) {
+    let (template, function) = match kind {
+        RevenueKind::PropertyTax => ("PropertyTax", 0),
+        RevenueKind::Tax => ("Tax", 0),
+        RevenueKind::General => ("General", 0),
+        RevenueKind::Charges { function } => ("Charges { function: # }", function),
+        RevenueKind::OperatingGrant { function } => ("OperatingGrant { function: # }", function),
+        RevenueKind::CapitalGrant { function } => ("CapitalGrant { function: # }", function),
+    };
+    page.put_numbers(template, &[function as i128]);
 }
 
-fn part_text(alloc: Global, part: LinePart) -> Result<String, AllocError> {
+fn tell_part(page: &mut Page, part: LinePart) {
     match part {
-        LinePart::Department => String::from_str(alloc, "Department"),
-        LinePart::Class(class) => format!(in alloc; "Class({class})"),
-        LinePart::Object(object) => format!(in alloc; "Object({object})"),
+        LinePart::Department => page.put(" Department\n"),
+        LinePart::Class(class) => page.put_numbers(" Class(#)\n", &[class as i128]),
+        LinePart::Object(object) => page.put_numbers(" Object(#)\n", &[object as i128]),
     }
 }
 
-/// The words of roles, one after another.
-fn roles_text(alloc: Global, roles: &[Role]) -> Result<String, AllocError> {
-    let mut text = String::new(alloc);
+/// Appends the words of roles, one after another.
+fn tell_roles(page: &mut Page, roles: &[Role]) {
+    let mut between = " [";
     for role in roles {
-        if !text.is_empty() {
-            text.push_str(", ")?;
-        }
-        text.push_str(role_word(*role))?;
+        page.put(between);
+        page.put(role_word(*role));
+        between = ", ";
     }
-    Ok(text)
+    page.put("]\n");
 }
 
-fn show_top(rt: &impl Print, chart: &Chart) -> io::Result<()> {
-    let (year, month) = (chart.first_year(), chart.first_month());
-    println!(rt; "  {} {year} {month}", chart.city())
+fn tell_top(page: &mut Page, chart: &Chart) {
+    page.put("  ");
+    page.put(chart.city());
+    page.put_numbers(
+        " # #\n",
+        &[chart.first_year() as i128, chart.first_month() as i128],
+    );
 }
 
-fn show_functions(rt: &impl Print, chart: &Chart) -> io::Result<()> {
+/// Appends the begin of a row: what it is, its id and its name.
+fn tell_name(page: &mut Page, row: &str, id: u16, name: &str) {
+    page.put_numbers(row, &[id as i128]);
+    page.put(name);
+}
+
+fn tell_functions(page: &mut Page, chart: &Chart) {
     for id in 0..1001 {
         if let Some(row) = chart.function(id) {
-            println!(rt; "  function {id} {}", row.name.as_str())?;
+            tell_name(page, "  function # ", id, row.name.as_str());
+            page.put("\n");
         }
     }
-    Ok(())
 }
 
-fn show_funds(rt: &impl Print, chart: &Chart) -> io::Result<()> {
+fn tell_fund(page: &mut Page, fund: &Fund) {
+    page.put(" ");
+    page.put(type_word(fund.fund_type));
+    page.put(" ");
+    page.put(level_word(fund.level));
+    page.put(" ");
+    page.put(policy_word(fund.policy));
+    page.put("\n");
+}
+
+fn tell_funds(page: &mut Page, chart: &Chart) {
     for id in 0..1001 {
         if let Some(row) = chart.fund(id) {
-            println!(rt;
-                "  fund {id} {} {} {} {}",
-                row.name.as_str(),
-                type_word(row.fund_type),
-                level_word(row.level),
-                policy_word(row.policy)
-            )?;
+            tell_name(page, "  fund # ", id, row.name.as_str());
+            tell_fund(page, row);
         }
     }
-    Ok(())
 }
 
-fn show_departments(rt: &impl Print, chart: &Chart) -> io::Result<()> {
+fn tell_departments(page: &mut Page, chart: &Chart) {
     for id in 0..10001 {
         if let Some(row) = chart.dept(id) {
-            println!(rt; "  department {id} {} {}", row.name.as_str(), row.function)?;
+            tell_name(page, "  department # ", id, row.name.as_str());
+            page.put_numbers(" #\n", &[row.function as i128]);
         }
     }
-    Ok(())
 }
 
-fn show_objects<R: Print + AllocGlobal>(rt: &R, chart: &Chart) -> io::Result<()> {
+fn tell_objects(page: &mut Page, chart: &Chart) {
     for id in 0..10001 {
         if let Some(row) = chart.object(id) {
-            let kind = object_text(rt.alloc(), row.kind)?;
-            println!(rt; "  object {id} {} {} {kind}", row.name.as_str(), row.class)?;
+            tell_name(page, "  object # ", id, row.name.as_str());
+            page.put_numbers(" #", &[row.class as i128]);
+            tell_object(page, row.kind);
         }
     }
-    Ok(())
 }
 
-fn show_sources<R: Print + AllocGlobal>(rt: &R, chart: &Chart) -> io::Result<()> {
+fn tell_sources(page: &mut Page, chart: &Chart) {
     for id in 0..10001 {
         if let Some(row) = chart.source(id) {
-            let kind = revenue_text(rt.alloc(), row.kind)?;
-            let name = row.name.as_str();
-            println!(rt; "  source {id} {name} {} {kind} {}", row.fund, row.window)?;
+            tell_name(page, "  source # ", id, row.name.as_str());
+            page.put_numbers(" # ", &[row.fund as i128]);
+            tell_revenue(page, row.kind);
+            page.put_numbers(" #\n", &[row.window as i128]);
         }
     }
-    println!(rt; "  {} days", chart.longest_window())
+    page.put_numbers("  # days\n", &[chart.longest_window() as i128]);
 }
 
-fn show_lines<R: Print + AllocGlobal>(rt: &R, chart: &Chart) -> io::Result<()> {
+fn tell_lines(page: &mut Page, chart: &Chart) {
     for number in 0..4097 {
         if let Some(row) = chart.line(number) {
-            let part = part_text(rt.alloc(), row.part)?;
-            println!(rt; "  line {number} {} {} {part}", row.fund, row.dept)?;
+            let numbers = [number as i128, row.fund as i128, row.dept as i128];
+            page.put_numbers("  line # # #", &numbers);
+            tell_part(page, row.part);
         }
     }
-    Ok(())
 }
 
-fn show_desks<R: Print + AllocGlobal>(rt: &R, chart: &Chart) -> io::Result<()> {
+fn tell_desks(page: &mut Page, chart: &Chart) {
     for id in 0..10001 {
         if let Some(row) = chart.desk(id) {
-            let roles = roles_text(rt.alloc(), row.roles.as_slice())?;
-            println!(rt; "  desk {id} {} [{roles}]", row.name.as_str())?;
+            tell_name(page, "  desk # ", id, row.name.as_str());
+            tell_roles(page, row.roles.as_slice());
         }
     }
-    Ok(())
 }
 
-/// Prints each row that the readers of a chart give, by rising id.
-pub fn show_rows<R: Print + AllocGlobal>(rt: &R, chart: &Chart) -> io::Result<()> {
-    show_top(rt, chart)?;
-    show_functions(rt, chart)?;
-    show_funds(rt, chart)?;
-    show_departments(rt, chart)?;
-    show_objects(rt, chart)?;
-    show_sources(rt, chart)?;
-    show_lines(rt, chart)?;
-    show_desks(rt, chart)
+/// Appends each row that the readers of a chart give, by rising id.
+pub fn tell_rows(page: &mut Page, chart: &Chart) {
+    tell_top(page, chart);
+    tell_functions(page, chart);
+    tell_funds(page, chart);
+    tell_departments(page, chart);
+    tell_objects(page, chart);
+    tell_sources(page, chart);
+    tell_lines(page, chart);
+    tell_desks(page, chart);
 }
 
-/// Prints the control line of an account.
-pub fn show_line(
-    rt: &impl Print,
-    chart: &Chart,
-    fund: u16,
-    dept: u16,
-    object: u16,
-) -> io::Result<()> {
+/// Appends the control line of an account.
+pub fn tell_line(page: &mut Page, chart: &Chart, fund: u16, dept: u16, object: u16) {
     match chart.line_of(fund, dept, object) {
-        Some(line) => println!(rt; "  {}", line.number),
-        None => println!(rt; "  none"),
+        Some(line) => page.put_numbers("  #\n", &[line.number as i128]),
+        None => page.put("  none\n"),
     }
 }
