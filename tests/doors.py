@@ -24,12 +24,12 @@ def free_ports(count):
 
 
 class Serve:
-    """The program, serving so many links at each of so many doors in the current folder."""
+    """The program, serving so many links at each of so many doors in the current folder, with this environment or the caller's."""
 
-    def __init__(self, program, doors, links, first=None, out=subprocess.PIPE):
+    def __init__(self, program, doors, links, first=None, out=subprocess.PIPE, env=None):
         self.doors, self.first = doors, first or free_ports(doors)
         words = ["serve", "--port", str(self.first), "--doors", str(doors), "--links", str(links)]
-        self.process = subprocess.Popen([program, *words], stdout=out, stderr=subprocess.PIPE)
+        self.process = subprocess.Popen([program, *words], stdout=out, stderr=subprocess.PIPE, env=env)
         atexit.register(self.process.kill)
 
     def link(self, door):
