@@ -1,17 +1,17 @@
 #!/bin/sh
-# What a call costs in the office that threads share. The program of crates/hall_cases keeps the journal in its own memory
+# What a call costs in the office that threads share. The program of crates/scenes keeps the journal in its own memory
 # (cf_disk's MemDisk, no file, link or pipe), opens the office, and times all calls together by its own clock: each is read from its line of
 # JSON, answered, and its reply written as text. Finding the journal and opening it isn't counted.
 #  - vouchers one after another through `post` by one thread, beside the same calls settled by the book of a desk over the same
 #    office: at most 1.3 times as long, also where the time that reading the lines takes is taken off both
 #  - the same vouchers by four threads, each on a line of its own: all together no slower than by one thread
 #  - a voucher after 1,000 entries and after 100,000: at most 1.3 times as long
-# What is compared is timed in turn, and the least time of each counts. Build the program first: rt run in crates/hall_cases. PROGRAM
+# What is compared is timed in turn, and the least time of each counts. Build the program first: rt run in crates/scenes. PROGRAM
 # names another one, by its whole path.
 top=$(cd "$(dirname "$0")/.." && pwd)
-program=${PROGRAM:-$top/crates/hall_cases/out/hall_cases}
+program=${PROGRAM:-$top/crates/scenes/out/scenes}
 if [ ! -x "$program" ]; then
-    echo "there is no program: rt run in crates/hall_cases builds it" >&2
+    echo "there is no program: rt run in crates/scenes builds it" >&2
     exit 1
 fi
 scratch=$(mktemp -d) || exit 1
@@ -42,7 +42,7 @@ def vouchers(first, count):
 
 def nanoseconds(before, callers, word):
     """How long the callers' calls took, after the calls of a desk: nanoseconds a call."""
-    script = ["chart chart.toml", *before]
+    script = ["halls", "chart chart.toml", *before]
     for calls in callers:
         script += ["caller", *calls]
     done = subprocess.run([sys.argv[1]], input="\n".join(script + [word, ""]), stdout=subprocess.PIPE, text=True)

@@ -18,12 +18,14 @@
 //! | `empty`, `cut N`, `set AT BYTE`, `add BYTE ..` | changes what the disk holds |
 //! | `keep`, `back`, `same` | remembers it, puts it back, prints whether it is the same |
 //! | `cuts` | prints how a desk ends over each front of what the disk holds |
+//! | `halls` | the lines below are on callers over a hall (`halls.rt`) |
 //! | `tears` | prints what a desk with the lines says over each image that a crash at the end of the last run may leave: first of a desk that runs on, and then of one whose disk stops at one of its first five calls |
 #![tactic(auto)]
 
 mod checks;
 mod cuts;
 mod doors;
+mod halls;
 mod images;
 mod play;
 mod stage;
@@ -31,17 +33,45 @@ mod status;
 mod tears;
 mod word;
 
-use play::play;
 use stage::Stage;
 use std::io;
-use word::word_of;
+use std::rt::Files;
+use std::sync::Wait;
+use std::thread::Threads;
+use std::time::Clock;
+
+/// What the script has told: first of runs, and behind the word `halls` of callers over a hall.
+#[derive(Drop)]
+struct Told {
+    runs: Stage,
+    callers: halls::stage::Stage,
+    is_of_callers: bool,
+}
+
+/// Plays a line of the script.
+fn play_line<R: Files + Print + AllocGlobal + Threads + Wait + Clock + Sync>(
+    rt: &R,
+    told: &mut Told,
+    line: &str,
+) -> io::Result<()> {
+    println!(rt; "{line}")?;
+    if told.is_of_callers {
+        halls::play::play(rt, &mut told.callers, &halls::word::word_of(line))
+    } else {
+        told.is_of_callers = line == "halls";
+        play::play(rt, &mut told.runs, &word::word_of(line))
+    }
+}
 
 fn main(rt: HostRuntime) -> io::Result<()> {
-    let mut stage = Stage::new(rt.alloc());
+    let mut told = Told {
+        runs: Stage::new(rt.alloc()),
+        callers: halls::stage::Stage::new(rt.alloc()),
+        is_of_callers: false,
+    };
     for line in rt.lines(rt.alloc()) {
         let line = line?;
-        println!(rt; "{line}")?;
-        play(&rt, &mut stage, &word_of(line.as_str()))?;
+        play_line(&rt, &mut told, line.as_str())?;
     }
     Ok(())
 }

@@ -1,9 +1,9 @@
 //! What the next hall is opened with, and how it is played.
 
-use crate::board::{Begin, Board, Hold};
-use crate::caller::{Caller, Step};
-use crate::hall::{Played, Table, nanoseconds, play_table};
-use crate::journal::{after_desk, book_of, founded};
+use crate::halls::board::{Begin, Board, Hold};
+use crate::halls::caller::{Caller, Step};
+use crate::halls::hall::{Played, Table, nanoseconds, play_table};
+use crate::halls::journal::{after_desk, book_of, founded};
 use cf_book::Book;
 use cf_disk::MemDisk;
 use cf_hall::Opening;
@@ -117,7 +117,9 @@ impl Stage {
                 let begun = nanoseconds(rt);
                 self.settle_all(&mut book);
                 let took = nanoseconds(rt).saturating_sub(begun);
-                Some((book.len(), took))
+                let entries = book.len();
+                let _ = book.close();
+                Some((entries, took))
             }
             None => None,
         }

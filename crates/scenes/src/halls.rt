@@ -1,5 +1,5 @@
-//! Plays a script of callers over a hall, each in a thread of its own, and prints each line of the script with what the
-//! callers were answered. A hall that holds up a call for ever is told by a count of turns, and not by a program that hangs.
+//! Callers over a hall, each in a thread of its own, and what they are answered. A hall that holds up a call for ever is told
+//! by a count of turns, and not by a program that hangs.
 //!
 //! | Line of the script | What it does |
 //! |---|---|
@@ -13,28 +13,12 @@
 //! | `play` | plays all callers over a new journal: prints what each was answered, how many entries there are, how many calls of each caller were accepted, and how many calls were held, gave up waiting or were overtaken while they were kept |
 //! | `mixed N` | plays them so many times, and prints what is the same whoever comes first: the replies without their places, then the places, both sorted |
 //! | `time`, `time desk`, `time read` | plays them, has a desk take their calls one after another, or reads their calls alone, and prints how long that took |
-#![tactic(auto)]
 
 mod board;
 mod caller;
 mod hall;
 mod journal;
-mod play;
-mod stage;
+pub mod play;
+pub mod stage;
 mod summary;
-mod word;
-
-use play::play;
-use stage::Stage;
-use std::io;
-use word::word_of;
-
-fn main(rt: HostRuntime) -> io::Result<()> {
-    let mut stage = Stage::new(rt.alloc());
-    for line in rt.lines(rt.alloc()) {
-        let line = line?;
-        println!(rt; "{line}")?;
-        play(&rt, &mut stage, &word_of(line.as_str()))?;
-    }
-    Ok(())
-}
+pub mod word;

@@ -1,6 +1,6 @@
 //! A caller: its calls, and what it was answered.
 
-use crate::board::{Begin, Board, Held, Hold};
+use crate::halls::board::{Begin, Board, Held, Hold};
 use cf_book::Book;
 use cf_calls::Posted;
 use cf_disk::{Disk, MemDisk};

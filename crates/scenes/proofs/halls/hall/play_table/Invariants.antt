@@ -1,5 +1,5 @@
 use Rattle.cf_hall.specs.OpeningNames.{name_at}
-use Rattle.hall_cases.proofs.hall.play_table.Given as goal
+use Rattle.scenes.proofs.halls.hall.play_table.Given as goal
 
 abbrev pub ghosts-play_over : goal.ghosts-play_over
 ghosts-play_over g a = record {

@@ -1,9 +1,9 @@
 //! What each line of the script does.
 
-use crate::hall::Played;
-use crate::stage::Stage;
-use crate::summary::summary;
-use crate::word::Word;
+use crate::halls::hall::Played;
+use crate::halls::stage::Stage;
+use crate::halls::summary::summary;
+use crate::halls::word::Word;
 use std::alloc::{AllocError, Global};
 use std::rt::Files;
 use std::sync::Wait;
@@ -75,19 +75,33 @@ fn show_played(rt: &impl Print, alloc: Global, played: &Played) -> io::Result<()
     println!(rt; "= {} entries, accepted{accepted}", played.entries)
 }
 
+/// Prints what each caller was answered, and what playing left.
+fn show_all(rt: &impl Print, stage: &mut Stage, played: &Played) -> io::Result<()> {
+    show_callers(rt, stage)?;
+    show_gates(rt, stage)?;
+    show_played(rt, stage.alloc, played)
+}
+
 /// Plays all callers once, and prints what came of it.
 fn play_once<R: Print + Threads + Wait + Clock + Sync>(
     rt: &R,
     stage: &mut Stage,
 ) -> io::Result<()> {
     match stage.play(rt) {
-        Some(played) => {
-            show_callers(rt, stage)?;
-            show_gates(rt, stage)?;
-            show_played(rt, stage.alloc, &played)
-        }
+        Some(played) => show_all(rt, stage, &played),
         None => println!(rt; "= no hall"),
     }
+}
+
+/// What playing left that is the same, whoever came first.
+fn mixed_text(stage: &mut Stage, played: &Played) -> Result<String, AllocError> {
+    let counts = accepted(stage.alloc, played)?;
+    let accepted = total(counts.as_slice());
+    let replies = summary(stage)?;
+    format!(in stage.alloc;
+        "{replies}\n= {} entries, {accepted} accepted",
+        played.entries
+    )
 }
 
 /// What is the same of one time that all callers were played, whoever came first.
@@ -96,17 +110,36 @@ fn played_text<R: Threads + Wait + Clock + Sync>(
     stage: &mut Stage,
 ) -> Result<String, AllocError> {
     match stage.play(rt) {
-        Some(played) => {
-            let counts = accepted(stage.alloc, &played)?;
-            let accepted = total(counts.as_slice());
-            let replies = summary(stage)?;
-            format!(in stage.alloc;
-                "{replies}\n= {} entries, {accepted} accepted",
-                played.entries
-            )
-        }
+        Some(played) => mixed_text(stage, &played),
         None => String::from_str(stage.alloc, "= no hall"),
     }
+}
+
+/// Plays all callers once more, and prints what is the same where it isn't this text.
+fn play_again<R: Print + Threads + Wait + Clock + Sync>(
+    rt: &R,
+    stage: &mut Stage,
+    first: &str,
+) -> io::Result<()> {
+    let text = played_text(rt, stage)?;
+    if text.as_str() == first {
+        return Ok(());
+    }
+    println!(rt; "! another time\n{text}")
+}
+
+/// Prints a text, and plays all callers so often that they were played so many times.
+fn play_others<R: Print + Threads + Wait + Clock + Sync>(
+    rt: &R,
+    stage: &mut Stage,
+    times: u64,
+    first: &str,
+) -> io::Result<()> {
+    println!(rt; "{first}")?;
+    for _ in 1..times {
+        play_again(rt, stage, first)?;
+    }
+    println!(rt; "= {times} times")
 }
 
 /// Plays all callers so many times, and prints what is the same, whoever came first. A time that differs is printed too.
@@ -116,14 +149,7 @@ fn play_mixed<R: Print + Threads + Wait + Clock + Sync>(
     times: u64,
 ) -> io::Result<()> {
     let first = played_text(rt, stage)?;
-    println!(rt; "{first}")?;
-    for _ in 1..times {
-        let text = played_text(rt, stage)?;
-        if text.as_str() != first.as_str() {
-            println!(rt; "! another time\n{text}")?;
-        }
-    }
-    println!(rt; "= {times} times")
+    play_others(rt, stage, times, first.as_str())
 }
 
 fn show_time(rt: &impl Print, entries: u64, nanoseconds: u64) -> io::Result<()> {

@@ -1,6 +1,6 @@
 //! What callers were answered that is the same whoever comes first.
 
-use crate::stage::Stage;
+use crate::halls::stage::Stage;
 use std::alloc::{AllocError, Global};
 
 /// The replies of all callers, without the order in which they came.

@@ -1,6 +1,6 @@
 use Rattle.std.proofs.Common.{◌≡◌, ◌+◌, length}
 use Rattle.std.specs.Vec.{vec_capacity}
-use Rattle.hall_cases.proofs.hall.enter_all.Given as goal
+use Rattle.scenes.proofs.halls.hall.enter_all.Given as goal
 
 abbrev pub invariant-loop-entered : goal.invariant-loop-entered
 invariant-loop-entered g l = record {

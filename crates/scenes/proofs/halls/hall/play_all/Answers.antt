@@ -1,7 +1,7 @@
 use denote.Param.Send.{sendable}
 use Rattle.cf_hall.proofs.Sending.{pass_send, shared_sync}
-use Rattle.hall_cases.proofs.Crossing.{table_sync}
-use Rattle.hall_cases.proofs.hall.play_all.Goals as goal
+use Rattle.scenes.proofs.Crossing.{table_sync}
+use Rattle.scenes.proofs.halls.hall.play_all.Goals as goal
 
 pub for_each_mut-requires-send-T : goal.for_each_mut-requires-send-T
 for_each_mut-requires-send-T g c κs within = search (sendable, pass_send) depth 20

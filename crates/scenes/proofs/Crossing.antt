@@ -1,9 +1,9 @@
 -- The callers of a hall may be shared.
 use denote.Param.Send.{IsSend, IsSync, sendable}
 use Rattle.std.proofs.Crossing.{crosses}
-use Rattle.hall_cases.specs.contracts.caller.Step as step
-use Rattle.hall_cases.specs.contracts.caller.Caller as caller
-use Rattle.hall_cases.specs.contracts.hall.Table as table
+use Rattle.scenes.specs.contracts.halls.caller.Step as step
+use Rattle.scenes.specs.contracts.halls.caller.Caller as caller
+use Rattle.scenes.specs.contracts.halls.hall.Table as table
 
 pub step_send : IsSend step.the_row
 step_send = search (sendable, crosses) depth 20

@@ -1,6 +1,6 @@
 //! Journals in memory, and the desk that keeps one before a hall is opened.
 
-use crate::caller::Caller;
+use crate::halls::caller::Caller;
 use cf_book::{Book, open};
 use cf_chart::Chart;
 use cf_disk::MemDisk;

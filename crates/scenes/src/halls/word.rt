@@ -1,6 +1,6 @@
 //! The lines of the script.
 
-use crate::board::{Begin, Hold};
+use crate::halls::board::{Begin, Hold};
 
 /// What a line of the script asks for.
 #[derive(Clone, Copy)]

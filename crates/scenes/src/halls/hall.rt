@@ -4,8 +4,8 @@ ghost use Rattle.std.specs.Prelude.{◌≡◌, ◌+◌, ◌<◌, ◌≤◌, ℕ,
 ghost use Rattle.std.specs.Vec.{vec_capacity};
 ghost use Rattle.cf_hall.specs.OpeningNames.{name_at};
 
-use crate::board::Board;
-use crate::caller::Caller;
+use crate::halls::board::Board;
+use crate::halls::caller::Caller;
 use cf_book::{Book, open_with_chart};
 use cf_chart::Chart;
 use cf_disk::Disk;
@@ -186,7 +186,10 @@ fn play_over<N: City + Send + Sync, D: Disk + Drop + Send, H: Threads + Wait + C
 {
     match reserve::<N>(table.alloc, count) {
         Ok(rooms) => Some(play_within(rt, book, chart, opening, table, count, rooms)),
-        Err(_) => None,
+        Err(_) => {
+            let _ = book.close();
+            None
+        }
     }
 }
 
