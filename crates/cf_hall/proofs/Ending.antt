@@ -35,6 +35,13 @@ pub faulted_on : (first now new : ℕ) (xs : List PassState) (p : PassState) →
 faulted_on first now new xs p is more =
     omega (arith, is, more, faults_push (map receipts_of xs) (receipts_of p), ap faults_in (map_push receipts_of xs p))
 
+-- a count that stood where no pass had a fault reply
+pub quiet_on : (first now new : ℕ) (xs : List PassState) (p : PassState) → (faults_in (map receipts_of xs) ≡ 0 → now ≡ first) → (p.faults ≡ 0 → new ≡ now)
+    → faults_in (map receipts_of (xs ++ p ∷ [])) ≡ 0 → new ≡ first
+quiet_on first now new xs p is more none =
+    let sum : faults_in (map receipts_of xs) + p.faults ≡ 0 = sym (ap faults_in (map_push receipts_of xs p) ∙ faults_push (map receipts_of xs) (receipts_of p)) ∙ none in
+    more (omega (arith, sum)) ∙ is (omega (arith, sum))
+
 pub parts_on : (first now new : ℕ) (xs : List PassState) (p : PassState) → now ≡ first + length xs → new ≡ now + 1 → new ≡ first + length (xs ++ p ∷ [])
 parts_on first now new xs p is more = omega (arith, is, more, length-append xs (p ∷ []))
 

@@ -41,6 +41,12 @@ risen_by s c given after n risen (Settles.replied body is) rose = omega (arith, 
 risen_by s c given after n risen Settles.memory rose = omega (arith, rose)
 risen_by s c given after n risen (Settles.failed _ fails) rose = omega (arith, rose, fails.rose)
 
+-- and where there was no fault reply it stands
+pub quiet_by : (s : DurableState) (c : Call) (given : Posted) (after : DurableState) (n risen : ℕ) → Settles s c given after → (n ≡ 0 → s.faults ≡ risen) → n + faults_by given ≡ 0 → after.faults ≡ risen
+quiet_by s c given after n risen (Settles.replied body is) quiet none = quiet (omega (arith, none))
+quiet_by s c given after n risen Settles.memory quiet none = quiet (omega (arith, none))
+quiet_by s c given after n risen (Settles.failed _ fails) quiet none = absurd (omega (arith, none))
+
 -- ---- the pass
 
 module _ (plan : Plan) (old now new : PassState) (list : List TaggedEntry) (c : Call) (asked : HasAsked old now list) where

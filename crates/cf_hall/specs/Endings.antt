@@ -14,7 +14,7 @@ use Rattle.cf_hall.specs.Fronts.{KeptSince}
 -- A hall that had this chart and these passes was closed: there is one list of which each pass has seen a beginning, and each
 -- entry was recorded for exactly one of them. Its history is sound, and whatever a crash leaves of the disk recovers to it,
 -- or to it and the entry in doubt; at each moment since the hall was opened, to a front of it, or to that and one entry. The
--- disk's count of faults rose by the passes' fault replies at least.
+-- disk's count of faults rose by the passes' fault replies at least, and not at all where there was none.
 pub record HallEnds {D : Type 0} (tells : Bool) (is_image : D → List ℕ → Type 0) (moment : D → ℕ) (was_image : D → ℕ → List ℕ → Type 0) (faults : D → ℕ) (plan : Plan) (begun risen : ℕ) (kept : PassState) (passes : List PassState) (many : ℕ) (disk : D) : Type 0 where
   pub list : List TaggedEntry
   pub doubt : Option Entry
@@ -27,3 +27,4 @@ pub record HallEnds {D : Type 0} (tells : Bool) (is_image : D → List ℕ → T
   pub images : IsTrue tells → (image : List ℕ) → is_image disk image → RecoversNear plan (entries_of list) (λ e. doubt ≡ Some e) image
   pub any_moment : IsTrue tells → KeptSince moment was_image plan (entries_of list) begun disk
   pub faulted : RoseBy (faults_in (map receipts_of passes)) risen (faults disk)
+  pub quiet : faults_in (map receipts_of passes) ≡ 0 → faults disk ≡ risen

@@ -26,13 +26,14 @@ pub record BookState (D : Type 0) : Type 0 where
   pub recorder : RecorderState
 
 -- The history is the recorder's list, of this chart. So many calls were accepted as it has entries, and the disk's count of
--- faults has risen by the fault replies at least. No pass was ended. Since the hall was opened a crash left what recovers to a
--- front of the history, or to that and one entry.
+-- faults has risen by the fault replies at least, and not at all where there was none. No pass was ended. Since the hall was
+-- opened a crash left what recovers to a front of the history, or to that and one entry.
 pub record IsHallBook {D : Type 0} (tells : Bool) (moment : D → ℕ) (was_image : D → ℕ → List ℕ → Type 0) (faults : D → ℕ) (under : Plan) (begun risen : ℕ) (archive : DurableBook D) (recorder : RecorderState) (totals : TotalsState) : Type 0 where
   pub plan : archive.plan ≡ under
   pub list : archive.entries ≡ entries_of recorder.list
   pub accepted : totals.accepted ≡ length recorder.list
   pub faulted : RoseBy totals.faulted risen (faults archive.disk)
+  pub quiet : totals.faulted ≡ 0 → faults archive.disk ≡ risen
   pub none_ended : recorder.ended ≡ []
   pub since : IsTrue tells → IsKeptSince moment was_image archive.plan archive.entries begun archive.disk
 

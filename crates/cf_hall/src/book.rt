@@ -7,7 +7,7 @@ ghost use Rattle.cf_book.specs.Archives.{LendsCall};
 ghost use Rattle.cf_book.specs.Books.{IsInHand, RecoversNear};
 ghost use Rattle.cf_book.specs.DurableState.{state_of};
 ghost use Rattle.cf_book.specs.Settling.{Settles};
-ghost use Rattle.cf_budget.specs.Tables.{has_line};
+ghost use Rattle.cf_budget.specs.Tables.{has_line, SameStripes};
 ghost use Rattle.cf_calls.specs.Form.{IsCallInForm};
 ghost use Rattle.cf_calls.specs.declared.entry.Entry.{Entry as EntryOf};
 ghost use Rattle.cf_disk.specs.Moments.{AtEachMoment};
@@ -97,6 +97,7 @@ fn add_last<N: City, D: Disk + Drop>(
     ensures recorder { SameRecorder recording.old recording.new }
     ensures counted { length recording.new.list ≡ length recording.old.list + 1 }
     ensures seen { AllSeen recording.new.list taken.new.ties }
+    ensures lines { taken.new.lines ≡ taken.old.lines }
     ensures totals { totals.new ≡ record totals.old { accepted = totals.old.accepted + 1 } }
     ensures pass { HasNoted pass.old recording.new.list pass.new }
 {
@@ -118,7 +119,7 @@ impl<N: City, D: Disk + Drop> HallBook<N, D> {
     }
 
     /// What is done for a call while its caller has the book. The stripes of the call were taken and owe nothing. After
-    /// an accepted call they owe its entry's changes, and stand for the history once those are made.
+    /// an accepted call they owe its entry's changes, and stand for the history once those are made. None is lost.
     pub fn settle(
         &mut self,
         alloc: Global,
@@ -134,6 +135,7 @@ impl<N: City, D: Disk + Drop> HallBook<N, D> {
         ensures reply { Settles (state_of D.faults self.old.archive) call.now result (state_of D.faults self.new.archive) }
         ensures list { ListGrows self.old.recorder.list pass.old.number self.new.recorder.list }
         ensures taken { AllSeen self.new.recorder.list taken.new.ties }
+        ensures stripes { SameStripes taken.old.lines taken.new.lines }
         ensures pass { Tells N.plan pass.old pass.new call.now result }
 
         // What a crash leaves at any moment of the call.
@@ -173,6 +175,7 @@ impl<N: City, D: Disk + Drop> HallBook<N, D> {
         requires own { turns.now ≡ N.table }
         requires parts { spare.parts + length passes.items ≡ 65535 }
         requires none { (spare.accepted ≡ 0) × (spare.faulted ≡ 0) }
+        requires quiet { kept.faults ≡ 0 }
         requires empty { receipts.old.items ≡ [] }
         requires room { vec_len receipts.old + length passes.items ≤ vec_capacity receipts.old }
         ensures receipts { receipts.new.items ≡ map receipts_of passes.items }

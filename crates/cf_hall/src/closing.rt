@@ -38,6 +38,7 @@ fn end_one<N: City>(
     ensures parts { shares.new.parts ≡ shares.old.parts + 1 }
     ensures accepted { shares.new.accepted ≡ shares.old.accepted + length pass.places }
     ensures faulted { shares.old.faulted + pass.faults ≤ shares.new.faulted }
+    ensures quiet { pass.faults ≡ 0 → shares.new.faulted ≡ shares.old.faulted }
 {
     let HallPass {
         pass,
@@ -68,6 +69,7 @@ fn end_all<N: City>(
     ensures parts { shares.new.parts ≡ shares.old.parts + length passes.items }
     ensures accepted { shares.new.accepted ≡ shares.old.accepted + accepted_of (map receipts_of passes.items) }
     ensures faulted { shares.old.faulted + faults_in (map receipts_of passes.items) ≤ shares.new.faulted }
+    ensures quiet { faults_in (map receipts_of passes.items) ≡ 0 → shares.new.faulted ≡ shares.old.faulted }
 {
     for pass in passes {
         end_one(turns, recorder, shares, pass, receipts);
@@ -89,7 +91,8 @@ pub(crate) fn close_in<N: City>(
     requires total { totals.accepted ≡ length recorder.list }
     requires none_ended { recorder.ended ≡ [] }
     requires parts { spare.parts + length passes.items ≡ 65535 }
-    requires none { spare.accepted ≡ 0 }
+    requires none { (spare.accepted ≡ 0) × (spare.faulted ≡ 0) }
+    requires quiet { kept.faults ≡ 0 }
     requires empty { receipts.old.items ≡ [] }
     requires room { vec_len receipts.old + length passes.items ≤ vec_capacity receipts.old }
     ensures receipts { receipts.new.items ≡ map receipts_of passes.items }
@@ -97,6 +100,7 @@ pub(crate) fn close_in<N: City>(
     ensures kept_seen { IsPrefix kept.seen recorder.list }
     ensures seen { All (λ p. IsPrefix p.seen recorder.list) passes.items }
     ensures faulted { faults_in (map receipts_of passes.items) ≤ totals.faulted }
+    ensures quiet { faults_in (map receipts_of passes.items) ≡ 0 → totals.faulted ≡ 0 }
 {
     let HallPass {
         pass,

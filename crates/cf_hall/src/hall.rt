@@ -29,6 +29,7 @@ pub struct Hall<N: City, D: Disk + Drop> {
     pub(crate) entered: u16,
     ghost parts: { spare.parts + entered ≡ 65535 },
     ghost none: { (spare.accepted ≡ 0) × (spare.faulted ≡ 0) },
+    ghost quiet: { kept.faults ≡ 0 },
 }
 
 impl<N: City, D: Disk + Drop> Hall<N, D> {

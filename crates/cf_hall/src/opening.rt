@@ -1,7 +1,7 @@
 //! Opening a hall over an opened book: the entries of its journal are recorded for a pass of the hall's own, and every stripe
 //! sees them.
 
-ghost use Rattle.std.specs.Prelude.{◌≡◌, ◌+◌, ◌<◌, ◌≤◌, ◌++◌, ◌∷◌, ℕ, List, [], length};
+ghost use Rattle.std.specs.Prelude.{◌≡◌, ◌+◌, ◌<◌, ◌≤◌, ◌++◌, ◌∷◌, ℕ, List, [], length, IfOk};
 ghost use Rattle.std.specs.List.{count_by};
 ghost use Rattle.cf_base.specs.Limits.{most_entries};
 ghost use Rattle.cf_model.specs.Step.{IsLegal};
@@ -50,7 +50,11 @@ pub struct Opening {
 
 impl Opening {
     /// The word of an empty list, and ledgers that count nothing.
-    pub fn new(alloc: Global) -> Result<Opening, AllocError> {
+    pub fn new(alloc: Global) -> Result<Opening, AllocError>
+        ensures fresh { IfOk result (λ o. o.recorder ≡ first_recorder o.turns) }
+        ensures ones { IfOk result (λ o. (k : ℕ) → k < 8 → part_at o.stripes k ≡ 1) }
+        ensures parts { IfOk result (λ o. (o.accepted.parts ≡ 65536) × (o.faulted.parts ≡ 65536)) }
+    {
         let (turns, recorder) = Turns::new(alloc)?;
         Ok(Opening {
             turns,
@@ -148,6 +152,7 @@ fn record_one<N: City>(
     ensures totals { totals.new ≡ record totals.old { accepted = totals.old.accepted + 1 } }
     ensures places { pass.new.places ≡ pass.old.places ++ (length recorder.old.list + 1) ∷ [] }
     ensures seen { pass.new.seen ≡ pass.old.seen }
+    ensures faults { pass.new.faults ≡ pass.old.faults }
 {
     recorder.record(turns, entry, &mut pass.pass);
     totals.accept(&mut pass.shares);
@@ -170,6 +175,7 @@ pub(crate) fn record_all<N: City>(
     ensures totals { totals.new ≡ record totals.old { accepted = totals.old.accepted + length entries.now } }
     ensures places { HasFirst (length entries.now) pass.new.places }
     ensures seen { pass.new.seen ≡ recorder.new.list }
+    ensures faults { pass.new.faults ≡ pass.old.faults }
 {
     for entry in entries {
         record_one(entry, turns, recorder, totals, pass);

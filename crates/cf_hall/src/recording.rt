@@ -127,6 +127,7 @@ impl<N: City> Recording<N> {
         requires lent { LendsTouched N.plan (has_line taken.old.lines) entry.now.change.act }
         ensures list { self.new.list ≡ self.old.list ++ (entry.now, pass.old.number) ∷ [] }
         ensures recorder { SameRecorder self.old self.new }
+        ensures lines { taken.new.lines ≡ taken.old.lines }
         ensures owes { taken.new.owed ≡ Some owed }
         ensures seen { AllSeen self.new.list taken.new.ties }
         ensures pass { HasNoted pass.old self.new.list pass.new }

@@ -24,7 +24,7 @@ returns-clause-closes g c =
     let parts : c.end_all.new.shares.parts ≡ 65536 = omega (arith, c.end_all.ensures.parts, ap (λ (s : SharesState). s.parts) merged, c.kept.invariant.part, c.requires.parts) in
     let whole = c.audit.ensures.accepted parts in
     let many : length kept.places + accepted_of (map receipts_of c.args.passes.items) ≡ length list =
-    omega (arith, whole, c.end_all.ensures.accepted, ap (λ (s : SharesState). s.accepted) merged, c.kept.invariant.accepted, c.requires.none, c.requires.total) in
+    omega (arith, whole, c.end_all.ensures.accepted, ap (λ (s : SharesState). s.accepted) merged, c.kept.invariant.accepted, c.requires.none.0, c.requires.total) in
     let here : kept.places ≡ places_of kept.number list = c.end_pass-kept.ensures.places in
     rw (← c.kept.view_is)
     (closed list kept c.args.passes.items c.end_all.new.recorder.ended here all ended c.end_all.ensures.apart many)
@@ -39,3 +39,11 @@ returns-clause-faulted g c =
     let merged = c.merge.ensures in
     let parts : c.end_all.new.shares.parts ≡ 65536 = omega (arith, c.end_all.ensures.parts, ap (λ (s : SharesState). s.parts) merged, c.kept.invariant.part, c.requires.parts) in
     omega (arith, c.audit.ensures.faulted parts, c.end_all.ensures.faulted)
+
+pub returns-clause-quiet : goal.returns-clause-quiet
+returns-clause-quiet g c = λ none.
+    let merged = c.merge.ensures in
+    let parts : c.end_all.new.shares.parts ≡ 65536 = omega (arith, c.end_all.ensures.parts, ap (λ (s : SharesState). s.parts) merged, c.kept.invariant.part, c.requires.parts) in
+    let quiet : c.kept.inside.pass.faults ≡ 0 = rw (← c.kept.view_is) at c.requires.quiet in
+    let theirs : c.kept.inside.shares.faulted ≡ 0 = omega (arith, c.kept.invariant.faulted, quiet) in
+    omega (arith, c.audit.ensures.faulted parts, c.end_all.ensures.quiet none, ap (λ (s : SharesState). s.faulted) merged, theirs, c.requires.none.1)

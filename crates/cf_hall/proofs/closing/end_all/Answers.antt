@@ -1,11 +1,11 @@
-use Rattle.std.proofs.Common.{◌≡◌, List, [], ◌++◌, All, ap, append-nil, sym, subst, ◌∙◌}
+use Rattle.std.proofs.Common.{◌≡◌, List, [], ◌++◌, map, All, ap, append-nil, sym, subst, ◌∙◌}
 use Rattle.std.proofs.lemmas.List.Elements.{All-push}
 use mathlib.Core.List.{IsPrefix}
 use Rattle.std.specs.Vec.Iter.{into_iter_items}
 use Rattle.cf_turns.specs.Lists.{TaggedEntry, places_of}
 use Rattle.cf_turns.specs.States.{PassState}
-use Rattle.cf_names.specs.Closing.{receipts_of}
-use Rattle.cf_hall.proofs.Ending.{nothing_more, mapped_on, yielded_on, accepted_on, faulted_on, parts_on, apart_on}
+use Rattle.cf_names.specs.Closing.{faults_in, receipts_of}
+use Rattle.cf_hall.proofs.Ending.{nothing_more, mapped_on, yielded_on, accepted_on, faulted_on, quiet_on, parts_on, apart_on}
 use Rattle.cf_hall.proofs.closing.end_all.Goals as goal
 
 pub loop-pass-preserved : goal.loop-pass-preserved
@@ -29,6 +29,7 @@ loop-pass-preserved g c =
       parts = parts_on c.args.shares.now.parts l.shares.parts c.end_one.new.shares.parts l.yielded p l.invariant.parts e.parts;
       accepted = accepted_on c.args.shares.now.accepted l.shares.accepted c.end_one.new.shares.accepted l.yielded p l.invariant.accepted e.accepted;
       faulted = faulted_on c.args.shares.now.faulted l.shares.faulted c.end_one.new.shares.faulted l.yielded p l.invariant.faulted e.faulted;
+      quiet = quiet_on c.args.shares.now.faulted l.shares.faulted c.end_one.new.shares.faulted l.yielded p l.invariant.quiet e.quiet;
     }
 
 pub returns-clause-seen : goal.returns-clause-seen
@@ -37,3 +38,10 @@ returns-clause-seen g c =
     let none : into_iter_items l.pass-iterator ≡ [] = nothing_more (into_iter_items l.pass-iterator) (sym l.pass-iterator.rest.ok.0 ∙ c.in-None.ensures.steps.0) in
     let all : c.args.passes.items ≡ l.yielded = l.invariant.all ∙ ap (λ (x : List PassState). l.yielded ++ x) none ∙ append-nil l.yielded in
     subst (λ (x : List PassState). All (λ (q : PassState). IsPrefix q.seen c.args.recorder.now.list) x) (sym all) l.invariant.seen
+
+pub returns-clause-quiet : goal.returns-clause-quiet
+returns-clause-quiet g c =
+    let l = c.loop-pass in
+    let none : into_iter_items l.pass-iterator ≡ [] = nothing_more (into_iter_items l.pass-iterator) (sym l.pass-iterator.rest.ok.0 ∙ c.in-None.ensures.steps.0) in
+    let all : c.args.passes.items ≡ l.yielded = l.invariant.all ∙ ap (λ (x : List PassState). l.yielded ++ x) none ∙ append-nil l.yielded in
+    subst (λ (x : List PassState). faults_in (map receipts_of x) ≡ 0 → l.shares.faulted ≡ c.args.shares.now.faulted) (sym all) l.invariant.quiet

@@ -22,4 +22,5 @@ invariant-loop-pass g l = record {
   parts : l.shares.parts ≡ l.initial.shares.parts + length l.yielded;
   accepted : l.shares.accepted ≡ l.initial.shares.accepted + accepted_of (map receipts_of l.yielded);
   faulted : l.initial.shares.faulted + faults_in (map receipts_of l.yielded) ≤ l.shares.faulted;
+  quiet : faults_in (map receipts_of l.yielded) ≡ 0 → l.shares.faulted ≡ l.initial.shares.faulted;
 }

@@ -30,4 +30,5 @@ loop-entry-preserved g c =
       totals = e.totals ∙ ap (λ (t : TotalsState). record t { accepted = t.accepted + 1 }) l.invariant.totals ∙ (λ k. record was { accepted = more k });
       places = subst (HasFirst (i + 1)) (sym (e.places ∙ ap (λ (n : ℕ). l.pass.places ++ (n + 1) ∷ []) l.invariant.long)) (first_more i l.pass.places l.invariant.places);
       seen = e.seen ∙ l.invariant.seen;
+      faults = e.faults ∙ l.invariant.faults;
     }

@@ -12,4 +12,5 @@ invariant-loop-entry g l = record {
   totals : l.totals ≡ record l.initial.totals { accepted = l.initial.totals.accepted + l.entry-index };
   places : HasFirst l.entry-index l.pass.places;
   seen : l.pass.seen ≡ [];
+  faults : l.pass.faults ≡ l.initial.pass.faults;
 }

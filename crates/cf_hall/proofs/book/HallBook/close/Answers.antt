@@ -40,4 +40,5 @@ returns-clause-ends g c =
       faulted =
           subst (λ (disk : g.row.D.Denot). RoseBy (faults_in (map receipts_of c.args.passes.items)) g.N.City.risen (d.faults disk)) (sym c.close.ensures.disk)
           (rose_less _ b.totals.faulted g.N.City.risen (d.faults b.archive.disk) c.close_in.ensures.faulted c.self.invariant.faulted);
+      quiet = λ none. ap d.faults c.close.ensures.disk ∙ c.self.invariant.quiet (c.close_in.ensures.quiet none);
     }

@@ -1,6 +1,7 @@
 use Rattle.std.proofs.Common.{◌≡◌, ℕ, ◌+◌, ◌∷◌, ◌++◌, [], List, Option, None, length, sym, ap, subst, ◌∙◌, inr, arith}
 use Rattle.std.proofs.lemmas.List.{append-nil}
 use Rattle.cf_budget.specs.declared.changes.LineChange.{LineChange}
+use Rattle.cf_budget.specs.Tables.{Tables, has_stripe}
 use Rattle.cf_calls.specs.declared.entry.Entry.{Entry}
 use Rattle.cf_calls.specs.declared.reply.Posted.TheVariants as posted
 use Rattle.cf_chart.specs.Plan.{Plan}
@@ -15,7 +16,7 @@ use Rattle.cf_hall.specs.Fronts.{KeptSince}
 use Rattle.cf_hall.specs.Passes.{Sights, faults_by}
 use Rattle.cf_hall.specs.TakenState.{AreTakenStripes, AllSeen}
 use Rattle.cf_hall.proofs.Fronts.{kept_on}
-use Rattle.cf_hall.proofs.Saying.{risen_by, said_at, told_kept, told_added}
+use Rattle.cf_hall.proofs.Saying.{risen_by, quiet_by, said_at, told_kept, told_added}
 use Rattle.cf_hall.proofs.Standing.{kept}
 use Rattle.cf_hall.proofs.book.HallBook.settle.Goals as goal
 
@@ -43,6 +44,7 @@ invariant_of-self g c =
       faulted =
           subst (λ (n : ℕ). RoseBy n g.N.City.risen (d.faults c.settle.new.self.disk)) (sym faulted)
           (risen_by (state_of d.faults b.archive) c.args.call.now c.in-Kept.answer (state_of d.faults c.settle.new.self) b.totals.faulted g.N.City.risen c.in-Kept.ensures.reply c.self.invariant.faulted);
+      quiet = λ is. quiet_by (state_of d.faults b.archive) c.args.call.now c.in-Kept.answer (state_of d.faults c.settle.new.self) b.totals.faulted g.N.City.risen c.in-Kept.ensures.reply c.self.invariant.quiet (sym faulted ∙ is);
       none_ended = ap (λ (r : RecorderState). r.ended) c.see.ensures.recorder ∙ ap (λ (r : RecorderState). r.ended) c.catch_up.ensures.recorder ∙ c.self.invariant.none_ended;
       since = λ tells. inr (
           subst (λ (p : Plan). KeptSince d.moment d.was_image p c.settle.new.self.entries g.N.City.begun c.settle.new.self.disk) (sym c.settle.ensures.plan)
@@ -67,6 +69,11 @@ returns-in-Kept-clause-taken g c =
     let list : c.see.new.recording.list ≡ b.recording.list = ap (λ (r : RecorderState). r.list) c.see.ensures.recorder ∙ ap (λ (r : RecorderState). r.list) c.catch_up.ensures.recorder in
     let seen : AllSeen b.recording.list t.ties = rw (← c.taken.view_is) at c.catch_up.ensures.seen in
     subst (λ (l : List TaggedEntry). AllSeen l t.ties) (sym list) seen
+
+pub returns-in-Kept-clause-stripes : goal.returns-in-Kept-clause-stripes
+returns-in-Kept-clause-stripes g c =
+    let lines : c.taken.inside.lines ≡ c.args.taken.now.lines = rw (← c.taken.view_is) at c.catch_up.ensures.lines in
+    λ k. c.settle.ensures.stripes k ∙ ap (λ (t : Tables). has_stripe t k) lines
 
 pub returns-in-Kept-clause-pass : goal.returns-in-Kept-clause-pass
 returns-in-Kept-clause-pass g c =
@@ -116,12 +123,18 @@ invariant_of-self-in-Added g c =
       faulted =
           subst (λ (n : ℕ). RoseBy n g.N.City.risen (d.faults c.settle.new.self.disk)) (none ∙ sym faulted)
           (risen_by (state_of d.faults b.archive) c.args.call.now (posted.Reply c.in-Added.reply) (state_of d.faults c.settle.new.self) b.totals.faulted g.N.City.risen c.in-Added.ensures.reply c.self.invariant.faulted);
+      quiet = λ is. quiet_by (state_of d.faults b.archive) c.args.call.now (posted.Reply c.in-Added.reply) (state_of d.faults c.settle.new.self) b.totals.faulted g.N.City.risen c.in-Added.ensures.reply c.self.invariant.quiet (none ∙ sym faulted ∙ is);
       none_ended = c.add_last.ensures.recorder.ended ∙ ap (λ (r : RecorderState). r.ended) c.catch_up.ensures.recorder ∙ c.self.invariant.none_ended;
       since = λ tells. inr (
           subst (λ (p : Plan). KeptSince d.moment d.was_image p c.settle.new.self.entries g.N.City.begun c.settle.new.self.disk) (sym c.settle.ensures.plan)
           (kept_on d.moment d.was_image b.archive.plan b.archive.entries c.settle.new.self.entries (c.in-Added.ensures.grows.0 ∷ []) _ g.N.City.begun b.archive.disk c.settle.new.self.disk
           c.in-Added.ensures.grows.1 (c.self.invariant.since tells) (c.settle.ensures.any_moment tells)));
     }
+
+pub returns-in-Added-clause-stripes : goal.returns-in-Added-clause-stripes
+returns-in-Added-clause-stripes g c =
+    let lines : c.taken.inside.lines ≡ c.args.taken.now.lines = rw (← c.taken.view_is) at c.catch_up.ensures.lines in
+    λ k. ap (λ (t : Tables). has_stripe t k) c.add_last.ensures.lines ∙ c.settle.ensures.stripes k ∙ ap (λ (t : Tables). has_stripe t k) lines
 
 pub returns-in-Added-clause-pass : goal.returns-in-Added-clause-pass
 returns-in-Added-clause-pass g c =

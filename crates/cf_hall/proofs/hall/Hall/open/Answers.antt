@@ -48,6 +48,7 @@ invariant_of-book g c =
         c.requires.risen,
         ap (λ (a : DurableBook g.row.D.Denot). d.faults a.disk) parts.archive,
       );
+      quiet = λ none. ap (λ (a : DurableBook g.row.D.Denot). d.faults a.disk) parts.archive ∙ c.requires.risen;
       none_ended = c.begin-recording.ensures.recorder.ended ∙ c.record_all.ensures.recorder.ended ∙ ap (λ (r : RecorderState). r.ended) c.open_pass.ensures.recorder ∙ c.open_ties-counts.ensures.recorder.2
           ∙ ap (λ (r : RecorderState). r.ended) c.args.opening.fresh;
       since = λ tells. inl (ap (λ (a : DurableBook g.row.D.Denot). d.moment a.disk) parts.archive ∙ c.requires.begun);
