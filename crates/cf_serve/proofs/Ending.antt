@@ -32,7 +32,7 @@ module _ {D L : Type 0} (device : DiskTells D) (tells : Tells L) (known : Bool) 
     ran : HallRan device tells known links book disk (map door_of before) (map door_of after) (sum_by (λ (d : DeskState L). end_links d.end) after)
     ran = record {
       last = entries_of ends.list;
-      ran = serve_ran tells known book.plan ends.list links before after book.entries kept (device.faults book.disk) (device.faults disk) all seen has ends.kept_seen ends.closes ends.sound ends.faulted;
+      ran = serve_ran tells known book.plan ends.list links before after book.entries kept (device.faults book.disk) (device.faults disk) all seen has ends.kept_seen ends.closes ends.sound ends.faulted ends.quiet;
       kept = record { doubt = ends.doubt; images = ends.images; doubt_sound = ends.doubt_sound };
       any_moment = ends.any_moment;
       given_is = sym (given_is tells known book.plan ends.list links before after all);

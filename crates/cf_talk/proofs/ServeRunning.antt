@@ -91,6 +91,12 @@ module _ {L : Type 0} (tells : Tells L) (known : Bool) (plan : Plan) (list : Lis
   unfolding doors_ran
   faults_ran olds news first kept all has closes before now rose = omega (arith, rose, faults_same olds news before all)
 
+  pub quiet_ran : (olds news : List (DeskState L)) (first : ℕ) (kept : PassState) (all : AllKept tells known plan list links olds news) (has : HasFirst first kept.places)
+      (closes : Closes list (receipts_of kept ∷ map receipts_of (map (λ (d : DeskState L). d.pass) news))) (before now : ℕ)
+      → (faults_in (map receipts_of (map (λ (d : DeskState L). d.pass) news)) ≡ 0 → now ≡ before) → faults_said (doors_ran olds news first kept all has closes).talks ≡ 0 → now ≡ before
+  unfolding doors_ran
+  quiet_ran olds news first kept all has closes before now quiet none = quiet (omega (arith, none, faults_same olds news 0 all))
+
   -- ---- the history
 
   goes_on : (seen : List TaggedEntry) (first : List Entry) → entries_of seen ≡ first → IsPrefix seen list → (later : List Entry) × (entries_of list ≡ first ++ later)
@@ -99,8 +105,9 @@ module _ {L : Type 0} (tells : Tells L) (known : Bool) (plan : Plan) (list : Lis
   pub serve_ran : (olds news : List (DeskState L)) (first : List Entry) (kept : PassState) (before now : ℕ) → AllKept tells known plan list links olds news
       → entries_of kept.seen ≡ first → HasFirst (length first) kept.places → IsPrefix kept.seen list → Closes list (receipts_of kept ∷ map receipts_of (map (λ (d : DeskState L). d.pass) news))
       → IsSoundState (record { plan = plan; entries = entries_of list }) → RoseBy (faults_in (map receipts_of (map (λ (d : DeskState L). d.pass) news))) before now
+      → (faults_in (map receipts_of (map (λ (d : DeskState L). d.pass) news)) ≡ 0 → now ≡ before)
       → ServeRan tells known plan first (entries_of list) links before now (map door_of olds) (map door_of news)
-  serve_ran olds news first kept before now all is has front closes sound rose =
+  serve_ran olds news first kept before now all is has front closes sound rose quiet =
       let on = goes_on kept.seen first is front in
       record {
         later = on.0;
@@ -108,6 +115,7 @@ module _ {L : Type 0} (tells : Tells L) (known : Bool) (plan : Plan) (list : Lis
         sound = sound;
         doors = doors_ran olds news (length first) kept all has closes;
         faults = faults_ran olds news (length first) kept all has closes before now rose;
+        quiet = quiet_ran olds news (length first) kept all has closes before now quiet;
       }
 
   -- ---- from one by one to all

@@ -51,13 +51,15 @@ pub record DoorsRan {L : Type 0} (tells : Tells L) (known : Bool) (plan : Plan) 
   pub once : EachIsOne first (length last) talks
 
 -- Doors were kept from a history to the last one, which begins with it and is sound. The doors' talks make up what lies
--- between. The calls answered by a fault of the disk are at most as many as its count of faults rose by.
+-- between. The calls answered by a fault of the disk are at most as many as its count of faults rose by, which stands where there
+-- was none.
 pub record ServeRan {L : Type 0} (tells : Tells L) (known : Bool) (plan : Plan) (first last : List Entry) (links faults_old faults_new : ℕ) (olds news : List (DoorState L)) : Type 0 where
   pub later : List Entry
   pub goes_on : last ≡ first ++ later
   pub sound : IsSoundState (record { plan = plan; entries = last })
   pub doors : DoorsRan tells known plan (length first) last links olds news
   pub faults : RoseBy (faults_said doors.talks) faults_old faults_new
+  pub quiet : faults_said doors.talks ≡ 0 → faults_new ≡ faults_old
 
 -- ---- how the workers come to it
 
