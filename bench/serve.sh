@@ -3,7 +3,8 @@
 #  - looks over a kept-alive link at one door, beside nginx answering a fixed text of as many bytes over one on one worker (by
 #    wrk; skipped where wrk or nginx isn't there);
 #  - accepted calls at eight doors on eight lines, each waiting for its answer, beside the rate at which the same disk syncs the
-#    data of small appends: each call is two writes and two syncs, so the last number is calls / (syncs / 2);
+#    data of small appends: each call is two writes and two syncs, so the last number is calls / (syncs / 2); and the same where
+#    each sync takes a millisecond more, by a library that is put before the system's (skipped where cc isn't there);
 #  - accepted calls at one door and at eight, sent many at a time, where the journal lies in memory (/dev/shm);
 #  - the time of a call there after 1,000 entries and after 100,000.
 # The files that are synced lie in a folder made in the folder of the argument, or in bench/. The callers run on the same processors.
@@ -82,9 +83,9 @@ def seconds(serve, doors, count, most):
         speaker.join()
     return last - start
 
-def opened(doors):
+def opened(doors, env=None):
     """A serve whose doors listen."""
-    serve = Serve(PROGRAM, doors, 1000)
+    serve = Serve(PROGRAM, doors, 1000, env=env)
     for door in range(doors):
         serve.link(door).close()
     return serve
@@ -127,28 +128,55 @@ def looks():
     door, fixed = max(ours), max(theirs)
     print(f"looks at one door: {door:,.0f} a second; nginx, a fixed text of {len(text)} bytes: {fixed:,.0f}; {door / fixed:.2f} of it")
 
-def sync_seconds(count):
-    file = os.open("appends", os.O_WRONLY | os.O_CREAT | os.O_APPEND)
-    start = time.time()
-    for _ in range(count):
-        os.write(file, b"x" * 60)
-        os.fdatasync(file)
-    took = time.time() - start
-    os.close(file)
-    return took
+SYNCS = """
+import os, sys, time
+file = os.open("appends", os.O_WRONLY | os.O_CREAT | os.O_APPEND)
+start = time.time()
+for _ in range(int(sys.argv[1])):
+    os.write(file, b"x" * 60)
+    os.fdatasync(file)
+print(time.time() - start)
+"""
 
-def durable():
+def sync_seconds(count, env):
+    said = subprocess.run([sys.executable, "-c", SYNCS, str(count)], env=env, stdout=subprocess.PIPE, check=True)
+    return float(said.stdout)
+
+def durable(what, env, syncs, calls):
     found(DISK)
-    serve = opened(DOORS)
-    turns, syncs, calls = 5, 1000, 60
+    serve = opened(DOORS, env)
+    turns = 5
     syncing = calling = 0
     for _ in range(turns):
-        syncing += sync_seconds(syncs)
+        syncing += sync_seconds(syncs, env)
         calling += seconds(serve, DOORS, calls, 1)
     serve.kill()
     rate, accepted = turns * syncs / syncing, turns * calls * DOORS / calling
-    print(f"syncs of small appends: {rate:,.0f} a second; accepted calls at {DOORS} doors: {accepted:,.0f}; "
+    print(f"{what}: syncs of small appends: {rate:,.0f} a second; accepted calls at {DOORS} doors: {accepted:,.0f}; "
           f"calls / (syncs / 2): {accepted / (rate / 2):.2f}")
+
+SLOWER = """
+#include <time.h>
+#include <unistd.h>
+#include <sys/syscall.h>
+int fdatasync(int file) {
+    struct timespec millisecond = {0, 1000000};
+    nanosleep(&millisecond, 0);
+    return syscall(SYS_fdatasync, file);
+}
+"""
+
+def slower():
+    """The environment in which a sync takes a millisecond more."""
+    library = f"{MEMORY}/slower.so"
+    subprocess.run(["cc", "-shared", "-fPIC", "-O1", "-x", "c", "-", "-o", library], input=SLOWER, text=True, check=True)
+    return dict(os.environ, LD_PRELOAD=library)
+
+def slow_disk():
+    if not shutil.which("cc"):
+        print("a slower disk: skipped: there is no cc")
+        return
+    durable("a slower disk", slower(), 100, 10)
 
 def in_memory():
     rates = {}
@@ -176,7 +204,8 @@ def growth():
     print(f"a call after 1,000 entries: {few:.1f} us; after 100,000: {many:.1f} us; {many / few:.2f} times")
 
 looks()
-durable()
+durable("this disk", None, 1000, 60)
+slow_disk()
 in_memory()
 growth()
 PY
