@@ -81,7 +81,7 @@ fn main(rt: HostRuntime) -> ExitCode {
         },
         Err(error) => wordless(&error),
     };
-    if status != Status::Ok {
+    if !matches!(status, Status::Ok) {
         let _ = eprintln!(rt; "cityfund: {status}");
     }
     ExitCode::from(status.code())
