@@ -228,6 +228,13 @@ fn is_due_in_time(on: Day, every: u16, payments: usize) -> bool
     first + u32::from(every) * (payments as u32) <= 12 * u32::from(LAST_YEAR) + 12
 }
 
+/// Whether a bond may have so many months between payments.
+fn is_payment_period(months: u16) -> bool
+    ensures { result ≡ is_period months }
+{
+    matches!(months, 1 | 2 | 3 | 4 | 6 | 12)
+}
+
 fn issue(alloc: Global, on: Day, value: &Value) -> Result<BondIssue, CallRefused>
     ensures answer { Gives result (spec.issue_of on (view value.now)) }
     ensures form { IfOk result (IsIssueForm on) }
@@ -238,7 +245,7 @@ fn issue(alloc: Global, on: Day, value: &Value) -> Result<BondIssue, CallRefused
     let rate_bp = need::<N16>(alloc, value, "rate_bp")?;
     must(alloc, rate_bp <= 10000, "rate_bp")?;
     let every = need::<N16>(alloc, value, "every")?;
-    must(alloc, matches!(every, 1 | 2 | 3 | 4 | 6 | 12), "every")?;
+    must(alloc, is_payment_period(every), "every")?;
     let principals = list::<Principal>(alloc, value, "principals", 1, 120)?;
     let payments = principals.as_slice();
     must(alloc, total(payments) == u128::from(amount), "principals")?;
