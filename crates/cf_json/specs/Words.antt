@@ -1,5 +1,6 @@
 -- The words of calls and of their fields.
-use Rattle.std.specs.Prelude.{ℕ, List, [], ◌∷◌, codes}
+use Rattle.std.specs.Prelude.{ℕ, List, [], ◌∷◌, map, codes}
+use Rattle.std.specs.Borrow.{Bor}
 use Rattle.cf_base.specs.declared.statement.Kind.{Kind}
 use Rattle.cf_base.specs.declared.statement.Kind.TheVariants as kind
 use Rattle.cf_calls.specs.declared.read.Basis.{Basis}
@@ -16,6 +17,10 @@ use Rattle.cf_calls.specs.declared.kind.ActKind.{ActKind}
 use Rattle.cf_calls.specs.declared.kind.ActKind.TheVariants.{Adopt, Amend, Transfer, Requisition, Withdraw, Order, ChangeOrder, CancelOrder, Voucher, VoidVoucher, Pay, Bill, Collect, Receive, WriteOff, Asset, Issue, PayDue, Leave, Interfund, Close}
 use Rattle.cf_json.specs.declared.words.LookWord.{LookWord}
 use Rattle.cf_json.specs.declared.words.LookWord.TheVariants as look
+
+-- the words of a table that borrows them
+abbrev pub plain_words : {A : Type 0} → List (Bor (List ℕ) × A) → List (List ℕ × A)
+plain_words words = map (λ w. ((w.0).now, w.1)) words
 
 -- the words of the changing calls
 abbrev pub change_words : List (List ℕ × ActKind)

@@ -82,13 +82,10 @@ fn object_call(alloc: Global, value: &Value) -> Result<Call, CallRefused>
     if value.as_object().is_none() {
         return Err(CallRefused::Form(FormFault::Json));
     }
-    let word = value.get("call").and_then(Value::as_str);
-    call_by(
-        alloc,
-        word.and_then(change_word),
-        word.and_then(look_word),
-        value,
-    )
+    match value.get("call") {
+        Some(word) => call_by(alloc, change_word(word), look_word(word), value),
+        None => Err(CallRefused::Form(FormFault::Call)),
+    }
 }
 
 /// The call that a line is, which is in form, or the first fault of its form. Its value is what

@@ -1,6 +1,9 @@
-//! The words of calls and of their fields.
+//! The words of calls and of their fields, each set a table.
 
-ghost use Rattle.std.specs.Prelude.{◌≡◌};
+ghost use Rattle.std.specs.Prelude.{◌≡◌, find, option_copied};
+ghost use Rattle.std.specs.Str.{bytes_eq};
+ghost use Rattle.cf_json.specs.Words as spec;
+ghost use Rattle.serde_json.specs.View.{view};
 ghost use Rattle.cf_members.specs.Kinds.{as_word, word_in};
 ghost use Rattle.cf_json.specs.Words.{change_words, look_words, asset_words, leave_words, move_words, period_words, basis_words, statement_words};
 
@@ -48,54 +51,120 @@ pub enum PeriodWord {
     Year,
 }
 
-/// The changing call of a word.
-pub fn change_word(text: &str) -> Option<ActKind>
-    ensures { result ≡ word_in change_words text.now }
+const CHANGES: [(&str, ActKind); 21] = [
+    ("adopt", ActKind::Adopt),
+    ("amend", ActKind::Amend),
+    ("transfer", ActKind::Transfer),
+    ("requisition", ActKind::Requisition),
+    ("withdraw", ActKind::Withdraw),
+    ("order", ActKind::Order),
+    ("change_order", ActKind::ChangeOrder),
+    ("cancel_order", ActKind::CancelOrder),
+    ("voucher", ActKind::Voucher),
+    ("void_voucher", ActKind::VoidVoucher),
+    ("pay", ActKind::Pay),
+    ("bill", ActKind::Bill),
+    ("collect", ActKind::Collect),
+    ("receive", ActKind::Receive),
+    ("write_off", ActKind::WriteOff),
+    ("asset", ActKind::Asset),
+    ("issue", ActKind::Issue),
+    ("pay_due", ActKind::PayDue),
+    ("leave", ActKind::Leave),
+    ("interfund", ActKind::Interfund),
+    ("close", ActKind::Close),
+];
+
+const LOOKS: [(&str, LookWord); 11] = [
+    ("line", LookWord::Line),
+    ("requisition", LookWord::Requisition),
+    ("order", LookWord::Order),
+    ("voucher", LookWord::Voucher),
+    ("bill", LookWord::Bill),
+    ("asset", LookWord::Asset),
+    ("bond", LookWord::Bond),
+    ("leave", LookWord::Leave),
+    ("account", LookWord::Account),
+    ("reconcile", LookWord::Reconcile),
+    ("report", LookWord::Report),
+];
+
+const ASSET_WORDS: [(&str, AssetWord); 2] = [
+    ("donate", AssetWord::Donate),
+    ("dispose", AssetWord::Dispose),
+];
+
+const LEAVE_WORDS: [(&str, LeaveWord); 3] = [
+    ("earn", LeaveWord::Earn),
+    ("use", LeaveWord::Use),
+    ("mature", LeaveWord::Mature),
+];
+
+const PERIOD_WORDS: [(&str, PeriodWord); 2] = [
+    ("month", PeriodWord::Month),
+    ("year", PeriodWord::Year),
+];
+
+const MOVE_WORDS: [(&str, FundMoveKind); 3] = [
+    ("transfer", FundMoveKind::Transfer),
+    ("loan", FundMoveKind::Loan),
+    ("repay", FundMoveKind::Repay),
+];
+
+const BASES: [(&str, Basis); 2] = [("fund", Basis::Fund), ("gov", Basis::Gov)];
+
+const STATEMENTS: [(&str, Kind); 7] = [
+    ("balance", Kind::Balance),
+    ("operating", Kind::Operating),
+    ("budget", Kind::Budget),
+    ("position", Kind::Position),
+    ("activities", Kind::Activities),
+    ("reconcile", Kind::Reconcile),
+    ("changes", Kind::Changes),
+];
+
+fn entry_of<'a, W: Copy>(
+    words: &'a [(&'static str, W)],
+    text: &str,
+) -> Option<&'a (&'static str, W)>
+    ensures { option_copied result ≡ find (λ w. bytes_eq text.now (w.0).now) words.now }
 {
-    match text {
-        "adopt" => Some(ActKind::Adopt),
-        "amend" => Some(ActKind::Amend),
-        "transfer" => Some(ActKind::Transfer),
-        "requisition" => Some(ActKind::Requisition),
-        "withdraw" => Some(ActKind::Withdraw),
-        "order" => Some(ActKind::Order),
-        "change_order" => Some(ActKind::ChangeOrder),
-        "cancel_order" => Some(ActKind::CancelOrder),
-        "voucher" => Some(ActKind::Voucher),
-        "void_voucher" => Some(ActKind::VoidVoucher),
-        "pay" => Some(ActKind::Pay),
-        "bill" => Some(ActKind::Bill),
-        "collect" => Some(ActKind::Collect),
-        "receive" => Some(ActKind::Receive),
-        "write_off" => Some(ActKind::WriteOff),
-        "asset" => Some(ActKind::Asset),
-        "issue" => Some(ActKind::Issue),
-        "pay_due" => Some(ActKind::PayDue),
-        "leave" => Some(ActKind::Leave),
-        "interfund" => Some(ActKind::Interfund),
-        "close" => Some(ActKind::Close),
-        _ => None,
+    words.iter().find(|word| text == word.0)
+}
+
+/// What a text is in a table.
+#[tactic(auto, using(crate::proofs::WordTables::plain_word))]
+fn word_of<W: Copy>(words: &[(&'static str, W)], text: &str) -> Option<W>
+    ensures { result ≡ word_in (spec.plain_words words.now) text.now }
+{
+    match entry_of(words, text) {
+        Some(word) => Some(word.1),
+        None => None,
     }
 }
 
-/// The look of a word.
-pub fn look_word(text: &str) -> Option<LookWord>
-    ensures { result ≡ word_in look_words text.now }
+/// What a value is by the word that it is.
+fn read_word<W: Copy>(words: &[(&'static str, W)], value: &Value) -> Option<W>
+    ensures { result ≡ as_word (spec.plain_words words.now) (view value.now) }
 {
-    match text {
-        "line" => Some(LookWord::Line),
-        "requisition" => Some(LookWord::Requisition),
-        "order" => Some(LookWord::Order),
-        "voucher" => Some(LookWord::Voucher),
-        "bill" => Some(LookWord::Bill),
-        "asset" => Some(LookWord::Asset),
-        "bond" => Some(LookWord::Bond),
-        "leave" => Some(LookWord::Leave),
-        "account" => Some(LookWord::Account),
-        "reconcile" => Some(LookWord::Reconcile),
-        "report" => Some(LookWord::Report),
-        _ => None,
+    match value.as_str() {
+        Some(text) => word_of(words, text),
+        None => None,
     }
+}
+
+/// The changing call of a word.
+pub fn change_word(word: &Value) -> Option<ActKind>
+    ensures { result ≡ as_word change_words (view word.now) }
+{
+    read_word(&CHANGES, word)
+}
+
+/// The look of a word.
+pub fn look_word(word: &Value) -> Option<LookWord>
+    ensures { result ≡ as_word look_words (view word.now) }
+{
+    read_word(&LOOKS, word)
 }
 
 impl FieldKind for AssetWord {
@@ -106,11 +175,7 @@ impl FieldKind for AssetWord {
     ghost fits = { λ _. Unit {0} };
 
     fn read(value: &Value) -> Option<AssetWord> {
-        match value.as_str() {
-            Some("donate") => Some(AssetWord::Donate),
-            Some("dispose") => Some(AssetWord::Dispose),
-            _ => None,
-        }
+        read_word(&ASSET_WORDS, value)
     }
 }
 
@@ -122,12 +187,7 @@ impl FieldKind for LeaveWord {
     ghost fits = { λ _. Unit {0} };
 
     fn read(value: &Value) -> Option<LeaveWord> {
-        match value.as_str() {
-            Some("earn") => Some(LeaveWord::Earn),
-            Some("use") => Some(LeaveWord::Use),
-            Some("mature") => Some(LeaveWord::Mature),
-            _ => None,
-        }
+        read_word(&LEAVE_WORDS, value)
     }
 }
 
@@ -139,11 +199,7 @@ impl FieldKind for PeriodWord {
     ghost fits = { λ _. Unit {0} };
 
     fn read(value: &Value) -> Option<PeriodWord> {
-        match value.as_str() {
-            Some("month") => Some(PeriodWord::Month),
-            Some("year") => Some(PeriodWord::Year),
-            _ => None,
-        }
+        read_word(&PERIOD_WORDS, value)
     }
 }
 
@@ -158,12 +214,7 @@ impl FieldKind for MoveWord {
     ghost fits = { λ _. Unit {0} };
 
     fn read(value: &Value) -> Option<FundMoveKind> {
-        match value.as_str() {
-            Some("transfer") => Some(FundMoveKind::Transfer),
-            Some("loan") => Some(FundMoveKind::Loan),
-            Some("repay") => Some(FundMoveKind::Repay),
-            _ => None,
-        }
+        read_word(&MOVE_WORDS, value)
     }
 }
 
@@ -178,11 +229,7 @@ impl FieldKind for BasisWord {
     ghost fits = { λ _. Unit {0} };
 
     fn read(value: &Value) -> Option<Basis> {
-        match value.as_str() {
-            Some("fund") => Some(Basis::Fund),
-            Some("gov") => Some(Basis::Gov),
-            _ => None,
-        }
+        read_word(&BASES, value)
     }
 }
 
@@ -197,15 +244,6 @@ impl FieldKind for StatementWord {
     ghost fits = { λ _. Unit {0} };
 
     fn read(value: &Value) -> Option<Kind> {
-        match value.as_str() {
-            Some("balance") => Some(Kind::Balance),
-            Some("operating") => Some(Kind::Operating),
-            Some("budget") => Some(Kind::Budget),
-            Some("position") => Some(Kind::Position),
-            Some("activities") => Some(Kind::Activities),
-            Some("reconcile") => Some(Kind::Reconcile),
-            Some("changes") => Some(Kind::Changes),
-            _ => None,
-        }
+        read_word(&STATEMENTS, value)
     }
 }
