@@ -4,10 +4,11 @@
 ghost use Rattle.std.specs.Prelude.{◌≡◌, ◌≤◌, ◌+◌, ◌*◌, ◌<◌, nat_le, sum, length};
 ghost use Rattle.cf_base.specs.Limits.{last_year};
 ghost use Rattle.cf_calls.specs.Form.{is_period, month_number};
+ghost use Rattle.cf_calls.specs.declared.acts.Act.TheVariants as act;
 ghost use Rattle.cf_codec.specs.Acts as spec;
 ghost use Rattle.cf_fields.specs.Readings.{Gives};
 ghost use Rattle.cf_fields.specs.Formats.{kept};
-ghost use Rattle.cf_fields.specs.Fields.{byte};
+ghost use Rattle.cf_fields.specs.Fields.{byte, word};
 
 use crate::items::{
     AccountElement, LineElement, Principal, SourceElement, VoucherElement, VoucherNumber,
@@ -28,8 +29,8 @@ use cf_fields::take::{
 };
 use std::alloc::Global;
 
-fn take_adoption(alloc: Global, bytes: &[u8]) -> Result<(Adoption, &[u8]), Refused>
-    ensures { Gives (λ x. (x.0, x.1.now)) result (spec.adoption.read bytes.now) }
+fn take_adoption(alloc: Global, bytes: &[u8]) -> Result<(Act, &[u8]), Refused>
+    ensures { Gives (λ x. (x.0, x.1.now)) result (spec.made act.Adopt (spec.adoption.read bytes.now)) }
 {
     let (fund, rest) = take_half(bytes)?;
     let (year, rest) = take_year(rest)?;
@@ -41,11 +42,11 @@ fn take_adoption(alloc: Global, bytes: &[u8]) -> Result<(Adoption, &[u8]), Refus
         lines,
         estimates,
     };
-    Ok((adoption, rest))
+    Ok((Act::Adopt(adoption), rest))
 }
 
-fn take_amendment(bytes: &[u8]) -> Result<(Amendment, &[u8]), Refused>
-    ensures { Gives (λ x. (x.0, x.1.now)) result (spec.amendment.read bytes.now) }
+fn take_amendment(bytes: &[u8]) -> Result<(Act, &[u8]), Refused>
+    ensures { Gives (λ x. (x.0, x.1.now)) result (spec.made act.Amend (spec.amendment.read bytes.now)) }
 {
     let (fund, rest) = take_half(bytes)?;
     let (year, rest) = take_year(rest)?;
@@ -57,7 +58,7 @@ fn take_amendment(bytes: &[u8]) -> Result<(Amendment, &[u8]), Refused>
         line,
         by,
     };
-    Ok((amendment, rest))
+    Ok((Act::Amend(amendment), rest))
 }
 
 /// A number of two bytes other than this one.
@@ -68,8 +69,8 @@ fn take_other_than(number: u16, bytes: &[u8]) -> Result<(u16, &[u8]), Refused>
     or_faulty((number != n).then_some(n), rest, bytes)
 }
 
-fn take_transfer(bytes: &[u8]) -> Result<(LineTransfer, &[u8]), Refused>
-    ensures { Gives (λ x. (x.0, x.1.now)) result (spec.transfer.read bytes.now) }
+fn take_transfer(bytes: &[u8]) -> Result<(Act, &[u8]), Refused>
+    ensures { Gives (λ x. (x.0, x.1.now)) result (spec.made act.Transfer (spec.transfer.read bytes.now)) }
 {
     let (fund, rest) = take_half(bytes)?;
     let (year, rest) = take_year(rest)?;
@@ -83,14 +84,21 @@ fn take_transfer(bytes: &[u8]) -> Result<(LineTransfer, &[u8]), Refused>
         to,
         amount,
     };
-    Ok((transfer, rest))
+    Ok((Act::Transfer(transfer), rest))
 }
 
-fn take_new_requisition(alloc: Global, bytes: &[u8]) -> Result<(NewRequisition, &[u8]), Refused>
-    ensures { Gives (λ x. (x.0, x.1.now)) result (spec.new_requisition.read bytes.now) }
+fn take_new_requisition(alloc: Global, bytes: &[u8]) -> Result<(Act, &[u8]), Refused>
+    ensures { Gives (λ x. (x.0, x.1.now)) result (spec.made act.Requisition (spec.new_requisition.read bytes.now)) }
 {
     let (items, rest) = take_list::<AccountElement>(alloc, 1, 32, bytes)?;
-    Ok((NewRequisition { items }, rest))
+    Ok((Act::Requisition(NewRequisition { items }), rest))
+}
+
+fn take_withdrawal(bytes: &[u8]) -> Result<(Act, &[u8]), Refused>
+    ensures { Gives (λ x. (x.0, x.1.now)) result (spec.made act.Withdraw (word.read bytes.now)) }
+{
+    let (requisition, rest) = take_word(bytes)?;
+    Ok((Act::Withdraw(requisition), rest))
 }
 
 fn take_optional(bytes: &[u8]) -> Result<(Option<u32>, &[u8]), Refused>
@@ -104,8 +112,8 @@ fn take_optional(bytes: &[u8]) -> Result<(Option<u32>, &[u8]), Refused>
     Ok((Some(number), rest))
 }
 
-fn take_new_order(alloc: Global, bytes: &[u8]) -> Result<(NewOrder, &[u8]), Refused>
-    ensures { Gives (λ x. (x.0, x.1.now)) result (spec.new_order.read bytes.now) }
+fn take_new_order(alloc: Global, bytes: &[u8]) -> Result<(Act, &[u8]), Refused>
+    ensures { Gives (λ x. (x.0, x.1.now)) result (spec.made act.Order (spec.new_order.read bytes.now)) }
 {
     let (vendor, rest) = take_word(bytes)?;
     let (requisition, rest) = take_optional(rest)?;
@@ -115,11 +123,11 @@ fn take_new_order(alloc: Global, bytes: &[u8]) -> Result<(NewOrder, &[u8]), Refu
         requisition,
         items,
     };
-    Ok((new_order, rest))
+    Ok((Act::Order(new_order), rest))
 }
 
-fn take_order_change(bytes: &[u8]) -> Result<(OrderChange, &[u8]), Refused>
-    ensures { Gives (λ x. (x.0, x.1.now)) result (spec.order_change.read bytes.now) }
+fn take_order_change(bytes: &[u8]) -> Result<(Act, &[u8]), Refused>
+    ensures { Gives (λ x. (x.0, x.1.now)) result (spec.made act.ChangeOrder (spec.order_change.read bytes.now)) }
 {
     let (order, rest) = take_word(bytes)?;
     let at_item = rest;
@@ -137,11 +145,18 @@ fn take_order_change(bytes: &[u8]) -> Result<(OrderChange, &[u8]), Refused>
         object,
         by,
     };
-    Ok((change, rest))
+    Ok((Act::ChangeOrder(change), rest))
 }
 
-fn take_new_voucher(alloc: Global, bytes: &[u8]) -> Result<(NewVoucher, &[u8]), Refused>
-    ensures { Gives (λ x. (x.0, x.1.now)) result (spec.new_voucher.read bytes.now) }
+fn take_cancellation(bytes: &[u8]) -> Result<(Act, &[u8]), Refused>
+    ensures { Gives (λ x. (x.0, x.1.now)) result (spec.made act.CancelOrder (word.read bytes.now)) }
+{
+    let (order, rest) = take_word(bytes)?;
+    Ok((Act::CancelOrder(order), rest))
+}
+
+fn take_new_voucher(alloc: Global, bytes: &[u8]) -> Result<(Act, &[u8]), Refused>
+    ensures { Gives (λ x. (x.0, x.1.now)) result (spec.made act.Voucher (spec.new_voucher.read bytes.now)) }
 {
     let (vendor, rest) = take_word(bytes)?;
     let (back, rest) = take_flag(rest)?;
@@ -151,18 +166,25 @@ fn take_new_voucher(alloc: Global, bytes: &[u8]) -> Result<(NewVoucher, &[u8]), 
         back,
         items,
     };
-    Ok((new_voucher, rest))
+    Ok((Act::Voucher(new_voucher), rest))
 }
 
-fn take_payment(alloc: Global, bytes: &[u8]) -> Result<(Payment, &[u8]), Refused>
-    ensures { Gives (λ x. (x.0, x.1.now)) result (spec.payment.read bytes.now) }
+fn take_voiding(bytes: &[u8]) -> Result<(Act, &[u8]), Refused>
+    ensures { Gives (λ x. (x.0, x.1.now)) result (spec.made act.VoidVoucher (word.read bytes.now)) }
+{
+    let (voucher, rest) = take_word(bytes)?;
+    Ok((Act::VoidVoucher(voucher), rest))
+}
+
+fn take_payment(alloc: Global, bytes: &[u8]) -> Result<(Act, &[u8]), Refused>
+    ensures { Gives (λ x. (x.0, x.1.now)) result (spec.made act.Pay (spec.payment.read bytes.now)) }
 {
     let (vouchers, rest) = take_distinct::<VoucherNumber>(alloc, 1, 64, bytes)?;
-    Ok((Payment { vouchers }, rest))
+    Ok((Act::Pay(Payment { vouchers }), rest))
 }
 
-fn take_new_bill(bytes: &[u8]) -> Result<(NewBill, &[u8]), Refused>
-    ensures { Gives (λ x. (x.0, x.1.now)) result (spec.new_bill.read bytes.now) }
+fn take_new_bill(bytes: &[u8]) -> Result<(Act, &[u8]), Refused>
+    ensures { Gives (λ x. (x.0, x.1.now)) result (spec.made act.Bill (spec.new_bill.read bytes.now)) }
 {
     let (source, rest) = take_half(bytes)?;
     let (levy_year, rest) = take_year(rest)?;
@@ -174,7 +196,7 @@ fn take_new_bill(bytes: &[u8]) -> Result<(NewBill, &[u8]), Refused>
         payer,
         amount,
     };
-    Ok((new_bill, rest))
+    Ok((Act::Bill(new_bill), rest))
 }
 
 fn take_bill_amount(bytes: &[u8]) -> Result<(BillAmount, &[u8]), Refused>
@@ -183,6 +205,27 @@ fn take_bill_amount(bytes: &[u8]) -> Result<(BillAmount, &[u8]), Refused>
     let (bill, rest) = take_word(bytes)?;
     let (amount, rest) = take_amount(rest)?;
     Ok((BillAmount { bill, amount }, rest))
+}
+
+fn take_collection(bytes: &[u8]) -> Result<(Act, &[u8]), Refused>
+    ensures { Gives (λ x. (x.0, x.1.now)) result (spec.made act.Collect (spec.bill_amount.read bytes.now)) }
+{
+    let (amount, rest) = take_bill_amount(bytes)?;
+    Ok((Act::Collect(amount), rest))
+}
+
+fn take_receipt(bytes: &[u8]) -> Result<(Act, &[u8]), Refused>
+    ensures { Gives (λ x. (x.0, x.1.now)) result (spec.made act.Receive (spec.source_amount.read bytes.now)) }
+{
+    let (receipt, rest) = SourceElement::take(bytes)?;
+    Ok((Act::Receive(receipt), rest))
+}
+
+fn take_write_off(bytes: &[u8]) -> Result<(Act, &[u8]), Refused>
+    ensures { Gives (λ x. (x.0, x.1.now)) result (spec.made act.WriteOff (spec.bill_amount.read bytes.now)) }
+{
+    let (amount, rest) = take_bill_amount(bytes)?;
+    Ok((Act::WriteOff(amount), rest))
 }
 
 fn take_donation(bytes: &[u8]) -> Result<(Donation, &[u8]), Refused>
@@ -213,16 +256,16 @@ fn take_disposal(bytes: &[u8]) -> Result<(Disposal, &[u8]), Refused>
     Ok((disposal, rest))
 }
 
-fn take_asset_act(bytes: &[u8]) -> Result<(AssetAct, &[u8]), Refused>
-    ensures { Gives (λ x. (x.0, x.1.now)) result (spec.asset_act.read bytes.now) }
+fn take_asset_act(bytes: &[u8]) -> Result<(Act, &[u8]), Refused>
+    ensures { Gives (λ x. (x.0, x.1.now)) result (spec.made act.Asset (spec.asset_act.read bytes.now)) }
 {
     let (is_disposal, rest) = take_flag(bytes)?;
     if is_disposal {
         let (disposal, rest) = take_disposal(rest)?;
-        Ok((AssetAct::Dispose(disposal), rest))
+        Ok((Act::Asset(AssetAct::Dispose(disposal)), rest))
     } else {
         let (donation, rest) = take_donation(rest)?;
-        Ok((AssetAct::Donate(donation), rest))
+        Ok((Act::Asset(AssetAct::Donate(donation)), rest))
     }
 }
 
@@ -284,8 +327,8 @@ fn take_every(bytes: &[u8]) -> Result<(u16, &[u8]), Refused>
     or_faulty(is_payment_period(n).then_some(u16::from(n)), rest, bytes)
 }
 
-fn take_issue(alloc: Global, on: Day, bytes: &[u8]) -> Result<(BondIssue, &[u8]), Refused>
-    ensures { Gives (λ x. (x.0, x.1.now)) result ((spec.issue on).read bytes.now) }
+fn take_issue(alloc: Global, on: Day, bytes: &[u8]) -> Result<(Act, &[u8]), Refused>
+    ensures { Gives (λ x. (x.0, x.1.now)) result (spec.made act.Issue ((spec.issue on).read bytes.now)) }
 {
     let (fund, rest) = take_half(bytes)?;
     let (amount, rest) = take_amount(rest)?;
@@ -301,11 +344,11 @@ fn take_issue(alloc: Global, on: Day, bytes: &[u8]) -> Result<(BondIssue, &[u8])
         every,
         principals,
     };
-    Ok((issue, rest))
+    Ok((Act::Issue(issue), rest))
 }
 
-fn take_debt_payment(bytes: &[u8]) -> Result<(DebtPayment, &[u8]), Refused>
-    ensures { Gives (λ x. (x.0, x.1.now)) result (spec.debt_payment.read bytes.now) }
+fn take_debt_payment(bytes: &[u8]) -> Result<(Act, &[u8]), Refused>
+    ensures { Gives (λ x. (x.0, x.1.now)) result (spec.made act.PayDue (spec.debt_payment.read bytes.now)) }
 {
     let (bond, rest) = take_word(bytes)?;
     let (fund, rest) = take_half(rest)?;
@@ -319,7 +362,7 @@ fn take_debt_payment(bytes: &[u8]) -> Result<(DebtPayment, &[u8]), Refused>
         principal,
         interest,
     };
-    Ok((payment, rest))
+    Ok((Act::PayDue(payment), rest))
 }
 
 fn take_leave_amount(bytes: &[u8]) -> Result<(LeaveAmount, &[u8]), Refused>
@@ -348,28 +391,28 @@ fn take_maturity(bytes: &[u8]) -> Result<(LeaveMaturity, &[u8]), Refused>
     Ok((maturity, rest))
 }
 
-fn take_leave_act(bytes: &[u8]) -> Result<(LeaveAct, &[u8]), Refused>
-    ensures { Gives (λ x. (x.0, x.1.now)) result (spec.leave_act.read bytes.now) }
+fn take_leave_act(bytes: &[u8]) -> Result<(Act, &[u8]), Refused>
+    ensures { Gives (λ x. (x.0, x.1.now)) result (spec.made act.Leave (spec.leave_act.read bytes.now)) }
 {
     let (what, rest) = take_one_of(3, bytes)?;
     match what {
         0 => {
             let (leave, rest) = take_leave_amount(rest)?;
-            Ok((LeaveAct::Earn(leave), rest))
+            Ok((Act::Leave(LeaveAct::Earn(leave)), rest))
         }
         1 => {
             let (leave, rest) = take_leave_amount(rest)?;
-            Ok((LeaveAct::Use(leave), rest))
+            Ok((Act::Leave(LeaveAct::Use(leave)), rest))
         }
         _ => {
             let (maturity, rest) = take_maturity(rest)?;
-            Ok((LeaveAct::Mature(maturity), rest))
+            Ok((Act::Leave(LeaveAct::Mature(maturity)), rest))
         }
     }
 }
 
-fn take_fund_move(bytes: &[u8]) -> Result<(FundMove, &[u8]), Refused>
-    ensures { Gives (λ x. (x.0, x.1.now)) result (spec.fund_move.read bytes.now) }
+fn take_fund_move(bytes: &[u8]) -> Result<(Act, &[u8]), Refused>
+    ensures { Gives (λ x. (x.0, x.1.now)) result (spec.made act.Interfund (spec.fund_move.read bytes.now)) }
 {
     let (what, rest) = take_move_kind(bytes)?;
     let (from, rest) = take_half(rest)?;
@@ -381,19 +424,19 @@ fn take_fund_move(bytes: &[u8]) -> Result<(FundMove, &[u8]), Refused>
         to,
         amount,
     };
-    Ok((fund_move, rest))
+    Ok((Act::Interfund(fund_move), rest))
 }
 
-fn take_period(bytes: &[u8]) -> Result<(Period, &[u8]), Refused>
-    ensures { Gives (λ x. (x.0, x.1.now)) result (spec.closed_period.read bytes.now) }
+fn take_period(bytes: &[u8]) -> Result<(Act, &[u8]), Refused>
+    ensures { Gives (λ x. (x.0, x.1.now)) result (spec.made act.Close (spec.closed_period.read bytes.now)) }
 {
     let (is_year, rest) = take_flag(bytes)?;
     if is_year {
         let (year, rest) = take_year(rest)?;
-        Ok((Period::Year(year), rest))
+        Ok((Act::Close(Period::Year(year)), rest))
     } else {
         let (month, rest) = take_month(rest)?;
-        Ok((Period::Month(month), rest))
+        Ok((Act::Close(Period::Month(month)), rest))
     }
 }
 
@@ -408,32 +451,26 @@ pub fn take_act(
     ensures { Gives (λ x. (x.0, x.1.now)) result (spec.act_at kind on bytes.now) }
 {
     match kind {
-        ActKind::Adopt => take_adoption(alloc, bytes).map(|(a, rest)| (Act::Adopt(a), rest)),
-        ActKind::Amend => take_amendment(bytes).map(|(a, rest)| (Act::Amend(a), rest)),
-        ActKind::Transfer => take_transfer(bytes).map(|(t, rest)| (Act::Transfer(t), rest)),
-        ActKind::Requisition => take_new_requisition(alloc, bytes).map(|(r, rest)| (
-            Act::Requisition(r),
-            rest,
-        )),
-        ActKind::Withdraw => take_word(bytes).map(|(n, rest)| (Act::Withdraw(n), rest)),
-        ActKind::Order => take_new_order(alloc, bytes).map(|(p, rest)| (Act::Order(p), rest)),
-        ActKind::ChangeOrder => take_order_change(bytes).map(|(c, rest)| (
-            Act::ChangeOrder(c),
-            rest,
-        )),
-        ActKind::CancelOrder => take_word(bytes).map(|(n, rest)| (Act::CancelOrder(n), rest)),
-        ActKind::Voucher => take_new_voucher(alloc, bytes).map(|(i, rest)| (Act::Voucher(i), rest)),
-        ActKind::VoidVoucher => take_word(bytes).map(|(n, rest)| (Act::VoidVoucher(n), rest)),
-        ActKind::Pay => take_payment(alloc, bytes).map(|(p, rest)| (Act::Pay(p), rest)),
-        ActKind::Bill => take_new_bill(bytes).map(|(l, rest)| (Act::Bill(l), rest)),
-        ActKind::Collect => take_bill_amount(bytes).map(|(a, rest)| (Act::Collect(a), rest)),
-        ActKind::Receive => SourceElement::take(bytes).map(|(r, rest)| (Act::Receive(r), rest)),
-        ActKind::WriteOff => take_bill_amount(bytes).map(|(a, rest)| (Act::WriteOff(a), rest)),
-        ActKind::Asset => take_asset_act(bytes).map(|(a, rest)| (Act::Asset(a), rest)),
-        ActKind::Issue => take_issue(alloc, on, bytes).map(|(i, rest)| (Act::Issue(i), rest)),
-        ActKind::PayDue => take_debt_payment(bytes).map(|(p, rest)| (Act::PayDue(p), rest)),
-        ActKind::Leave => take_leave_act(bytes).map(|(l, rest)| (Act::Leave(l), rest)),
-        ActKind::Interfund => take_fund_move(bytes).map(|(m, rest)| (Act::Interfund(m), rest)),
-        ActKind::Close => take_period(bytes).map(|(p, rest)| (Act::Close(p), rest)),
+        ActKind::Adopt => take_adoption(alloc, bytes),
+        ActKind::Amend => take_amendment(bytes),
+        ActKind::Transfer => take_transfer(bytes),
+        ActKind::Requisition => take_new_requisition(alloc, bytes),
+        ActKind::Withdraw => take_withdrawal(bytes),
+        ActKind::Order => take_new_order(alloc, bytes),
+        ActKind::ChangeOrder => take_order_change(bytes),
+        ActKind::CancelOrder => take_cancellation(bytes),
+        ActKind::Voucher => take_new_voucher(alloc, bytes),
+        ActKind::VoidVoucher => take_voiding(bytes),
+        ActKind::Pay => take_payment(alloc, bytes),
+        ActKind::Bill => take_new_bill(bytes),
+        ActKind::Collect => take_collection(bytes),
+        ActKind::Receive => take_receipt(bytes),
+        ActKind::WriteOff => take_write_off(bytes),
+        ActKind::Asset => take_asset_act(bytes),
+        ActKind::Issue => take_issue(alloc, on, bytes),
+        ActKind::PayDue => take_debt_payment(bytes),
+        ActKind::Leave => take_leave_act(bytes),
+        ActKind::Interfund => take_fund_move(bytes),
+        ActKind::Close => take_period(bytes),
     }
 }
