@@ -1,6 +1,7 @@
 //! Journals in memory, and the desk that keeps one before a hall is opened.
 
 use crate::halls::caller::Caller;
+use crate::stage::disk_with;
 use cf_book::{Book, open};
 use cf_chart::Chart;
 use cf_disk::MemDisk;
@@ -45,5 +46,13 @@ pub fn after_desk(alloc: Global, disk: MemDisk, desk: &mut Caller) -> Option<Mem
             Some(book.close())
         }
         None => None,
+    }
+}
+
+/// A disk that holds the same bytes, whose call of this number fails; with 0 none does.
+pub fn failing(alloc: Global, disk: &MemDisk, call: u64) -> Option<MemDisk> {
+    match disk_with(alloc, disk.bytes(), &[call], 0) {
+        Ok(failing) => Some(failing),
+        Err(_) => None,
     }
 }

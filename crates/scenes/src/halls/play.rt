@@ -30,6 +30,15 @@ fn accepted(alloc: Global, played: &Played) -> Result<Vec<u64>, AllocError> {
     Ok(counts)
 }
 
+/// How many calls of each caller were answered by a fault of the disk.
+fn faults(alloc: Global, played: &Played) -> Result<Vec<u64>, AllocError> {
+    let mut counts = Vec::new(alloc);
+    for receipts in &played.receipts {
+        counts.push(receipts.faults())?;
+    }
+    Ok(counts)
+}
+
 /// The sum of counts.
 fn total(counts: &[u64]) -> u64 {
     let mut total = 0u64;
@@ -72,7 +81,12 @@ fn show_gates(rt: &impl Print, stage: &Stage) -> io::Result<()> {
 fn show_played(rt: &impl Print, alloc: Global, played: &Played) -> io::Result<()> {
     let counts = accepted(alloc, played)?;
     let accepted = numbers(alloc, counts.as_slice())?;
-    println!(rt; "= {} entries, accepted{accepted}", played.entries)
+    let counts = faults(alloc, played)?;
+    let faults = numbers(alloc, counts.as_slice())?;
+    println!(rt;
+        "= {} entries, accepted{accepted}, faults{faults}",
+        played.entries
+    )
 }
 
 /// Prints what each caller was answered, and what playing left.
@@ -211,6 +225,7 @@ pub fn play<R: Files + Print + AllocGlobal + Threads + Wait + Clock + Sync>(
         Word::Caller => stage.add_caller()?,
         Word::Wait(begin) => stage.begin = begin,
         Word::Hold(hold) => stage.hold = hold,
+        Word::Fail(call) => stage.fail = call,
         _ => play_hall(rt, stage, word)?,
     }
     Ok(())

@@ -3,7 +3,7 @@
 use crate::halls::board::{Begin, Board, Hold};
 use crate::halls::caller::{Caller, Step};
 use crate::halls::hall::{Played, Table, nanoseconds, play_table};
-use crate::halls::journal::{after_desk, book_of, founded};
+use crate::halls::journal::{after_desk, book_of, failing, founded};
 use cf_book::Book;
 use cf_disk::MemDisk;
 use cf_hall::Opening;
@@ -23,6 +23,8 @@ pub struct Stage {
     /// What was told of the next call.
     pub begin: Begin,
     pub hold: Hold,
+    /// The call of the next hall's disk that fails, or 0.
+    pub fail: u64,
 }
 
 fn empty_table(alloc: Global) -> Table {
@@ -42,6 +44,7 @@ impl Stage {
             table: empty_table(alloc),
             begin: Begin::AtOnce,
             hold: Hold::No,
+            fail: 0,
         }
     }
 
@@ -75,6 +78,7 @@ impl Stage {
     pub fn clear(&mut self) {
         self.desk = Caller::new(self.alloc);
         self.table = empty_table(self.alloc);
+        self.fail = 0;
     }
 
     /// Forgets what callers were answered and told each other.
@@ -86,11 +90,12 @@ impl Stage {
         }
     }
 
-    /// A new journal, after the calls of its desk.
+    /// A new journal, after the calls of its desk, on a disk that fails as it was told.
     fn journal(&mut self) -> Option<MemDisk> {
         self.forget();
         let disk = founded(self.alloc, self.chart.as_str())?;
-        after_desk(self.alloc, disk, &mut self.desk)
+        let left = after_desk(self.alloc, disk, &mut self.desk)?;
+        failing(self.alloc, &left, self.fail)
     }
 
     /// Plays all callers in a hall over a new journal.
