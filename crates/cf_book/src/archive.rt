@@ -5,6 +5,7 @@ ghost use Rattle.cf_articulation.specs.Articulates.{AllArticulate};
 ghost use Rattle.cf_budget.specs.Tables.{has_line, SameRows, SameStripes};
 ghost use Rattle.cf_calls.specs.Form.{IsCallInForm, IsChangeInForm};
 ghost use Rattle.cf_calls.specs.declared.call.Call.TheVariants as calls;
+ghost use Rattle.cf_calls.specs.declared.reply.Posted.TheVariants as posted;
 ghost use Rattle.cf_calls.specs.declared.reply.Verdict.TheVariants.{Accept};
 ghost use Rattle.cf_chart.specs.Reading.{chart_of};
 ghost use Rattle.cf_closed.specs.ClosedYears.{ClosedYearsStay};
@@ -128,7 +129,8 @@ impl<D: Disk + Drop> Archive<D> {
 
     /// What is given for a call: the step's reply, with the step's next history; or want of memory or a fault of the
     /// disk, which leave the history. The entry of an accepted change stands on the disk when its reply is given, and its
-    /// changes of line numbers are owed to the tables, which have room for them. Only such a change touches the disk.
+    /// changes of line numbers are owed to the tables, which have room for them. Only such a change touches the disk, and not
+    /// where memory was wanting.
     pub fn settle(&mut self, alloc: Global, lines: &mut Lines, call: &Call) -> Settled
         requires form { IsCallInForm call.now }
         requires tables { AreTablesOf self.old.plan self.old.entries lines.old }
@@ -139,6 +141,7 @@ impl<D: Disk + Drop> Archive<D> {
         ensures rows { SameRows lines.old lines.new }
         ensures stripes { SameStripes lines.old lines.new }
         ensures disk { accepts self.old.plan self.old.entries call.now ≡ false → self.new.disk ≡ self.old.disk }
+        ensures memory { given result ≡ posted.NoMemory → self.new.disk ≡ self.old.disk }
 
         // What a crash leaves at any moment of the call.
         ensures any_moment { IsTrue D.tells → AtEachMoment D.moment D.was_image self.old.disk self.new.disk
@@ -163,6 +166,7 @@ impl<D: Disk + Drop> Archive<D> {
         ensures rows { SameRows lines.old lines.new }
         ensures stripes { SameStripes lines.old lines.new }
         ensures disk { accepts self.old.plan self.old.entries (calls.Change change.now) ≡ false → self.new.disk ≡ self.old.disk }
+        ensures memory { given result ≡ posted.NoMemory → self.new.disk ≡ self.old.disk }
         ensures any_moment { IsTrue D.tells → AtEachMoment D.moment D.was_image self.old.disk self.new.disk
             (RecoversNear self.old.plan self.old.entries (IsInHand (state_of D.faults self.old) (calls.Change change.now))) }
     {
@@ -185,6 +189,7 @@ impl<D: Disk + Drop> Archive<D> {
         ensures plan { self.new.plan ≡ self.old.plan }
         ensures rows { SameRows lines.old lines.new }
         ensures stripes { SameStripes lines.old lines.new }
+        ensures memory { given result ≡ posted.NoMemory → self.new.disk ≡ self.old.disk }
         ensures any_moment { IsTrue D.tells → AtEachMoment D.moment D.was_image self.old.disk self.new.disk
             (RecoversNear self.old.plan self.old.entries (IsInHand (state_of D.faults self.old) (calls.Change change.now))) }
     {
