@@ -1,5 +1,5 @@
 -- Some bytes more of a source.
-use Rattle.std.proofs.Common.{◌≡◌, ℕ, List, Option, sym, subst}
+use Rattle.std.proofs.Common.{◌≡◌, ℕ, List, Option, Result, Err, ap, sym, subst}
 use Rattle.std.specs.Io.KnownBytes.{Consumes}
 use Rattle.std.proofs.KnownBytes.{Consumes-trans}
 use Rattle.cf_books.specs.Sources.{IsRead, Takes}
@@ -9,3 +9,7 @@ took_more first left left' old new count took t = subst (Consumes first left') (
 
 pub at_end : (first left left' : Option (List ℕ)) (old new : List ℕ) (count : ℕ) → Consumes first left old → Takes left left' old new count → count ≡ 0 → IsRead first left' new
 at_end first left left' old new count took t none = record { took = took_more first left left' old new count took t; whole = t.end none }
+
+-- an error is the same whatever value would stand in its place
+pub same_error : {A B E : Type 0} (x y : E) → (let r : Result A E = Err x in r) ≡ Err y → (let r : Result B E = Err x in r) ≡ Err y
+same_error x y e = let inside : x ≡ y = cc in ap Err inside

@@ -122,9 +122,9 @@ pub record GaveFront (command : Command) (left : Option (List ℕ)) (held held' 
   pub rest : List ℕ
   pub put : Wrote held held' (said command bytes).out rest
 
--- nothing is said of the output where the file can't be read or there is no memory
+-- the output got nothing where the file can't be read or there is no memory
 abbrev pub Ends : Command → Option (List ℕ) → Option (List ℕ) → Option (List ℕ) → Status → Type 0
-Ends command left held held' status.ReadFault = ⊤
-Ends command left held held' status.NoMemory = ⊤
+Ends command left held held' status.ReadFault = Appends held held' []
+Ends command left held held' status.NoMemory = Appends held held' []
 Ends command left held held' status.WriteFault = GaveFront command left held held'
 Ends command left held held' s = Gave command left held held' s

@@ -1,5 +1,7 @@
 //! A run: the file's bytes, the answer, and what is said on standard error.
 
+ghost use Rattle.std.specs.Prelude.{◌≡◌, ◌≢◌};
+ghost use Rattle.cf_base.specs.Causes.{Rose};
 ghost use Rattle.cf_books.specs.Answers.{Ends};
 
 use crate::answers::answer_of;
@@ -20,7 +22,11 @@ pub fn run<S: Source, K: Sink>(
     source: &mut S,
     out: &mut K,
 ) -> Status
-    ensures { Ends command (S.left source.old) (K.held out.old) (K.held out.new) result }
+    ensures ends { Ends command (S.left source.old) (K.held out.old) (K.held out.new) result }
+    ensures read { result ≡ Status.ReadFault → Rose (S.faults source.old) (S.faults source.new) }
+    ensures write { result ≡ Status.WriteFault → Rose (K.faults out.old) (K.faults out.new) }
+    ensures input_quiet { result ≢ Status.ReadFault → S.faults source.new ≡ S.faults source.old }
+    ensures out_quiet { result ≢ Status.WriteFault → K.faults out.new ≡ K.faults out.old }
 {
     let bytes = match read_all(alloc, source) {
         Ok(bytes) => bytes,

@@ -1,6 +1,7 @@
 //! Reads a file's bytes to their end.
 
-ghost use Rattle.std.specs.Prelude.{◌<◌, length, IfOk};
+ghost use Rattle.std.specs.Prelude.{◌≡◌, ◌<◌, length, Err, IfOk, OnOk};
+ghost use Rattle.cf_base.specs.Causes.{Rose};
 ghost use Rattle.cf_books.specs.Sources.{IsRead, Takes};
 
 use cf_base::Source;
@@ -25,6 +26,9 @@ fn take_some<S: Source>(
 ) -> Result<usize, Unread>
     requires { 0 < length chunk.old }
     ensures ok { IfOk result (λ n. Takes (S.left source.old) (S.left source.new) bytes.old.items bytes.new.items n) }
+    ensures fault { result ≡ Err Unread.Fault → Rose (S.faults source.old) (S.faults source.new) }
+    ensures memory { result ≡ Err Unread.NoMemory → S.faults source.new ≡ S.faults source.old }
+    ensures quiet { OnOk result (S.faults source.new ≡ S.faults source.old) }
 {
     match source.read(chunk) {
         Ok(count) => match bytes.extend_from_slice(&chunk[..count]) {
@@ -37,7 +41,10 @@ fn take_some<S: Source>(
 
 /// All bytes that the source has left.
 pub fn read_all<S: Source>(alloc: Global, source: &mut S) -> Result<Vec<u8>, Unread>
-    ensures { IfOk result (λ v. IsRead (S.left source.old) (S.left source.new) v.items) }
+    ensures ok { IfOk result (λ v. IsRead (S.left source.old) (S.left source.new) v.items) }
+    ensures fault { result ≡ Err Unread.Fault → Rose (S.faults source.old) (S.faults source.new) }
+    ensures memory { result ≡ Err Unread.NoMemory → S.faults source.new ≡ S.faults source.old }
+    ensures quiet { OnOk result (S.faults source.new ≡ S.faults source.old) }
 {
     let Ok(mut chunk) = vec![in alloc; 0u8; CHUNK] else {
         return Err(Unread::NoMemory);

@@ -2,11 +2,11 @@ use Rattle.std.proofs.Common.{◌≡◌, ◌∙◌, List, ℕ, ap, sym, subst}
 use Rattle.std.specs.Io.KnownBytes.{Appends}
 use Rattle.cf_desk.specs.Sinks.{Wrote}
 use Rattle.cf_books.specs.Answers.{AreLeft, said}
-use Rattle.cf_books.proofs.Ends.{are_left, gave_ends}
+use Rattle.cf_books.proofs.Ends.{IsNoFault, are_left, gave_ends, no_fault}
 use Rattle.cf_books.proofs.running.run.Goals as goal
 
-pub returns-in-Ok-write_all : goal.returns-in-Ok-write_all
-returns-in-Ok-write_all g c =
+pub returns-in-Ok-write_all-clause-ends : goal.returns-in-Ok-write_all-clause-ends
+returns-in-Ok-write_all-clause-ends g c =
     let left = g.S.Source.left c.args.source.now in
     let held = g.K.Sink.held c.args.out.now in
     let held' = g.K.Sink.held c.write_all.new.sink in
@@ -16,13 +16,13 @@ returns-in-Ok-write_all g c =
     gave_ends c.args.command left held held' c.in-Ok-answer_of.answer.status
     (record {
       bytes = bytes;
-      all = subst (AreLeft left) (sym c.as_slice.ensures.value) (are_left left _ _ c.in-Ok.ensures);
+      all = subst (AreLeft left) (sym c.as_slice.ensures.value) (are_left left _ _ c.in-Ok.ensures.ok);
       is = ap (λ x. x.status) answer;
       put = subst (λ (t : List ℕ). Appends held held' t) (sym out) c.in-Ok-write_all.ensures.ok;
     })
 
-pub returns : goal.returns
-returns g c =
+pub returns-clause-ends : goal.returns-clause-ends
+returns-clause-ends g c =
     let left = g.S.Source.left c.args.source.now in
     let held = g.K.Sink.held c.args.out.now in
     let held' = g.K.Sink.held c.write_all.new.sink in
@@ -32,7 +32,15 @@ returns g c =
     let front = c.in-Err.ensures.err in
     record {
       bytes = bytes;
-      all = subst (AreLeft left) (sym c.as_slice.ensures.value) (are_left left _ _ c.in-Ok.ensures);
+      all = subst (AreLeft left) (sym c.as_slice.ensures.value) (are_left left _ _ c.in-Ok.ensures.ok);
       rest = front.0;
       put = subst (λ (t : List ℕ). Wrote held held' t front.0) (sym out) front.1;
     }
+
+pub returns-in-Ok-write_all-clause-read : goal.returns-in-Ok-write_all-clause-read
+returns-in-Ok-write_all-clause-read g c = λ e.
+    absurd (subst IsNoFault (ap (λ x. x.status) c.in-Ok-answer_of.ensures ∙ e) (no_fault c.args.command c.as_slice.result.now))
+
+pub returns-in-Ok-write_all-clause-write : goal.returns-in-Ok-write_all-clause-write
+returns-in-Ok-write_all-clause-write g c = λ e.
+    absurd (subst IsNoFault (ap (λ x. x.status) c.in-Ok-answer_of.ensures ∙ e) (no_fault c.args.command c.as_slice.result.now))
