@@ -2,10 +2,13 @@
 import atexit
 import collections
 import contextlib
+import fcntl
 import json
+import os
 import random
 import socket
 import subprocess
+import tempfile
 import time
 
 PATIENCE = 30  # seconds that an answer, a start or an end is waited for
@@ -13,8 +16,13 @@ PATIENCE = 30  # seconds that an answer, a start or an end is waited for
 Answer = collections.namedtuple("Answer", "code fields body")
 
 
+# Two programs that pick ports at the same time could pick the same ones: the second waits until the first has ended.
+TURN = open(os.path.join(tempfile.gettempdir(), f"cityfund-ports-{os.getuid()}"), "w")
+
+
 def free_ports(count):
     """The first of so many ports in a row at which nobody listens."""
+    fcntl.flock(TURN, fcntl.LOCK_EX)
     while True:
         first = random.randrange(12000, 30000)  # below those that the system gives to callers
         with contextlib.ExitStack() as held, contextlib.suppress(OSError):
