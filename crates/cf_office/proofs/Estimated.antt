@@ -1,5 +1,5 @@
 -- The estimate of a revenue source stands in the one adoption of its fund's budget.
-use Rattle.std.proofs.Common.{◌≡◌, ℕ, suc, ◌+◌, ◌-◌, ◌≤◌, Bool, true, false, not, if◌then◌else◌, ◌==◌, ◌&&◌, List, [], ◌∷◌, ◌++◌, map, length, Option, Some, None, find, slice_get, sum_by, refl, sym, ap, subst, ◌∙◌, arith}
+use Rattle.std.proofs.Common.{◌≡◌, ℕ, suc, ◌+◌, ◌-◌, ◌≤◌, Bool, true, false, not, if◌then◌else◌, ◌==◌, ◌&&◌, List, [], ◌∷◌, ◌++◌, map, Option, Some, None, find, slice_get, refl, sym, ap, ◌∙◌, arith}
 use Rattle.std.proofs.lemmas.Grind.{common_steps}
 use Rattle.std.proofs.lemmas.List.Sums.{sum_by_push}
 use Rattle.cf_calls.specs.declared.acts.Act.{Act}
@@ -13,8 +13,8 @@ use Rattle.cf_chart.specs.declared.rows.RevenueSource.{RevenueSource}
 use Rattle.cf_chart.specs.Plan.{Plan, source_at}
 use Rattle.cf_model.specs.Documents.{Documents, documents_of}
 use Rattle.cf_model.specs.Estimates.{amount_if, estimate, estimate_for, estimated_by}
-use Rattle.cf_model.specs.Rules.{Name, adopted_at, adopted_refusal, first_refusal, fund_name, is_source_of, line_name, name_refusal, place_from, source_name, unknown}
-use Rattle.cf_model.specs.Step.{Adds, IsLegal, entry_at}
+use Rattle.cf_model.specs.Rules.{adopted_at, first_refusal, fund_name, is_source_of, line_name, name_refusal, place_from, source_name, unknown}
+use Rattle.cf_model.specs.Step.{Adds, IsLegal}
 use Rattle.cf_model.proofs.Accepted.{IsUnbroken, accepted}
 use Rattle.cf_model.proofs.First.{first_refusal-append, or_else_none, refuse_none}
 use Rattle.cf_model.proofs.Legal.{legal_induction}

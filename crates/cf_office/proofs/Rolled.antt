@@ -1,10 +1,9 @@
 -- The changes of a roll, line by line, make what the entry that rolls the year changes.
-use Rattle.std.proofs.Common.{◌≡◌, ◌≢◌, ◌⊎◌, inl, inr, ℕ, zero, suc, ◌+◌, ◌<◌, ◌≤◌, Bool, true, false, not, if◌then◌else◌, ◌==◌, ◌&&◌, ◌||◌, nat_lt, List, [], ◌∷◌, ◌++◌, length, Some, None, ℤ, pos, ◌+ℤ◌, ◌-ℤ◌, refl, sym, ap, subst, ◌∙◌, arith}
+use Rattle.std.proofs.Common.{◌≡◌, ◌⊎◌, inl, inr, ℕ, zero, suc, ◌+◌, ◌<◌, ◌≤◌, Bool, true, false, if◌then◌else◌, ◌==◌, ◌&&◌, nat_lt, List, [], ◌∷◌, ◌++◌, length, Some, pos, ◌+ℤ◌, ◌-ℤ◌, refl, sym, ap, subst, ◌∙◌, arith}
 use Rattle.std.specs.List.{filter, list_any, list_all, AllByRecursion}
 use Rattle.std.proofs.lemmas.Bool.{cases_lt}
 use Rattle.std.proofs.lemmas.Bool.Decides.{eqb_tells}
 use Rattle.std.proofs.lemmas.Grind.{common_steps}
-use Rattle.std.proofs.lemmas.Int.{ints}
 use Rattle.cf_base.specs.declared.calendar.Day.{Day}
 use Rattle.cf_calls.specs.declared.acts.Act.{Act}
 use Rattle.cf_calls.specs.declared.acts.Act.TheVariants.{Close}
@@ -18,9 +17,9 @@ use Rattle.cf_budget.specs.Changes.{change_at, changes_at, same_place}
 use Rattle.cf_budget.specs.Tables.{carry_row, row_plus, zero_row}
 use Rattle.cf_budget.proofs.Rows.{plus_zero, zero_plus, plus_regroup}
 use Rattle.cf_model.specs.Calendar.{is_year, rolled_year, rolls}
-use Rattle.cf_model.specs.Documents.{Documents, documents_of}
+use Rattle.cf_model.specs.Documents.{Documents}
 use Rattle.cf_model.specs.LineNumbers.{encumbered, encumbered_sum, held, held_sum}
-use Rattle.cf_model.specs.Moves.{Move, carried_by, lapses_of, line_carries, moved_sum, moves_of, release_move, roll_moves}
+use Rattle.cf_model.specs.Moves.{Move, carried_by, lapses_of, line_carries, moved_sum, release_move, roll_moves}
 use Rattle.cf_model.specs.Registers.{Registers, registers_of}
 use Rattle.cf_model.proofs.Moved.{first, last, moved_append, moved_none, none_both, rolls_none}
 use Rattle.cf_model.proofs.Pushes.{documents_are}

@@ -1,4 +1,4 @@
-use Rattle.std.proofs.Common.{◌≡◌, length}
+use Rattle.std.proofs.Common.{◌≡◌}
 use Rattle.cf_office.specs.Rolled.{changes_to}
 use Rattle.cf_office.proofs.rolls.roll_changes.Given as goal
 

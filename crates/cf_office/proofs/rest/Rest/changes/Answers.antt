@@ -1,4 +1,4 @@
-use Rattle.std.proofs.Common.{◌≡◌, ◌∙◌, ◌-◌, ◌-ℤ◌, ap}
+use Rattle.std.proofs.Common.{◌∙◌, ◌-◌, ◌-ℤ◌, ap}
 use Rattle.cf_ledger.specs.Posts.{total}
 use Rattle.cf_recon.specs.ChangeItems.{changes_between, changes_shown}
 use Rattle.cf_office.specs.RestState.{RestState}

@@ -1,4 +1,4 @@
-use Rattle.std.proofs.Common.{◌≡◌, ◌∙◌, ap}
+use Rattle.std.proofs.Common.{◌∙◌, ap}
 use Rattle.cf_ledger.specs.Posts.{total}
 use Rattle.cf_model.specs.ReconShown.{recon_between, recon_shown}
 use Rattle.cf_office.specs.RestState.{RestState}
