@@ -16,8 +16,7 @@ use Rattle.cf_calls.specs.Form.{is_by, is_distinct, is_charge_form, IsCount, IsV
 use Rattle.cf_json.specs.Items.{never, as_line_amount, as_source_amount, as_account_item, as_voucher_item, as_line_amounts, as_source_amounts, as_account_items, as_voucher_items, as_vouchers, as_principals}
 use Rattle.cf_members.specs.Lists.{each, as_list}
 use Rattle.cf_members.specs.Kinds.{as_by, as_count, as_n32}
-use Rattle.cf_members.specs.Objects.{count}
-use Rattle.cf_json.specs.Shown.{list_of}
+use Rattle.cf_members.specs.Objects.{count, list_of}
 use Rattle.cf_call_text.specs.Fits.{IsN32, IsN64, LineAmountFits, SourceAmountFits, AccountFits, ChargeFits, VoucherItemFits}
 use Rattle.cf_call_text.specs.Values.{signed, line_amount_data, source_amount_data, account_item_data, voucher_item_data}
 use Rattle.cf_call_text.proofs.Sorted.{sorted, items_sorted, can_read, items_can_read}

@@ -31,8 +31,7 @@ use Rattle.cf_calls.specs.declared.acts.Period.{Period}
 use Rattle.cf_calls.specs.declared.acts.Period.TheVariants as period
 use Rattle.cf_calls.specs.declared.items.SourceAmount.{SourceAmount}
 use Rattle.cf_calls.specs.declared.call.Change.{Change}
-use Rattle.cf_members.specs.Objects.{fields, count, day, month, text_of}
-use Rattle.cf_json.specs.Shown.{list_of}
+use Rattle.cf_members.specs.Objects.{fields, count, day, month, text_of, list_of}
 use Rattle.cf_call_text.specs.Values.{signed, line_amount_data, source_amount_data, account_item_data, voucher_item_data}
 
 -- ---- the fields of each call

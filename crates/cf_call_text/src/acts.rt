@@ -5,7 +5,7 @@ ghost use Rattle.std.specs.List.{All, list_all};
 ghost use Rattle.cf_calls.specs.declared.acts.Act.TheVariants as act;
 ghost use Rattle.cf_calls.specs.declared.acts.LeaveAct.TheVariants as leave;
 ghost use Rattle.cf_members.specs.Parts.{is_plain};
-ghost use Rattle.cf_json.specs.Shown.{list_of};
+ghost use Rattle.cf_members.specs.Objects.{list_of};
 ghost use Rattle.cf_call_text.specs.CallText as spec;
 ghost use Rattle.cf_call_text.specs.CallText.{fields_text};
 ghost use Rattle.cf_call_text.specs.Fits.{ActFits, AssetFits, LeaveFits, IsN16, IsN32, IsN64, HasFit};

@@ -1,6 +1,6 @@
 -- What stands in the lists of a call.
 use Rattle.std.specs.Prelude.{ℕ, ◌&&◌, List, [], ◌∷◌, Bool, true, false, not, codes, is_none, if◌then◌else◌, Option, Some, None, option_map, option_and_then}
-use Rattle.serde_json.specs.Data.{Data, item}
+use Rattle.serde_json.specs.Data.{Data}
 use Rattle.serde_json.specs.Find.{get, as_bool}
 use Rattle.cf_calls.specs.declared.items.LineAmount.{LineAmount}
 use Rattle.cf_calls.specs.declared.items.SourceAmount.{SourceAmount}

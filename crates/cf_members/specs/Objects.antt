@@ -1,8 +1,9 @@
 -- JSON values, as replies are made of them.
-use Rattle.std.specs.Prelude.{ℕ, ◌+◌, zero, suc, ℤ, List, [], ◌∷◌, ◌++◌, decimal}
+use Rattle.std.specs.Prelude.{ℕ, ◌+◌, zero, suc, ℤ, List, [], ◌∷◌, ◌++◌, map, decimal}
 use Rattle.std.specs.Fmt.{signed_decimal}
 use Rattle.json.specs.Print.{quoted}
-use Rattle.serde_json.specs.Data.{Data, number, unsigned, string, object, Items, no_items, item, Members, no_members, member}
+use Rattle.serde_json.specs.Data.{Data, number, unsigned, string, array, object, Items, no_items, item, Members, no_members, member}
+use Rattle.serde_json.specs.View.{items_of}
 use Rattle.serde_json.specs.Written.{compact_text}
 use Rattle.cf_base.specs.Calendar as calendar
 use Rattle.cf_base.specs.declared.calendar.Day.{Day}
@@ -32,6 +33,10 @@ members (f ∷ fs) = member f.0 f.1 (members fs)
 -- an object of these fields, whose names stand in rising order
 abbrev pub fields : List (List ℕ × Data) → Data
 fields fs = object (members fs)
+
+-- the elements as an array
+abbrev pub list_of : {A : Type 0} → (A → Data) → List A → Data
+list_of f xs = array (items_of (map f xs))
 
 -- `count` numbers from `first` on
 abbrev pub numbers_from : ℕ → ℕ → Items

@@ -15,7 +15,7 @@ use Rattle.cf_calls.specs.declared.reply.Verdict.{Verdict}
 use Rattle.cf_calls.specs.declared.reply.Verdict.TheVariants.{Accept, Repeat, Refuse}
 use Rattle.cf_calls.specs.Form.{IsActInForm, IsCallInForm, IsChangeInForm}
 use Rattle.cf_chart.specs.Plan.{Plan, object_at}
-use Rattle.cf_json.specs.Replies.{IsBriefBody, assets_of}
+use Rattle.cf_reply_text.specs.Replies.{IsBriefBody, assets_of}
 use Rattle.cf_model.specs.Assets.{bought, new_asset}
 use Rattle.cf_model.specs.Bonds.{Bond, Due, next_due}
 use Rattle.cf_model.specs.Calendar.{document_year}

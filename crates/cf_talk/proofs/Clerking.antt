@@ -14,7 +14,7 @@ use Rattle.cf_members.specs.declared.fault.CallRefused.{CallRefused}
 use Rattle.cf_members.specs.declared.fault.CallRefused.TheVariants.{Form}
 use Rattle.cf_members.specs.declared.fault.FormFault.{FormFault}
 use Rattle.cf_members.specs.Faults.{Gives}
-use Rattle.cf_json.specs.Replies.{IsBrief, IsBriefBody, form_text, text}
+use Rattle.cf_reply_text.specs.Replies.{IsBrief, IsBriefBody, form_text, text}
 use Rattle.cf_names.specs.Lists.{entries_of}
 use Rattle.cf_turns.specs.States.{PassState}
 use Rattle.cf_talk.specs.Clerks.{asked_by, code_by, code_of, IsWritten, form, called, memory, unread, Passes, AnswersCall}

@@ -15,7 +15,7 @@ use Rattle.cf_http.specs.declared.request.Request.{Request}
 use Rattle.cf_http.specs.Doors.{Tells, DoorServed}
 use Rattle.cf_members.specs.declared.fault.FormFault.{FormFault}
 use Rattle.cf_json.specs.Calls.{call_of}
-use Rattle.cf_json.specs.Replies.{text, form_text}
+use Rattle.cf_reply_text.specs.Replies.{text, form_text}
 use Rattle.cf_turns.specs.States.{PassState}
 use Rattle.cf_talk.specs.PassTalks.{Said, Hears, Talked}
 

@@ -5,7 +5,8 @@ use crate::looks::tell_read;
 use crate::page::Page;
 use cf_base::day_text;
 use cf_calls::{Call, Change};
-use cf_json::{CallRefused, FormFault, read_call, write_form};
+use cf_json::{CallRefused, FormFault, read_call};
+use cf_reply_text::write_form;
 use std::alloc::Global;
 
 /// Appends a change by its desk, key and day.

@@ -8,7 +8,7 @@ use cf_calls::shown::{
     AssetState, ItemState, OrderItemShown, ReconShown, RequisitionState, VoucherState,
 };
 use cf_calls::{Body, Label, LineNumbers, List, Made, Posted, Reply, Row, Shown};
-use cf_json::write_posted;
+use cf_reply_text::write_posted;
 use std::alloc::{AllocError, Global};
 
 /// Appends the text of what is given for a call.

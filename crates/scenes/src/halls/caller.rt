@@ -5,8 +5,9 @@ use cf_book::Book;
 use cf_calls::Posted;
 use cf_disk::{Disk, MemDisk};
 use cf_hall::{HallPass, Shared};
-use cf_json::{read_call, write_posted};
+use cf_json::read_call;
 use cf_names::City;
+use cf_reply_text::write_posted;
 use std::alloc::{AllocError, Global};
 use std::sync::Wait;
 

@@ -1,7 +1,6 @@
 use Rattle.std.proofs.Common.{[], ◌∷◌, codes}
 use Rattle.std.proofs.lemmas.Result.{on_ok_weaker}
-use Rattle.cf_members.specs.Objects.{count}
-use Rattle.cf_json.specs.Shown.{list_of}
+use Rattle.cf_members.specs.Objects.{count, list_of}
 use Rattle.cf_call_text.proofs.Objects.{two_appended}
 use Rattle.cf_call_text.proofs.acts.put_issue.Goals as goal
 

@@ -1,6 +1,6 @@
 use Rattle.std.proofs.Common.{[], ◌∷◌, codes}
 use Rattle.std.proofs.lemmas.Result.{on_ok_weaker}
-use Rattle.cf_json.specs.Shown.{list_of}
+use Rattle.cf_members.specs.Objects.{list_of}
 use Rattle.cf_call_text.specs.CallText.{number_field, back_field}
 use Rattle.cf_call_text.specs.Values.{voucher_item_data}
 use Rattle.cf_call_text.proofs.Objects.{three_appended}

@@ -5,7 +5,7 @@ ghost use Rattle.std.specs.List.{list_all};
 ghost use Rattle.cf_calls.specs.declared.refusal.Refusal.TheVariants as refused;
 ghost use Rattle.cf_members.specs.Objects.{fields, count, text_of};
 ghost use Rattle.cf_members.specs.Parts.{part_data, part_room, is_plain, is_plain_part};
-ghost use Rattle.cf_json.specs.Refusals as spec;
+ghost use Rattle.cf_reply_text.specs.Refusals as spec;
 
 use cf_base::Day;
 use cf_calls::Refusal::{

@@ -3,7 +3,7 @@ use Rattle.std.proofs.lemmas.Result.{on_ok_weaker}
 use Rattle.serde_json.specs.Data.{string}
 use Rattle.cf_members.specs.Objects.{text_of}
 use Rattle.cf_members.proofs.ObjectTexts.{fields-head}
-use Rattle.cf_json.proofs.form.write_fields.Goals as goal
+use Rattle.cf_reply_text.proofs.form.write_fields.Goals as goal
 
 pub returns-clause-text : goal.returns-clause-text
 returns-clause-text c =

@@ -11,8 +11,8 @@ use Rattle.cf_calls.specs.declared.reply.Posted.TheVariants as posted
 use Rattle.cf_members.specs.declared.fault.FormFault.{FormFault}
 use Rattle.cf_members.specs.declared.fault.FormFault.TheVariants as fault
 use Rattle.cf_members.specs.Objects.{fields, count, cents, numbers_from, text_of}
-use Rattle.cf_json.specs.Refusals.{refusal_data}
-use Rattle.cf_json.specs.Shown.{shown_data}
+use Rattle.cf_reply_text.specs.Refusals.{refusal_data}
+use Rattle.cf_reply_text.specs.Shown.{shown_data}
 
 -- what an accepted change made
 abbrev pub made_data : Made → Data

@@ -7,7 +7,7 @@ ghost use Rattle.serde_json.specs.Written.{members_text};
 ghost use Rattle.cf_calls.specs.declared.reply.Body.TheVariants as body;
 ghost use Rattle.cf_members.specs.Objects.{count, fields, members, numbers_from, text_of};
 ghost use Rattle.cf_members.specs.Parts.{is_plain};
-ghost use Rattle.cf_json.specs.Replies.{made_data, assets_of, was_fields, reply_data};
+ghost use Rattle.cf_reply_text.specs.Replies.{made_data, assets_of, was_fields, reply_data};
 
 use crate::refusals::put_refusal;
 use cf_calls::{Made, Refusal};

@@ -8,10 +8,10 @@ ghost use Rattle.serde_json.specs.Written.{items_text, comma_if};
 ghost use Rattle.json.specs.Print as json;
 ghost use Rattle.cf_calls.specs.declared.reply.Body.TheVariants as body;
 ghost use Rattle.cf_calls.specs.declared.shown.Shown.TheVariants as variant;
-ghost use Rattle.cf_members.specs.Objects.{fields, count, signed_cents, text_of};
+ghost use Rattle.cf_members.specs.Objects.{fields, count, signed_cents, list_of, text_of};
 ghost use Rattle.cf_members.specs.Parts.{is_plain};
-ghost use Rattle.cf_json.specs.Replies.{reply_data};
-ghost use Rattle.cf_json.specs.Shown as spec;
+ghost use Rattle.cf_reply_text.specs.Replies.{reply_data};
+ghost use Rattle.cf_reply_text.specs.Shown as spec;
 
 use crate::form::quoted;
 use cf_base::Day;
@@ -175,7 +175,7 @@ fn put_elements<T: Element>(
 /// Appends an array.
 #[tactic(auto, unfolding(cf_members::specs::Objects::text_of))]
 fn put_array<T: Element>(alloc: Global, out: &mut Vec<u8>, elements: &[T]) -> Result<(), AllocError>
-    ensures { OnOk result (out.new.items ≡ out.old.items ++ text_of (spec.list_of T.value elements.now)) }
+    ensures { OnOk result (out.new.items ≡ out.old.items ++ text_of (list_of T.value elements.now)) }
 {
     out.push(b'[')?;
     put_elements(alloc, out, false, elements)
@@ -189,7 +189,7 @@ fn put_first<T: Element>(
     elements: &[T],
 ) -> Result<(), AllocError>
     requires { list_all is_plain name.now ≡ true }
-    ensures { OnOk result (out.new.items ≡ out.old.items ++ (123 ∷ (json.quoted name.now ++ 58 ∷ text_of (spec.list_of T.value elements.now)))) }
+    ensures { OnOk result (out.new.items ≡ out.old.items ++ (123 ∷ (json.quoted name.now ++ 58 ∷ text_of (list_of T.value elements.now)))) }
 {
     out.push(b'{')?;
     put_quoted(out, name.as_bytes())?;

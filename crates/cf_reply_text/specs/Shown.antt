@@ -18,7 +18,7 @@ use Rattle.cf_calls.specs.declared.shown.AssetState.{AssetState}
 use Rattle.cf_calls.specs.declared.shown.AssetState.TheVariants as asset
 use Rattle.cf_calls.specs.declared.shown.Shown.{Shown}
 use Rattle.cf_calls.specs.declared.shown.Shown.TheVariants.{Line, Requisition, Order, Voucher, Bill, Asset, Bond, Leave, Account, Reconcile, Report}
-use Rattle.cf_members.specs.Objects.{fields, count, cents, signed_cents, day}
+use Rattle.cf_members.specs.Objects.{fields, count, cents, signed_cents, day, list_of}
 
 abbrev pub requisition_word : RequisitionState → List ℕ
 requisition_word requisition.Open = codes "open"
@@ -58,10 +58,6 @@ next_data (Some d) = day d
 
 abbrev pub recon_data : ReconShown → Data
 recon_data r = fields ((codes "accrued_interest", signed_cents r.accrued_interest) ∷ (codes "bonds", signed_cents r.bonds) ∷ (codes "capital_assets", signed_cents r.capital_assets) ∷ (codes "fund_balances", signed_cents r.fund_balances) ∷ (codes "leave", signed_cents r.leave) ∷ (codes "net_position", signed_cents r.net_position) ∷ (codes "unavailable", signed_cents r.unavailable) ∷ [])
-
--- the elements as an array
-abbrev pub list_of : {A : Type 0} → (A → Data) → List A → Data
-list_of f xs = array (items_of (map f xs))
 
 -- the label, and then the amounts
 abbrev pub row_data : Row → Data

@@ -1,4 +1,4 @@
-use Rattle.cf_json.proofs.shown.put_asset.Goals as goal
+use Rattle.cf_reply_text.proofs.shown.put_asset.Goals as goal
 
 pub returns : goal.returns
 returns c = rw (← c.asset_word.ensures.value) c.put_object.ensures.text

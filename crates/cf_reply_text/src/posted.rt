@@ -2,8 +2,8 @@
 
 ghost use Rattle.std.specs.Prelude.{◌≡◌, ◌+◌, ◌≤◌, ◌++◌, IsOk, OnOk, OnErr, vec_len, vec_capacity};
 ghost use Rattle.cf_members.specs.Objects.{text_of};
-ghost use Rattle.cf_json.specs.Replies as spec;
-ghost use Rattle.cf_json.specs.Replies.{IsBrief};
+ghost use Rattle.cf_reply_text.specs.Replies as spec;
+ghost use Rattle.cf_reply_text.specs.Replies.{IsBrief};
 
 use crate::replies::{write_done, write_refused, write_true};
 use crate::shown::write_shown;

@@ -1,7 +1,7 @@
 use Rattle.std.proofs.Common.{◌≡◌, ◌++◌, map, drop}
 use Rattle.serde_json.specs.View.{items_of}
 use Rattle.serde_json.specs.Written.{items_text}
-use Rattle.cf_json.proofs.shown.put_elements.Given as goal
+use Rattle.cf_reply_text.proofs.shown.put_elements.Given as goal
 
 abbrev pub invariant-loop-element : goal.invariant-loop-element
 invariant-loop-element g l =

@@ -1,7 +1,7 @@
 use Rattle.std.proofs.Common.{FitsSigned, rules}
 use Rattle.std.proofs.Math.Facts.{to_z-of_z}
 use Rattle.std.specs.Int.{w128}
-use Rattle.cf_json.proofs.shown.put_recon.Goals as goal
+use Rattle.cf_reply_text.proofs.shown.put_recon.Goals as goal
 
 pub returns : goal.returns
 returns c =

@@ -5,7 +5,7 @@ ghost use Rattle.std.specs.List.{list_all};
 ghost use Rattle.serde_json.specs.Data.{string};
 ghost use Rattle.cf_members.specs.Objects.{fields, head_text, text_of};
 ghost use Rattle.cf_members.specs.Parts.{is_plain};
-ghost use Rattle.cf_json.specs.Replies as spec;
+ghost use Rattle.cf_reply_text.specs.Replies as spec;
 
 use cf_members::FormFault;
 use cf_members::parts::Part::Word;
