@@ -1,6 +1,8 @@
 -- How a run ends.
-use Rattle.std.proofs.Common.{◌≡◌, ℕ, List, [], ◌++◌, length, Option, Some, None, Result, Ok, Err, refl, sym, subst, ◌∙◌, append-nil}
-use Rattle.std.specs.Io.KnownBytes.{Appends}
+use Rattle.std.proofs.Common.{◌≡◌, ◌<◌, ◌-◌, ◌^◌, ℕ, List, [], ◌++◌, length, Option, Some, None, Result, Ok, Err, inl, inr, refl, sym, subst, ◌∙◌, append-nil, arith}
+use Rattle.std.specs.Io.KnownBytes.{Appends, IsAtEnd}
+use Rattle.std.specs.Prelude.{Vec}
+use Rattle.std.specs.declared.alloc.Global.{Global}
 use Rattle.cf_book.specs.Recovery.{recovered}
 use Rattle.cf_book.specs.declared.refused.BookRefused.{BookRefused}
 use Rattle.cf_book.specs.declared.refused.BookRefused.TheVariants as book_refused
@@ -9,22 +11,34 @@ use Rattle.cf_books_words.specs.declared.words.Command.TheVariants as asked
 use Rattle.cf_chart.specs.Plan.{Plan}
 use Rattle.cf_chart.specs.Reading.{chart_of}
 use Rattle.cf_chart.specs.declared.fault.ChartFault.{ChartFault}
+use Rattle.cf_desk.specs.Reads.{IsRead}
 use Rattle.cf_journal.specs.declared.refused.OpenRefused.{OpenRefused}
 use Rattle.cf_journal.specs.declared.refused.OpenRefused.TheVariants as open_refused
 use Rattle.cf_model.specs.State.{OfficeState}
 use Rattle.cf_books.specs.declared.status.Status.{Status}
 use Rattle.cf_books.specs.declared.status.Status.TheVariants.{Done, BadWords, ChartRefused, ReadFault, WriteFault, NotFounded, Damaged, NoMemory, Cut}
 use Rattle.cf_books.specs.Answers.{AreLeft, Ends, Gave, book_refusal, chart_said, check_said, end_of, refusal_of, said, whole_said}
-use Rattle.cf_books.specs.Sources.{IsRead}
 use Rattle.cf_books.specs.Whole.{Parts, whole_of}
 
--- what was read to the end is all that was left
-pub are_left : (left left' : Option (List ℕ)) (bytes : List ℕ) → IsRead left left' bytes → AreLeft left bytes
-are_left None left' bytes r = tt
-are_left (Some xs) None bytes r = absurd r.took
-are_left (Some xs) (Some ys) bytes r = let P : List ℕ → Type 0 = λ rest. xs ≡ bytes ++ rest in subst P r.whole r.took ∙ append-nil bytes
+-- bytes that are fewer than could have been taken were read to the end
+whole : (most : ℕ) (left left' : Option (List ℕ)) (bytes : List ℕ) → IsRead most left left' bytes → length bytes < most → IsAtEnd left'
+whole most left left' bytes r few = elim r.whole [
+  | inl end ↦ end
+  | inr as_many ↦ absurd (omega (arith, as_many, few))
+]
 
--- ---- how an answer ends a run
+-- so they are all that was left
+pub are_left : (most : ℕ) (left left' : Option (List ℕ)) (bytes : List ℕ) → IsRead most left left' bytes → length bytes < most → AreLeft left bytes
+are_left most None left' bytes r few = tt
+are_left most (Some xs) None bytes r few = absurd r.took
+are_left most (Some xs) (Some ys) bytes r few =
+    let P : List ℕ → Type 0 = λ rest. xs ≡ bytes ++ rest in subst P (whole most (Some xs) (Some ys) bytes r few) r.took ∙ append-nil bytes
+
+-- a vector is shorter than the largest number of its length's type
+pub few : (v : Vec ℕ Global) → length v.items < 2 ^ 64 - 1
+few v = omega (arith, v.ok.0, v.ok.1, v.small)
+
+-- ---- which statuses an answer has
 
 -- neither the file nor the output failed
 abbrev pub IsNoFault : Status → Type 0
@@ -93,6 +107,8 @@ silent (asked.List csv) bytes = whole_silent (asked.List csv) (length bytes) (wh
 silent asked.Calls bytes = whole_silent asked.Calls (length bytes) (whole_of bytes)
 silent asked.Chart bytes = whole_silent asked.Chart (length bytes) (whole_of bytes)
 silent asked.Lines bytes = whole_silent asked.Lines (length bytes) (whole_of bytes)
+
+-- ---- how an answer ends a run
 
 -- the whole answer ends a run as the answer says
 pub gave_ends : (command : Command) (left held held' : Option (List ℕ)) (s : Status) → Gave command left held held' s → Ends command left held held' s

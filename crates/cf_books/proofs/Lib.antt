@@ -1,5 +1,4 @@
 pub mod CallsAgain
 pub mod Steps
-pub mod Chunks
 pub mod Checks
 pub mod Ends

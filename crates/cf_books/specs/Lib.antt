@@ -7,5 +7,4 @@ pub mod Summary
 pub mod Whole
 pub mod FaultRows
 pub mod Notices
-pub mod Sources
 pub mod Answers

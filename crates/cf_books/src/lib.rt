@@ -12,7 +12,6 @@ mod listing;
 mod notices;
 mod rows;
 mod running;
-mod source;
 mod status;
 mod summary;
 mod whole;

@@ -6,11 +6,10 @@ ghost use Rattle.cf_books.specs.Answers.{Ends};
 
 use crate::answers::answer_of;
 use crate::notices::put_notice;
-use crate::source::{Unread, read_all};
 use crate::status::Status;
 use cf_base::{Sink, Source};
 use cf_books_words::Command;
-use cf_desk::write_all;
+use cf_desk::{Unread, read_all, write_all};
 use std::alloc::Global;
 
 /// Runs a command over the bytes of its file. The file is only read: nothing else of it can be asked of a source. What
@@ -28,7 +27,7 @@ pub fn run<S: Source, K: Sink>(
     ensures input_quiet { result ≢ Status.ReadFault → S.faults source.new ≡ S.faults source.old }
     ensures out_quiet { result ≢ Status.WriteFault → K.faults out.new ≡ K.faults out.old }
 {
-    let bytes = match read_all(alloc, source) {
+    let bytes = match read_all(alloc, source, usize::MAX) {
         Ok(bytes) => bytes,
         Err(Unread::Fault) => return Status::ReadFault,
         Err(Unread::NoMemory) => return Status::NoMemory,

@@ -2,7 +2,7 @@ use Rattle.std.proofs.Common.{◌≡◌, ◌∙◌, List, ℕ, ap, sym, subst}
 use Rattle.std.specs.Io.KnownBytes.{Appends}
 use Rattle.cf_desk.specs.Sinks.{Wrote}
 use Rattle.cf_books.specs.Answers.{AreLeft, said}
-use Rattle.cf_books.proofs.Ends.{IsNoFault, are_left, gave_ends, no_fault}
+use Rattle.cf_books.proofs.Ends.{IsNoFault, are_left, few, gave_ends, no_fault}
 use Rattle.cf_books.proofs.running.run.Goals as goal
 
 pub returns-in-Ok-write_all-clause-ends : goal.returns-in-Ok-write_all-clause-ends
@@ -16,7 +16,7 @@ returns-in-Ok-write_all-clause-ends g c =
     gave_ends c.args.command left held held' c.in-Ok-answer_of.answer.status
     (record {
       bytes = bytes;
-      all = subst (AreLeft left) (sym c.as_slice.ensures.value) (are_left left _ _ c.in-Ok.ensures.ok);
+      all = subst (AreLeft left) (sym c.as_slice.ensures.value) (are_left _ left _ _ c.in-Ok.ensures.ok (few c.in-Ok.bytes));
       is = ap (λ x. x.status) answer;
       put = subst (λ (t : List ℕ). Appends held held' t) (sym out) c.in-Ok-write_all.ensures.ok;
     })
@@ -32,7 +32,7 @@ returns-clause-ends g c =
     let front = c.in-Err.ensures.err in
     record {
       bytes = bytes;
-      all = subst (AreLeft left) (sym c.as_slice.ensures.value) (are_left left _ _ c.in-Ok.ensures.ok);
+      all = subst (AreLeft left) (sym c.as_slice.ensures.value) (are_left _ left _ _ c.in-Ok.ensures.ok (few c.in-Ok.bytes));
       rest = front.0;
       put = subst (λ (t : List ℕ). Wrote held held' t front.0) (sym out) front.1;
     }

@@ -1,15 +1,16 @@
-//! Reads a file's bytes to their end.
+//! Reads a source to its end, for those who need its bytes whole.
 
-ghost use Rattle.std.specs.Prelude.{◌≡◌, ◌<◌, length, Err, IfOk, OnOk};
+ghost use Rattle.std.specs.Prelude.{◌≡◌, ◌<◌, ◌≤◌, ℕ, length, vec_len, Err, IfOk, OnOk};
 ghost use Rattle.cf_base.specs.Causes.{Rose};
-ghost use Rattle.cf_books.specs.Sources.{IsRead, Takes};
+ghost use Rattle.cf_desk.specs.Reads.{IsRead, Takes};
 
 use cf_base::Source;
 use std::alloc::Global;
 
+// The bytes of a read.
 const CHUNK: usize = 65_536;
 
-/// Why the bytes weren't read.
+/// Why the bytes of a source weren't read.
 #[derive(Clone, Copy)]
 pub enum Unread {
     /// A read failed.
@@ -18,19 +19,23 @@ pub enum Unread {
     NoMemory,
 }
 
-/// Takes some bytes of the source, and says how many.
+// Takes some bytes of the source, at most as many as are wanting to `most`, and says how many.
 fn take_some<S: Source>(
     source: &mut S,
     chunk: &mut [u8],
     bytes: &mut Vec<u8>,
+    most: usize,
 ) -> Result<usize, Unread>
-    requires { 0 < length chunk.old }
+    requires chunk { 0 < length chunk.old }
+    requires room { vec_len bytes.old < most }
     ensures ok { IfOk result (λ n. Takes (S.left source.old) (S.left source.new) bytes.old.items bytes.new.items n) }
+    ensures within { vec_len bytes.new ≤ most }
     ensures fault { result ≡ Err Unread.Fault → Rose (S.faults source.old) (S.faults source.new) }
     ensures memory { result ≡ Err Unread.NoMemory → S.faults source.new ≡ S.faults source.old }
     ensures quiet { OnOk result (S.faults source.new ≡ S.faults source.old) }
 {
-    match source.read(chunk) {
+    let count = chunk.len().min(most - bytes.len());
+    match source.read(&mut chunk[..count]) {
         Ok(count) => match bytes.extend_from_slice(&chunk[..count]) {
             Ok(()) => Ok(count),
             Err(_) => Err(Unread::NoMemory),
@@ -39,9 +44,9 @@ fn take_some<S: Source>(
     }
 }
 
-/// All bytes that the source has left.
-pub fn read_all<S: Source>(alloc: Global, source: &mut S) -> Result<Vec<u8>, Unread>
-    ensures ok { IfOk result (λ v. IsRead (S.left source.old) (S.left source.new) v.items) }
+/// Reads a source to its end, or `most` bytes of it where it has more.
+pub fn read_all<S: Source>(alloc: Global, source: &mut S, most: usize) -> Result<Vec<u8>, Unread>
+    ensures ok { IfOk result (λ v. IsRead most (S.left source.old) (S.left source.new) v.items) }
     ensures fault { result ≡ Err Unread.Fault → Rose (S.faults source.old) (S.faults source.new) }
     ensures memory { result ≡ Err Unread.NoMemory → S.faults source.new ≡ S.faults source.old }
     ensures quiet { OnOk result (S.faults source.new ≡ S.faults source.old) }
@@ -50,13 +55,12 @@ pub fn read_all<S: Source>(alloc: Global, source: &mut S) -> Result<Vec<u8>, Unr
         return Err(Unread::NoMemory);
     };
     let mut bytes = Vec::new(alloc);
-    // Each turn takes a byte or more.
-    for _ in 0..u64::MAX {
-        match take_some(source, chunk.as_mut_slice(), &mut bytes) {
+    while bytes.len() < most {
+        match take_some(source, chunk.as_mut_slice(), &mut bytes, most) {
             Ok(0) => return Ok(bytes),
             Ok(_) => {}
             Err(unread) => return Err(unread),
         }
     }
-    Err(Unread::NoMemory)
+    Ok(bytes)
 }
