@@ -34,5 +34,5 @@ module _ {D R L : Type 0} (device : Device D) (kind : DoorKind R L) where
   ends_unread (Some command.Found) o disk rest = ((refl, refl), refl, refl)
   ends_unread (Some command.Desk) o disk rest = (record { input = Consumes-nil o.input; out = refl; content = λ t. refl }, refl, refl)
   ends_unread (Some (command.Serve port doors links)) o disk rest = (ends_unprepared doors links disk o.doors o.out, refl, refl)
-  ends_unread (Some (command.Report year statement csv)) o disk rest = ((record { content = λ t. refl; any_moment = rest }, refl), refl, refl, refl)
+  ends_unread (Some (command.Report year statement csv)) o disk rest = ((record { content = λ t. refl; any_moment = rest }, refl, λ fine. refl), refl, refl, refl)
   ends_unread (Some (command.Generate n)) o disk rest = (refl, refl, refl, refl, refl)

@@ -72,7 +72,7 @@ module _ {D R L : Type 0} (device : Device D) (kind : DoorKind R L) (links : ℕ
   doors_kept book bytes doors doors' given end.DoorFailed opens states h stay =
       (served_by book bytes (map kind.state doors) (map kind.state doors') given opens states h.0, h.1)
   doors_kept book bytes doors doors' given end.NoMemory opens states h stay =
-      (record { doors_stay = stay refl; content = λ t. ap device.content h.1 ∙ opens.reads t }, λ t. tt)
+      (record { doors_stay = stay refl; content = λ t. ap device.content h.1 ∙ opens.reads t }, λ t. tt, λ fine. ap device.faults h.1 ∙ opens.quiet)
 
   -- ---- what is said of it
 
@@ -86,8 +86,8 @@ module _ {D R L : Type 0} (device : Device D) (kind : DoorKind R L) (links : ℕ
       → ServeSays device kind links old new doors doors' held held' (status_of_refused why)
   said_unopened doors doors' held held' refused.Disk k out = (k.0, out)
   said_unopened doors doors' held held' refused.NoMemory k out = (k.0, out)
-  said_unopened doors doors' held held' (refused.NotFounded len byte) k out = (k.0, out, k.1)
-  said_unopened doors doors' held held' (refused.Damaged offset refusal) k out = (k.0, out, k.1)
+  said_unopened doors doors' held held' (refused.NotFounded len byte) k out = (k.0, out, k.1, k.2 (λ e. cc))
+  said_unopened doors doors' held held' (refused.Damaged offset refusal) k out = (k.0, out, k.1, k.2 (λ e. cc))
 
   pub doors_said : (doors doors' : List R) (held held' : Option (List ℕ)) (how : Kept) (s : Status) → KeepsDoors device kind links old new doors doors' how → TellsKept how held held' s
       → ServeSays device kind links old new doors doors' held held' s

@@ -1,5 +1,5 @@
 -- A run of `report`.
-use Rattle.std.proofs.Common.{◌≡◌, ℕ, Bool, List, Option, IsTrue, sym, subst}
+use Rattle.std.proofs.Common.{◌≡◌, ℕ, Bool, List, Option, IsTrue, ap, sym, subst, ◌∙◌}
 use Rattle.cf_articulation.specs.Articulates.{AllArticulate}
 use Rattle.cf_base.specs.declared.statement.Kind.{Kind}
 use Rattle.cf_book.specs.declared.refused.BookRefused.{BookRefused}
@@ -29,12 +29,13 @@ module _ {D : Type 0} (device : Device D) (year : ℕ) (kind : Kind) (csv : Bool
   report_printed book new s opens same sound articulates prints = (
     subst (λ (d : D). IsUnwritten device old d) (sym same) (record { content = opens.reads; any_moment = opens.any_moment }),
     says book s opens.recovers sound articulates prints,
+    λ fine. ap device.faults same ∙ opens.quiet,
   )
 
   -- no journal was opened
   pub report_refused : (new : D) (why : BookRefused) → OpensNone device.tells device.content device.is_image device.moment device.was_image device.faults old new why → held' ≡ held
       → ReportEnds device year kind csv old new held held' (status_of_refused why)
-  report_refused new why none out = (record { content = none.reads; any_moment = none.any_moment }, by_cause why none.refuses)
+  report_refused new why none out = (record { content = none.reads; any_moment = none.any_moment }, by_cause why none.refuses, λ fine. none.quiet (λ e. fine (ap status_of_refused e)))
     where
       by_cause : (w : BookRefused) → (IsTrue device.tells → Refuses w (recovered (device.content old))) → ReportSays device old year kind csv held held' (status_of_refused w)
       by_cause refused.Disk refuses = out

@@ -1,5 +1,5 @@
 -- What a run of `report` says, by its status.
-use Rattle.std.specs.Prelude.{◌≡◌, ℕ, Bool, List, Option, IsTrue, Err}
+use Rattle.std.specs.Prelude.{◌≡◌, ◌≢◌, ℕ, Bool, List, Option, IsTrue, Err}
 use Rattle.cf_articulation.specs.Articulates.{AllArticulate}
 use Rattle.cf_base.specs.declared.statement.Kind.{Kind}
 use Rattle.cf_book.specs.Recovery.{recovered, RecoversTo}
@@ -46,4 +46,5 @@ ReportSays device disk year kind csv held held' (status.Damaged offset refusal) 
 ReportSays device disk year kind csv held held' _ = ⊥
 
 abbrev pub ReportEnds : {D : Type 0} → Device D → ℕ → Kind → Bool → D → D → Option (List ℕ) → Option (List ℕ) → Status → Type 0
-ReportEnds device year kind csv old new held held' s = IsUnwritten device old new × ReportSays device old year kind csv held held' s
+ReportEnds device year kind csv old new held held' s =
+    IsUnwritten device old new × ReportSays device old year kind csv held held' s × (s ≢ status.DiskFault → device.faults new ≡ device.faults old)

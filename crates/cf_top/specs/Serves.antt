@@ -1,5 +1,5 @@
 -- What a run of `serve` says, by its status.
-use Rattle.std.specs.Prelude.{◌≡◌, ◌⊎◌, ℕ, ◌<◌, ◌≤◌, List, ◌∷◌, [], ◌++◌, length, map, take, drop, Option, Some, IfSome, IsTrue, Err}
+use Rattle.std.specs.Prelude.{◌≡◌, ◌≢◌, ◌⊎◌, ℕ, ◌<◌, ◌≤◌, List, ◌∷◌, [], ◌++◌, length, map, take, drop, Option, Some, IfSome, IsTrue, Err}
 use Rattle.std.specs.Io.KnownBytes.{Appends}
 use Rattle.cf_articulation.specs.Articulates.{AllArticulate}
 use Rattle.cf_book.specs.Books.{RecoversNear}
@@ -63,7 +63,7 @@ KeepsDoors device kind links old new doors doors' (kept.Served count) =
 KeepsDoors device kind links old new doors doors' kept.Failed =
     Served device kind links old new (map kind.state doors) (map kind.state doors') × SomeRose (map kind.state doors) (map kind.state doors')
 KeepsDoors device kind links old new doors doors' (kept.Unopened why) =
-    IsUnserved device old new doors doors' × (IsTrue device.tells → Refuses why (recovered (device.content old)))
+    IsUnserved device old new doors doors' × (IsTrue device.tells → Refuses why (recovered (device.content old))) × (why ≢ refused.Disk → device.faults new ≡ device.faults old)
 
 -- ---- what is said of it
 
@@ -91,8 +91,10 @@ ServeSays device kind links old new doors doors' held held' status.DiskFault = I
 ServeSays device kind links old new doors doors' held held' status.NoMemory = IsUnserved device old new doors doors' × (held' ≡ held)
 ServeSays device kind links old new doors doors' held held' (status.NotFounded len byte) =
     IsUnserved device old new doors doors' × (held' ≡ held) × (IsTrue device.tells → recovered (device.content old) ≡ Err (refused.NotFounded len byte))
+    × (device.faults new ≡ device.faults old)
 ServeSays device kind links old new doors doors' held held' (status.Damaged offset refusal) =
     IsUnserved device old new doors doors' × (held' ≡ held) × (IsTrue device.tells → recovered (device.content old) ≡ Err (refused.Damaged offset refusal))
+    × (device.faults new ≡ device.faults old)
 ServeSays device kind links old new doors doors' held held' _ = ⊥
 
 -- there are fewer doors than the words ask for: nothing was done

@@ -34,3 +34,9 @@ returns-in-Err-NoMemory-clause-ends g c =
     (ends_unread (device g.D.Disk.tells g.D.Disk.content g.D.Disk.is_image g.D.Disk.moment g.D.Disk.was_image g.D.Disk.faults)
     (door_kind g.R.Link.Link.received g.R.Link.Link.sent g.R.Link.Link.ended g.R.Link.Link.faults g.R.Door.tells g.R.Door.finished g.R.Door.given g.R.Door.coming g.R.Door.faults)
     (command_of (map string_bytes c.args.words.now)) (outside (g.C.Source.left c.args.chart.now) (g.I.Source.left c.args.input.now) (g.O.Sink.held c.args.out.now) c.args.doors.now.items) c.args.disk c.unread.ensures.at_rest)
+
+pub returns-in-Ok-Report-clause-ends : goal.returns-in-Ok-Report-clause-ends
+returns-in-Ok-Report-clause-ends g c =
+    let asked : command_of (map string_bytes c.args.words.now) ≡ Some (command.Report c.in-Ok-Report.field-0-0 c.in-Ok-Report.field-0-1 c.in-Ok-Report.field-0-2) = c.in-Ok-Report.ensures.command ∙ ap Some c.in-Ok-Report.field-0-is in
+    let prints = c.run_report.ensures.ends c.in-Ok-Report.field-0-0 c.in-Ok-Report.field-0-1 c.in-Ok-Report.field-0-2 asked in
+    rw asked (prints, refl, refl, refl)
