@@ -19,7 +19,7 @@ same() {
     python3 "$@" | cmp -s - "$file" || { echo "$what: the office says otherwise"; stored=1; }
 }
 
-for talk in examples/*.jsonl examples/milltown/*.jsonl; do
+for talk in examples/*.jsonl examples/milltown/*.jsonl examples/older/quarter.jsonl; do
     case $talk in
     examples/milltown/*) chart=examples/milltown/chart.toml ;;
     *) chart=examples/rivertown/chart.toml ;;

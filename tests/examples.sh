@@ -1,8 +1,9 @@
 #!/bin/sh
 # Runs the examples through the launcher and compares what it prints with the replies beside them: each talk of
 # examples/ over a journal of its own, founded with the chart of Rivertown, those of examples/milltown/ with the chart of
-# Milltown, with the statements that stand beside a talk, and the day of examples/two-runs/ by two desks, one after the other, over one journal. The journal of each talk
-# is read by its format alone (journal.py). Then what founding and opening refuse, and the launcher with stubs (launcher.sh).
+# Milltown, with the statements that stand beside a talk, a journal that an earlier program wrote (examples/older/), and the day of
+# examples/two-runs/ by two desks, one after the other, over one journal. The journal of each talk is read by its format alone
+# (journal.py). Then what founding and opening refuse, and the launcher with stubs (launcher.sh).
 cd "$(dirname "$0")/.." || exit 1
 top=$(pwd)
 . tests/program.sh
@@ -63,6 +64,17 @@ mkdir "$scratch/run"
 verdict "generate 100000 twice" $?
 [ "$(head -n 1 "$scratch/run/first" | tr -s ' ')" = "Entries 100007" ] && [ "$(ls "$scratch/run" | wc -l)" -eq 2 ]
 verdict "the lines of generate 100000, and no other file" $?
+
+# A journal that an earlier program wrote: this one writes the same for its talk, and opens it with the same answers and nothing lost.
+fresh rivertown
+expect "found for an older journal" 0 founded found
+talk examples/older/quarter.jsonl examples/older/quarter.replies
+cmp "$scratch/fund.journal" examples/older/quarter.journal
+verdict "the journal of examples/older/quarter.jsonl is the older one" $?
+cp examples/older/quarter.journal "$scratch/fund.journal"
+talk examples/older/looks.jsonl examples/older/looks.replies
+cmp "$scratch/fund.journal" examples/older/quarter.journal
+verdict "the older journal stays" $?
 
 fresh rivertown
 expect "found for two runs" 0 founded found
