@@ -1,10 +1,11 @@
 //! What stands in the lists of an entry.
 
-ghost use Rattle.std.specs.Prelude.{◌≡◌};
+ghost use Rattle.std.specs.Prelude.{◌≡◌, Some, refl};
 ghost use Rattle.cf_calls.specs.Form.{same_line, same_source, same_number, same_order_item};
 ghost use Rattle.cf_fields.specs.Readings.{Gives};
 ghost use Rattle.cf_codec.specs.Acts as spec;
 ghost use Rattle.cf_codec.specs.Acts.{line_amount, source_amount, account_item, voucher_item};
+ghost use Rattle.cf_distinct.specs.Charges.{charged_item, same_charged};
 ghost use Rattle.cf_fields.specs.Fields.{word, most_amount};
 ghost use Rattle.cf_fields.specs.Puts.{HasRoom, Puts};
 
@@ -41,10 +42,16 @@ impl Element for LineElement {
 }
 
 impl DistinctElement for LineElement {
+    type Key = u16;
+
     ghost clash = { same_line };
 
-    fn clashes(one: LineAmount, other: LineAmount) -> bool {
-        one.line == other.line
+    ghost key = { λ i. Some i.line };
+
+    ghost clash_by_key = { λ _ _. refl };
+
+    fn key(value: LineAmount) -> Option<u16> {
+        Some(value.line)
     }
 }
 
@@ -73,10 +80,16 @@ impl Element for SourceElement {
 }
 
 impl DistinctElement for SourceElement {
+    type Key = u16;
+
     ghost clash = { same_source };
 
-    fn clashes(one: SourceAmount, other: SourceAmount) -> bool {
-        one.source == other.source
+    ghost key = { λ i. Some i.source };
+
+    ghost clash_by_key = { λ _ _. refl };
+
+    fn key(value: SourceAmount) -> Option<u16> {
+        Some(value.source)
     }
 }
 
@@ -214,19 +227,18 @@ impl Element for VoucherElement {
 }
 
 impl DistinctElement for VoucherElement {
+    type Key = (u32, u16);
+
     ghost clash = { same_order_item };
 
-    fn clashes(one: VoucherItem, other: VoucherItem) -> bool {
-        match (one.charge, other.charge) {
-            (
-                Charge::OnOrder {
-                    order: one_order,
-                    item: one_item,
-                    ..
-                },
-                Charge::OnOrder { order, item, .. },
-            ) => one_order == order && one_item == item,
-            _ => false,
+    ghost key = { λ i. charged_item i.charge };
+
+    ghost clash_by_key = { λ a b. same_charged a.charge b.charge };
+
+    fn key(value: VoucherItem) -> Option<(u32, u16)> {
+        match value.charge {
+            Charge::Direct => None,
+            Charge::OnOrder { order, item, .. } => Some((order, item)),
         }
     }
 }
@@ -253,10 +265,16 @@ impl Element for VoucherNumber {
 }
 
 impl DistinctElement for VoucherNumber {
+    type Key = u32;
+
     ghost clash = { same_number };
 
-    fn clashes(one: u32, other: u32) -> bool {
-        one == other
+    ghost key = { λ n. Some n };
+
+    ghost clash_by_key = { λ _ _. refl };
+
+    fn key(value: u32) -> Option<u32> {
+        Some(value)
     }
 }
 

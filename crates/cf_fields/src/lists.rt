@@ -1,8 +1,8 @@
 //! Lists: a count, and the elements one after another.
 
-ghost use Rattle.std.specs.Prelude.{◌≡◌, ◌+◌, ◌<◌, ◌≤◌, Bool, length, vec_len, vec_capacity};
-ghost use Rattle.std.specs.List.{list_any};
+ghost use Rattle.std.specs.Prelude.{◌≡◌, ◌+◌, ◌<◌, ◌≤◌, Bool, Option, IfOk, length, vec_len, vec_capacity};
 ghost use Rattle.cf_calls.specs.Form.{is_distinct};
+ghost use Rattle.cf_distinct.specs.Keys.{same_key};
 ghost use Rattle.cf_fields.specs.Readings.{Gives};
 ghost use Rattle.cf_fields.specs.Formats.{Format, kept, list, each_bytes, each_size, each_fits, each_at};
 ghost use Rattle.cf_fields.specs.Puts.{Adds, HasRoom, Puts};
@@ -11,7 +11,7 @@ use crate::fault::Refused;
 use crate::put::put_half;
 use crate::take::{faulty, take_between};
 use cf_calls::List;
-use std::alloc::Global;
+use std::alloc::{AllocError, Global};
 
 /// What stands in a list.
 pub trait Element {
@@ -35,10 +35,18 @@ pub trait Element {
 
 /// An element of which a list may not have two that clash.
 pub trait DistinctElement: Element {
+    type Key: Ord + Copy;
+
     ghost clash: { Self.Value → Self.Value → Bool };
 
-    fn clashes(one: Self::Value, other: Self::Value) -> bool
-        ensures { result ≡ clash one other };
+    ghost key: { Self.Value → Option Self.Key };
+
+    /// What no other of a list may have, if it has such a thing.
+    fn key(value: Self::Value) -> Option<Self::Key>
+        ensures { result ≡ key value };
+
+    /// Two clash where their keys are there and equal.
+    ghost clash_by_key: { (a b : Self.Value) → clash a b ≡ same_key Self.Key.eq (key a) (key b) };
 }
 
 /// How many bytes a list has.
@@ -110,23 +118,14 @@ pub fn take_list<E: Element>(
     Ok((List::of(items), rest))
 }
 
-fn clashes_with<E: DistinctElement>(first: E::Value, others: &[E::Value]) -> bool
-    ensures { result ≡ list_any (E.clash first) others.now }
+fn are_distinct<E: DistinctElement>(alloc: Global, items: &[E::Value]) -> Result<bool, AllocError>
+    ensures { IfOk result (λ b. b ≡ is_distinct E.clash items.now) }
 {
-    others.iter().any(|other| E::clashes(first, *other))
-}
-
-fn are_distinct<E: DistinctElement>(items: &[E::Value]) -> bool
-    ensures { result ≡ is_distinct E.clash items.now }
-{
-    let mut rest = items;
-    while let Some((first, others)) = rest.split_first() {
-        if clashes_with::<E>(*first, others) {
-            return false;
-        }
-        rest = others;
+    let mut keys = Vec::with_capacity(alloc, items.len())?;
+    for item in items {
+        keys.push(E::key(*item))?;
     }
-    true
+    cf_distinct::are_distinct(alloc, keys.as_slice())
 }
 
 /// A list of `least` to `most` elements, of which no two clash.
@@ -140,7 +139,7 @@ pub fn take_distinct<E: DistinctElement>(
         ((kept (is_distinct E.clash) (list least most E.Element.format)).read bytes.now) }
 {
     let (items, rest) = take_list::<E>(alloc, least, most, bytes)?;
-    if are_distinct::<E>(items.as_slice()) {
+    if are_distinct::<E>(alloc, items.as_slice())? {
         Ok((items, rest))
     } else {
         Err(faulty(bytes))

@@ -1,9 +1,10 @@
 //! What stands in the lists of a call.
 
-ghost use Rattle.std.specs.Prelude.{◌≡◌, true};
+ghost use Rattle.std.specs.Prelude.{◌≡◌, true, Some, None, refl};
 ghost use Rattle.serde_json.specs.View.{view};
 ghost use Rattle.cf_calls.specs.Form.{same_line, same_source, same_number, same_order_item, is_charge_form};
 ghost use Rattle.cf_members.specs.Kinds.{as_n32, as_count};
+ghost use Rattle.cf_distinct.specs.Charges.{charged_item, same_charged};
 ghost use Rattle.cf_json.specs.Items as spec;
 ghost use Rattle.cf_json.specs.Items.{as_line_amount, as_source_amount, as_account, as_account_item, as_voucher_item, never};
 
@@ -54,10 +55,16 @@ impl FieldKind for LineItem {
 }
 
 impl Item for LineItem {
+    type Key = u16;
+
     ghost clash = { same_line };
 
-    fn clashes(one: &LineAmount, other: &LineAmount) -> bool {
-        one.line == other.line
+    ghost key = { λ i. Some i.line };
+
+    ghost clash_by_key = { λ _ _. refl };
+
+    fn key(item: &LineAmount) -> Option<u16> {
+        Some(item.line)
     }
 }
 
@@ -79,10 +86,16 @@ impl FieldKind for SourceItem {
 }
 
 impl Item for SourceItem {
+    type Key = u16;
+
     ghost clash = { same_source };
 
-    fn clashes(one: &SourceAmount, other: &SourceAmount) -> bool {
-        one.source == other.source
+    ghost key = { λ i. Some i.source };
+
+    ghost clash_by_key = { λ _ _. refl };
+
+    fn key(item: &SourceAmount) -> Option<u16> {
+        Some(item.source)
     }
 }
 
@@ -119,10 +132,16 @@ impl FieldKind for PlainItem {
 }
 
 impl Item for PlainItem {
+    type Key = ();
+
     ghost clash = { never };
 
-    fn clashes(_one: &AccountItem, _other: &AccountItem) -> bool {
-        false
+    ghost key = { λ _. None };
+
+    ghost clash_by_key = { λ _ _. refl };
+
+    fn key(_item: &AccountItem) -> Option<()> {
+        None
     }
 }
 
@@ -196,19 +215,18 @@ impl FieldKind for ChargedItem {
 }
 
 impl Item for ChargedItem {
+    type Key = (u32, u16);
+
     ghost clash = { same_order_item };
 
-    fn clashes(one: &VoucherItem, other: &VoucherItem) -> bool {
-        match (one.charge, other.charge) {
-            (
-                Charge::OnOrder {
-                    order: one_order,
-                    item: one_item,
-                    ..
-                },
-                Charge::OnOrder { order, item, .. },
-            ) => one_order == order && one_item == item,
-            _ => false,
+    ghost key = { λ i. charged_item i.charge };
+
+    ghost clash_by_key = { λ a b. same_charged a.charge b.charge };
+
+    fn key(item: &VoucherItem) -> Option<(u32, u16)> {
+        match item.charge {
+            Charge::Direct => None,
+            Charge::OnOrder { order, item, .. } => Some((order, item)),
         }
     }
 }
@@ -229,10 +247,16 @@ impl FieldKind for VoucherNumber {
 }
 
 impl Item for VoucherNumber {
+    type Key = u32;
+
     ghost clash = { same_number };
 
-    fn clashes(one: &u32, other: &u32) -> bool {
-        *one == *other
+    ghost key = { λ n. Some n };
+
+    ghost clash_by_key = { λ _ _. refl };
+
+    fn key(item: &u32) -> Option<u32> {
+        Some(*item)
     }
 }
 
@@ -252,9 +276,15 @@ impl FieldKind for Principal {
 }
 
 impl Item for Principal {
+    type Key = ();
+
     ghost clash = { never };
 
-    fn clashes(_one: &u64, _other: &u64) -> bool {
-        false
+    ghost key = { λ _. None };
+
+    ghost clash_by_key = { λ _ _. refl };
+
+    fn key(_item: &u64) -> Option<()> {
+        None
     }
 }

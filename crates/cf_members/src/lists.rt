@@ -1,9 +1,10 @@
 //! Lists of items.
 
-ghost use Rattle.std.specs.Prelude.{◌≡◌, Bool, option_map, IfOk, IfSome};
-ghost use Rattle.std.specs.List.{All, list_any};
+ghost use Rattle.std.specs.Prelude.{◌≡◌, ◌&&◌, nat_le, length, Bool, Option, option_map, IfOk, IfSome};
+ghost use Rattle.std.specs.List.{All};
 ghost use Rattle.serde_json.specs.View.{view, items_view};
 ghost use Rattle.cf_calls.specs.Form.{is_distinct};
+ghost use Rattle.cf_distinct.specs.Keys.{same_key};
 ghost use Rattle.cf_members.specs.Faults.{Gives};
 ghost use Rattle.cf_members.specs.Fields.{field};
 ghost use Rattle.cf_members.specs.Lists.{as_list, each, IsListOf};
@@ -17,11 +18,19 @@ use std::alloc::{AllocError, Global};
 
 /// What stands in a list.
 pub trait Item: FieldKind {
+    type Key: Ord + Copy;
+
     /// Which two may not stand in one list.
     ghost clash: { Self.Out → Self.Out → Bool };
 
-    fn clashes(one: &Self::Out, other: &Self::Out) -> bool
-        ensures { result ≡ clash one.now other.now };
+    ghost key: { Self.Out → Option Self.Key };
+
+    /// What no other of a list may have, if it has such a thing.
+    fn key(item: &Self::Out) -> Option<Self::Key>
+        ensures { result ≡ key item.now };
+
+    /// Two clash where their keys are there and equal.
+    ghost clash_by_key: { (a b : Self.Out) → clash a b ≡ same_key Self.Key.eq (key a) (key b) };
 }
 
 /// The items of the values, or `None` where one of them is no item.
@@ -39,23 +48,30 @@ fn read_all<T: Item>(alloc: Global, values: &[Value]) -> Result<Option<Vec<T::Ou
     Ok(Some(items))
 }
 
-fn clashes_with<T: Item>(first: &T::Out, others: &[T::Out]) -> bool
-    ensures { result ≡ list_any (T.clash first.now) others.now }
+fn are_distinct<T: Item>(alloc: Global, items: &[T::Out]) -> Result<bool, AllocError>
+    ensures { IfOk result (λ b. b ≡ is_distinct T.clash items.now) }
 {
-    others.iter().any(|other| T::clashes(first, other))
+    let mut keys = Vec::with_capacity(alloc, items.len())?;
+    for item in items {
+        keys.push(T::key(item))?;
+    }
+    cf_distinct::are_distinct(alloc, keys.as_slice())
 }
 
-fn are_distinct<T: Item>(items: &[T::Out]) -> bool
-    ensures { result ≡ is_distinct T.clash items.now }
+/// Whether there are `least` to `most` items, of which no two clash.
+fn is_list<T: Item>(
+    alloc: Global,
+    items: &[T::Out],
+    least: usize,
+    most: usize,
+) -> Result<bool, AllocError>
+    ensures { IfOk result (λ b. b ≡ (nat_le least (length items.now) && nat_le (length items.now) most && is_distinct T.clash items.now)) }
 {
-    let mut rest = items;
-    while let Some((first, others)) = rest.split_first() {
-        if clashes_with::<T>(first, others) {
-            return false;
-        }
-        rest = others;
+    let count = items.len();
+    if count < least || most < count {
+        return Ok(false);
     }
-    true
+    are_distinct::<T>(alloc, items)
 }
 
 /// The field that holds a list of `least` to `most` items, of which no two clash.
@@ -75,13 +91,10 @@ pub fn list<T: Item>(
     match read_all::<T>(alloc, values.as_slice()) {
         Err(_) => Err(CallRefused::NoMemory),
         Ok(None) => Err(fault(alloc, name)),
-        Ok(Some(items)) => {
-            let count = items.len();
-            if least <= count && count <= most && are_distinct::<T>(items.as_slice()) {
-                Ok(List::of(items))
-            } else {
-                Err(fault(alloc, name))
-            }
-        }
+        Ok(Some(items)) => match is_list::<T>(alloc, items.as_slice(), least, most) {
+            Err(_) => Err(CallRefused::NoMemory),
+            Ok(true) => Ok(List::of(items)),
+            Ok(false) => Err(fault(alloc, name)),
+        },
     }
 }

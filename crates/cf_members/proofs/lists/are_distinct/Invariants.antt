@@ -1,9 +1,5 @@
-use Rattle.std.proofs.Common.{◌≡◌, length}
-use Rattle.cf_calls.specs.Form.{is_distinct}
+use Rattle.std.proofs.Common.{◌≡◌, map, take}
 use Rattle.cf_members.proofs.lists.are_distinct.Given as goal
 
-abbrev pub invariant-loop-first : goal.invariant-loop-first
-invariant-loop-first g l = is_distinct g.T.Item.clash l.fn.items ≡ is_distinct g.T.Item.clash l.rest
-
-abbrev pub decreases-loop-first : goal.decreases-loop-first
-decreases-loop-first g l = length l.rest
+abbrev pub invariant-loop-item : goal.invariant-loop-item
+invariant-loop-item g l = l.keys.items ≡ map g.T.Item.key (take l.item-index l.items)
