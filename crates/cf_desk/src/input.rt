@@ -4,11 +4,9 @@ ghost use Rattle.std.specs.Prelude.{◌≡◌, ◌<◌, ◌≤◌, ℕ, length, 
 ghost use Rattle.cf_base.specs.Causes.{Rose};
 ghost use Rattle.cf_desk.specs.Reads.{IsRead, Takes};
 
+use crate::chunk::{CHUNK, read_chunk};
 use cf_base::Source;
 use std::alloc::Global;
-
-// The bytes of a read.
-const CHUNK: usize = 65_536;
 
 /// Why the bytes of a source weren't read.
 #[derive(Clone, Copy)]
@@ -34,8 +32,7 @@ fn take_some<S: Source>(
     ensures memory { result ≡ Err Unread.NoMemory → S.faults source.new ≡ S.faults source.old }
     ensures quiet { OnOk result (S.faults source.new ≡ S.faults source.old) }
 {
-    let count = chunk.len().min(most - bytes.len());
-    match source.read(&mut chunk[..count]) {
+    match read_chunk(source, chunk, (most - bytes.len()) as u64) {
         Ok(count) => match bytes.extend_from_slice(&chunk[..count]) {
             Ok(()) => Ok(count),
             Err(_) => Err(Unread::NoMemory),

@@ -1,4 +1,4 @@
-use Rattle.std.proofs.Common.{arith, rules, refl, ◌≡◌, ◌∙◌, ℕ, subst}
+use Rattle.std.proofs.Common.{arith, rules, refl, inr, ◌≡◌, ◌∙◌, ℕ, subst}
 use Rattle.std.proofs.KnownBytes.{Consumes-nil}
 use Rattle.cf_base.specs.Causes.{Rose}
 use Rattle.cf_desk.proofs.Chunks.{took_more, at_end, same_error}
@@ -41,3 +41,10 @@ returns-in-Err-clause-memory g c = λ e.
 
 pub returns-clause-quiet : goal.returns-clause-quiet
 returns-clause-quiet g c = c.loop-source.invariant.quiet
+
+pub returns-clause-ok : goal.returns-clause-ok
+returns-clause-ok g c = record {
+  took = c.loop-source.invariant.took;
+  within = omega (arith, c.loop-source.invariant.within, c.loop-source.bytes.ok.0);
+  whole = inr (omega (arith, c.loop-source.invariant.within, c.loop-source.bytes.ok.0, c.loop-source-test.false, c.len.ensures));
+}
