@@ -1,5 +1,5 @@
 -- How a link is served, step by step.
-use Rattle.std.proofs.Common.{◌≡◌, ℕ, ◌+◌, ◌-◌, ◌<◌, ◌≤◌, List, [], ◌∷◌, ◌++◌, length, drop, Bool, Option, Ok, inr, arith, subst, sym, ap, refl, ◌∙◌, append_assoc, length-append, length-drop}
+use Rattle.std.proofs.Common.{◌≡◌, ◌⊎◌, ℕ, ◌+◌, ◌-◌, ◌<◌, ◌≤◌, List, [], ◌∷◌, ◌++◌, length, drop, Bool, Option, Some, None, IfSome, Ok, inl, inr, arith, subst, sym, ap, refl, ◌∙◌, append_assoc, length-append, length-drop}
 use Rattle.std.specs.List.{flat_map}
 use Rattle.std.specs.Io.KnownBytes.{Appends}
 use Rattle.std.proofs.KnownBytes.{Appends-nil, Appends-trans}
@@ -10,8 +10,8 @@ use Rattle.cf_http.specs.declared.end.LinkEnd.TheVariants as end
 use Rattle.cf_heads.specs.declared.head.Heading.{Heading}
 use Rattle.cf_http.specs.Asking.{Rule}
 use Rattle.cf_heads.specs.Answers.{joined}
-use Rattle.cf_heads.specs.Heads.{BeginsWithHead, fields_of}
-use Rattle.cf_http.specs.Talk.{Message, message_bytes, IsMessage, Talk, IsCut, Last, between, cut, read_fault, limit, no_room}
+use Rattle.cf_heads.specs.Heads.{BeginsWithHead, IsOpenHead, fields_of}
+use Rattle.cf_http.specs.Talk.{Message, message_bytes, IsMessage, Talk, IsCut, Last, between, cut, read_fault, limit, no_link}
 use Rattle.cf_http.specs.Serving.{Moment, moment_of, Came, Went, Gave, EndsOver, Stops, Replied, Served, IsCounted, NoneCame, IsBodyStop}
 use Rattle.cf_http.specs.Turns.{SaidNoMemory}
 use Rattle.cf_http.proofs.TurnLaws.{memory_over, memory_kind, after_no_limit}
@@ -25,10 +25,15 @@ over_none : {A : Type 0} (rule : Rule A) (before : A) (sent : Option (List ℕ))
     → EndsOver rule before sent text before sent ended how
 over_none rule before sent text ended how gave ends = record { last = []; ends = ends; gave = gave }
 
+-- nothing came, or a head that is still open
+none_or_cut : (text : List ℕ) → IsOpenHead text → (text ≡ []) ⊎ IsCut text
+none_or_cut [] still = inl refl
+none_or_cut (x ∷ xs) still = inr (inl (omega arith, still))
+
 pub none_over : {A : Type 0} (rule : Rule A) (before : A) (sent : Option (List ℕ)) (text : List ℕ) (ended : Bool) (how : LinkEnd) → NoneCame text ended how → EndsOver rule before sent text before sent ended how
 none_over rule before sent text ended end.Closed n = over_none rule before sent text ended end.Closed (Appends-nil sent) (between n.0 n.1)
 none_over rule before sent text ended end.Cut n = over_none rule before sent text ended end.Cut (Appends-nil sent) (cut n.0 n.1)
-none_over rule before sent text ended end.ReadFault n = over_none rule before sent text ended end.ReadFault (Appends-nil sent) read_fault
+none_over rule before sent text ended end.ReadFault n = over_none rule before sent text ended end.ReadFault (Appends-nil sent) (read_fault (none_or_cut text n))
 none_over rule before sent text ended end.WriteFault n = absurd n
 none_over rule before sent text ended end.Limit n = absurd n
 none_over rule before sent text ended end.NoMemory n = absurd n
@@ -52,7 +57,7 @@ pub body_over : {A : Type 0} (rule : Rule A) (before : A) (sent : Option (List �
     → BeginsWithHead text heading → heading.body ≡ Ok n → IsBodyStop (heading.length + n) text ended how → EndsOver rule before sent text before sent ended how
 body_over rule before sent text ended heading n end.Closed b states s = absurd s
 body_over rule before sent text ended heading n end.Cut b states s = over_none rule before sent text ended end.Cut (Appends-nil sent) (cut (open_body text heading n b states s.0) s.1)
-body_over rule before sent text ended heading n end.ReadFault b states s = over_none rule before sent text ended end.ReadFault (Appends-nil sent) read_fault
+body_over rule before sent text ended heading n end.ReadFault b states s = over_none rule before sent text ended end.ReadFault (Appends-nil sent) (read_fault (inr (open_body text heading n b states s)))
 body_over rule before sent text ended heading n end.WriteFault b states s = absurd s
 body_over rule before sent text ended heading n end.Limit b states s = absurd s
 body_over rule before sent text ended heading n end.NoMemory b states s = absurd s
@@ -79,6 +84,13 @@ stops_over rule before after r_old r_new r_end s_old s_mid s_new text more ended
   over = subst (λ (x : Option (List ℕ)). EndsOver rule before x (text ++ c.came) after s_new ended how) s
       (subst (λ (t : List ℕ). EndsOver rule before s_mid t after s_new ended how) c.joins over);
 }
+
+pub stops_if : {A : Type 0} (rule : Rule A) (before after : A) (r_old r_new r_end s_old s_mid s_new : Option (List ℕ)) (text more : List ℕ) (ended : Bool) (how : Option LinkEnd)
+    → Came r_old r_new text more → r_end ≡ r_new → s_mid ≡ s_old → IfSome how (EndsOver rule before s_mid more after s_new ended)
+    → IfSome how (Stops rule (moment_of before r_old s_old) text (moment_of after r_end s_new) ended)
+stops_if rule before after r_old r_new r_end s_old s_mid s_new text more ended None c r s over = tt
+stops_if rule before after r_old r_new r_end s_old s_mid s_new text more ended (Some how) c r s over =
+    stops_over rule before after r_old r_new r_end s_old s_mid s_new text more ended how c r s over
 
 -- ---- bytes came, and their first request was answered
 
@@ -207,5 +219,5 @@ served_memory rule answerer r_old r_new s_old s_new ended how r said =
     (record {
       came = [];
       received = subst (λ (x : Option (List ℕ)). Appends r_old x []) (sym r) (Appends-nil r_old);
-      over = memory_over rule answerer answerer s_old s_new [] ended how no_room said;
+      over = memory_over rule answerer answerer s_old s_new [] ended how (no_link refl) said;
     })

@@ -3,7 +3,7 @@ use Rattle.std.proofs.Common.{ℕ, List, [], ◌∷◌, Option, Some, None, Bool
 use Rattle.cf_http.specs.declared.request.Request.{Request}
 use Rattle.cf_http.specs.declared.end.LinkEnd.{LinkEnd}
 use Rattle.cf_http.specs.Asking.{Rule}
-use Rattle.cf_http.specs.Talk.{Message, Answers, missed, told, Talk, LastAnswer, no_head, refused, closing, no_room, no_memory, Last, between, cut, answered, limit, read_fault, unsent_last, unsent, request_of}
+use Rattle.cf_http.specs.Talk.{Message, Answers, missed, told, Talk, LastAnswer, no_head, refused, closing, no_link, no_room, no_memory, Last, between, cut, answered, limit, read_fault, unsent_last, unsent, request_of}
 use Rattle.cf_http.specs.Serving.{Moment, moment_of, Served}
 use Rattle.cf_http.specs.Doors.{Tells, WereServed, DoorServed}
 
@@ -30,7 +30,8 @@ module _ {A B : Type 0} (rule : Rule A) (other : Rule B) (fits : A → B → Typ
   last_answer_as a _ b text _ _ (refused head why r) f = (b, refused head why r, f)
   last_answer_as a _ b text _ _ (closing m answer c begins closes says) f =
       let s = answers_as a c b m answer says f in (s.0, closing m answer s.0 begins closes s.1, s.2)
-  last_answer_as a _ b text _ _ no_room f = (b, no_room, f)
+  last_answer_as a _ b text _ _ (no_link none) f = (b, no_link none, f)
+  last_answer_as a _ b text _ _ (no_room m route begins e) f = (b, no_room m route begins e, f)
   last_answer_as a _ b text _ _ (no_memory m route c begins e says) f =
       let s = follows.step a c b (request_of route m) None says f in (s.0, no_memory m route s.0 begins e s.1, s.2)
 
@@ -40,7 +41,7 @@ module _ {A B : Type 0} (rule : Rule A) (other : Rule B) (fits : A → B → Typ
   last_as a _ b text ended _ _ (answered how answer c l) f =
       let s = last_answer_as a c b text how answer l f in (s.0, answered how answer s.0 s.1, s.2)
   last_as a _ b text ended _ _ limit f = (b, limit, f)
-  last_as a _ b text ended _ _ read_fault f = (b, read_fault, f)
+  last_as a _ b text ended _ _ (read_fault is) f = (b, read_fault is, f)
   last_as a _ b text ended _ _ (unsent_last how answer c l) f =
       let s = last_answer_as a c b text how answer l f in (s.0, unsent_last how answer s.0 s.1, s.2)
   last_as a _ b text ended _ _ (unsent m answer c begins stays says) f =
@@ -75,7 +76,7 @@ module _ {A B : Type 0} (rule : Rule A) (other : Rule B) (fits : A → B → Typ
   were_served_as tells a c b (link ∷ links) w f =
       let here = served_as _ _ b _ w.1.how w.1.served f in
       let rest = were_served_as tells w.0 c here.0 links w.2 here.2 in
-      (rest.0, (here.0, record { first = w.1.first; how = w.1.how; fresh = w.1.fresh; served = here.1; read = w.1.read; write = w.1.write }, rest.1), rest.2)
+      (rest.0, (here.0, record { first = w.1.first; how = w.1.how; fresh = w.1.fresh; served = here.1; read = w.1.read; write = w.1.write; quiet = w.1.quiet }, rest.1), rest.2)
 
   pub door_served_as : {L : Type 0} (tells : Tells L) (known : Bool) (a c : A) (b : B) (finished_old finished_new : List L) (given_old given_new count : ℕ)
       → DoorServed tells rule known a c finished_old finished_new given_old given_new count → fits a b

@@ -43,6 +43,9 @@ joins_at text heading b n =
     b.reads.1 ∙ ap (λ t. print_request b.head ++ t) (sym (take-append-drop n (drop heading.length text)) ∙ ap (λ t. take n (drop heading.length text) ++ t) (drop-drop n heading.length text))
     ∙ sym (append_assoc (print_request b.head) (take n (drop heading.length text)) (drop (heading.length + n) text))
 
+begins_at : (text : List ℕ) (heading : Heading) (b : BeginsWithHead text heading) (n : ℕ) → heading.body ≡ Ok n → heading.length + n ≤ length text → BeginsWith text (message_at text heading b n)
+begins_at text heading b n states whole = record { is_message = is_message_at text heading b n states whole; rest = drop (heading.length + n) text; joins = joins_at text heading b n }
+
 -- where it goes is in form
 pub route_at : (text : List ℕ) (heading : Heading) (b : BeginsWithHead text heading) (route : Route) → heading.ask ≡ Ok route → IsRouteInForm route
 route_at text heading b route e = ask_in_form b.head.method b.head.target route (sym (ap (λ (x : Heading). x.ask) b.asks) ∙ e)
@@ -150,11 +153,11 @@ told_over rule before _ old new text ended heading b n route _ ask states whole 
     said_over rule before after old new text (drop (heading.length + n) text) _ ended (message_at text heading b n) how (is_message_at text heading b n states whole)
     (joins_at text heading b n) (answers_at rule before after text heading b n route code body ask is says)
     (subst (λ (x : Bool). Said old new (answer_bytes code None heading.closes false body) x how) (closes_at text heading b n) said)
-told_over rule before _ old new text ended heading b n route _ ask states whole (turn.no_room how s) = memory_over rule before before old new text ended how no_room s
+told_over rule before _ old new text ended heading b n route _ ask states whole (turn.no_room how s) =
+    memory_over rule before before old new text ended how (no_room (message_at text heading b n) route (begins_at text heading b n states whole) (sym (ap (λ (x : Heading). x.ask) b.asks) ∙ ask)) s
 told_over rule before _ old new text ended heading b n route _ ask states whole (turn.no_memory after how says s) =
     memory_over rule before after old new text ended how
-    (no_memory (message_at text heading b n) route after
-    (record { is_message = is_message_at text heading b n states whole; rest = drop (heading.length + n) text; joins = joins_at text heading b n })
+    (no_memory (message_at text heading b n) route after (begins_at text heading b n states whole)
     (sym (ap (λ (x : Heading). x.ask) b.asks) ∙ ask) says) s
 
 -- ---- what follows an answer

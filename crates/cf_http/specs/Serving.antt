@@ -6,6 +6,7 @@ use Rattle.cf_http.specs.declared.end.LinkEnd.{LinkEnd}
 use Rattle.cf_http.specs.declared.end.LinkEnd.TheVariants as end
 use Rattle.cf_http.specs.Asking.{Rule}
 use Rattle.cf_heads.specs.Answers.{joined}
+use Rattle.cf_heads.specs.Heads.{IsOpenHead}
 use Rattle.cf_http.specs.Links.{SentFront}
 use Rattle.cf_http.specs.Talk.{Message, message_bytes, IsMessage, closes, Answers, Talk, IsCut, Last}
 
@@ -97,7 +98,7 @@ pub record Served {A : Type 0} (rule : Rule A) (old new : Moment A) (ended : Boo
 abbrev pub NoneCame : List ℕ → Bool → LinkEnd → Type 0
 NoneCame text ended end.Closed = (text ≡ []) × (ended ≡ true)
 NoneCame text ended end.Cut = IsCut text × (ended ≡ true)
-NoneCame text ended end.ReadFault = ⊤
+NoneCame text ended end.ReadFault = IsOpenHead text
 NoneCame text ended end.WriteFault = ⊥
 NoneCame text ended end.Limit = ⊥
 NoneCame text ended end.NoMemory = ⊥
@@ -106,7 +107,7 @@ NoneCame text ended end.NoMemory = ⊥
 abbrev pub IsBodyStop : ℕ → List ℕ → Bool → LinkEnd → Type 0
 IsBodyStop need text ended end.Closed = ⊥
 IsBodyStop need text ended end.Cut = (length text < need) × (ended ≡ true)
-IsBodyStop need text ended end.ReadFault = ⊤
+IsBodyStop need text ended end.ReadFault = length text < need
 IsBodyStop need text ended end.WriteFault = ⊥
 IsBodyStop need text ended end.Limit = ⊥
 IsBodyStop need text ended end.NoMemory = ⊥

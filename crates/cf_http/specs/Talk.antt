@@ -77,8 +77,9 @@ pub data LastAnswer {A : Type 0} (rule : Rule A) (before : A) (text : List ℕ) 
   no_head : IsNoHead text → LastAnswer rule before text end.Closed (refusal_answer false refusal.Head) before
   refused : (head : RequestHead) (why : Refusal) → IsRefused text head why → LastAnswer rule before text end.Closed (refusal_answer (heading_of head).is_head why) before
   closing : (m : Message) (answer : List ℕ) (after : A) → BeginsWith text m → closes m ≡ true → Answers rule before m answer after → LastAnswer rule before text end.Closed answer after
-  -- there is no memory to take the request, or to answer it
-  no_room : LastAnswer rule before text end.NoMemory memory_answer before
+  -- there is no memory: for the link, where no byte waits; to take a whole request that goes somewhere; or to answer it
+  no_link : text ≡ [] → LastAnswer rule before text end.NoMemory memory_answer before
+  no_room : (m : Message) (route : Route) → BeginsWith text m → (heading_of m.head).ask ≡ Ok route → LastAnswer rule before text end.NoMemory memory_answer before
   no_memory : (m : Message) (route : Route) (after : A) → BeginsWith text m → (heading_of m.head).ask ≡ Ok route
       → rule before (request_of route m) None after → LastAnswer rule before text end.NoMemory memory_answer after
 
@@ -88,7 +89,8 @@ pub data Last {A : Type 0} (rule : Rule A) (before : A) (text : List ℕ) (ended
   cut : IsCut text → ended ≡ true → Last rule before text ended end.Cut [] before
   answered : (how : LinkEnd) (answer : List ℕ) (after : A) → LastAnswer rule before text how answer after → Last rule before text ended how answer after
   limit : Last rule before text ended end.Limit [] before
-  read_fault : Last rule before text ended end.ReadFault [] before
+  -- what came before the fault is nothing, or breaks off inside a request
+  read_fault : (text ≡ []) ⊎ IsCut text → Last rule before text ended end.ReadFault [] before
   -- a front of the answer was sent
   unsent_last : (how : LinkEnd) (answer : List ℕ) (after : A) → LastAnswer rule before text how answer after → Last rule before text ended end.WriteFault answer after
   unsent : (m : Message) (answer : List ℕ) (after : A) → BeginsWith text m → closes m ≡ false → Answers rule before m answer after

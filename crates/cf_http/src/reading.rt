@@ -39,6 +39,7 @@ pub fn next_head<L: Link>(link: &mut L, routes: &Routes, inbox: &mut Inbox) -> N
     ensures next { IsNext inbox.new.bytes.items (L.ended link.new) result }
     ensures later { L.faults link.old ≤ L.faults link.new }
     ensures fault { result ≡ Next.Stop LinkEnd.ReadFault → Rose (L.faults link.old) (L.faults link.new) }
+    ensures quiet { result ≢ Next.Stop LinkEnd.ReadFault → L.faults link.new ≡ L.faults link.old }
 {
     loop {
         match read_head(routes, inbox.bytes.as_slice()) {
@@ -63,6 +64,7 @@ pub fn next_body<L: Link>(link: &mut L, inbox: &mut Inbox, need: usize) -> Optio
     ensures none { IfSome result (IsBodyStop need inbox.new.bytes.items (L.ended link.new)) }
     ensures later { L.faults link.old ≤ L.faults link.new }
     ensures fault { result ≡ Some LinkEnd.ReadFault → Rose (L.faults link.old) (L.faults link.new) }
+    ensures quiet { result ≢ Some LinkEnd.ReadFault → L.faults link.new ≡ L.faults link.old }
 {
     while inbox.bytes.len() < need {
         match inbox.fill(link) {

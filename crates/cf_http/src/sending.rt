@@ -1,6 +1,6 @@
 //! Answers are sent on a link.
 
-ghost use Rattle.std.specs.Prelude.{◌≡◌, ◌⊎◌, ◌≤◌, ◌++◌, ℕ, List, [], None, true, false, OnOk, OnErr, length, vec_capacity};
+ghost use Rattle.std.specs.Prelude.{◌≡◌, ◌≢◌, ◌⊎◌, ◌≤◌, ◌++◌, ℕ, List, [], None, true, false, OnOk, OnErr, length, vec_capacity};
 ghost use Rattle.std.specs.Io.KnownBytes.{Appends};
 ghost use Rattle.http.specs.StatusCode.{IsStatusCode};
 ghost use Rattle.cf_base.specs.Causes.{HasCause, Rose};
@@ -20,6 +20,7 @@ pub fn send_all<L: Link>(link: &mut L, bytes: &[u8]) -> Result<(), Failed>
     ensures received { L.received link.new ≡ L.received link.old }
     ensures ended { L.ended link.new ≡ L.ended link.old }
     ensures cause { HasCause (L.faults link.old) (L.faults link.new) result }
+    ensures quiet { OnOk result (L.faults link.new ≡ L.faults link.old) }
 {
     let mut rest = bytes;
     while !rest.is_empty() {
@@ -60,6 +61,7 @@ pub fn send_answer<L: Link>(
     ensures ended { L.ended link.new ≡ L.ended link.old }
     ensures capacity { vec_capacity lines.old ≤ vec_capacity lines.new }
     ensures cause { HasCause (L.faults link.old) (L.faults link.new) result }
+    ensures quiet { OnOk result (L.faults link.new ≡ L.faults link.old) }
 {
     write_lines(lines, told.code, body.len(), told.allow, told.closes);
     match send_all(link, lines.as_slice()) {
@@ -80,6 +82,7 @@ pub fn send_no_memory<L: Link>(link: &mut L) -> LinkEnd
     ensures ended { L.ended link.new ≡ L.ended link.old }
     ensures later { L.faults link.old ≤ L.faults link.new }
     ensures fault { result ≡ LinkEnd.WriteFault → Rose (L.faults link.old) (L.faults link.new) }
+    ensures quiet { result ≢ LinkEnd.WriteFault → L.faults link.new ≡ L.faults link.old }
 {
     match send_all(link, no_memory()) {
         Ok(()) => LinkEnd::NoMemory,
@@ -102,6 +105,7 @@ pub fn send_refusal<L: Link>(
     ensures capacity { vec_capacity lines.old ≤ vec_capacity lines.new }
     ensures later { L.faults link.old ≤ L.faults link.new }
     ensures fault { result ≡ LinkEnd.WriteFault → Rose (L.faults link.old) (L.faults link.new) }
+    ensures quiet { result ≢ LinkEnd.WriteFault → L.faults link.new ≡ L.faults link.old }
 {
     let told = Told {
         code: why.code(),

@@ -71,6 +71,7 @@ fn reply_missed<L: Link>(
     ensures capacity { vec_capacity lines.old ≤ vec_capacity lines.new }
     ensures later { L.faults link.old ≤ L.faults link.new }
     ensures fault { result ≡ Some LinkEnd.WriteFault → Rose (L.faults link.old) (L.faults link.new) }
+    ensures quiet { result ≢ Some LinkEnd.WriteFault → L.faults link.new ≡ L.faults link.old }
 {
     let told = Told {
         code: miss.code(),
@@ -114,6 +115,7 @@ fn reply_told<L: Link, A: Answer>(
     ensures received { L.received link.new ≡ L.received link.old }
     ensures later { L.faults link.old ≤ L.faults link.new }
     ensures fault { result ≡ Some LinkEnd.WriteFault → Rose (L.faults link.old) (L.faults link.new) }
+    ensures quiet { result ≢ Some LinkEnd.WriteFault → L.faults link.new ≡ L.faults link.old }
 {
     let Ok(body) = body_in(alloc, workspace.inbox.bytes.as_slice(), heading, stated) else {
         return Some(send_no_memory(link));
@@ -160,6 +162,7 @@ fn reply<L: Link, A: Answer>(
     ensures received { L.received link.new ≡ L.received link.old }
     ensures later { L.faults link.old ≤ L.faults link.new }
     ensures write { result ≡ Some LinkEnd.WriteFault → Rose (L.faults link.old) (L.faults link.new) }
+    ensures quiet { result ≢ Some LinkEnd.WriteFault → L.faults link.new ≡ L.faults link.old }
     ensures kind { IfSome result IsAfterAnswer }
 {
     let count = heading.length + stated;
@@ -184,6 +187,7 @@ fn refuse_text<L: Link, A: Answer>(link: &mut L, answer: &A, workspace: &mut Wor
     ensures received { L.received link.new ≡ L.received link.old }
     ensures later { L.faults link.old ≤ L.faults link.new }
     ensures write { result ≡ LinkEnd.WriteFault → Rose (L.faults link.old) (L.faults link.new) }
+    ensures quiet { result ≢ LinkEnd.WriteFault → L.faults link.new ≡ L.faults link.old }
     ensures kind { IsAfterAnswer result }
 {
     send_refusal(link, &mut workspace.lines, false, Refusal::Head)
@@ -203,6 +207,7 @@ fn refuse_head<L: Link, A: Answer>(
     ensures received { L.received link.new ≡ L.received link.old }
     ensures later { L.faults link.old ≤ L.faults link.new }
     ensures write { result ≡ LinkEnd.WriteFault → Rose (L.faults link.old) (L.faults link.new) }
+    ensures quiet { result ≢ LinkEnd.WriteFault → L.faults link.new ≡ L.faults link.old }
     ensures kind { IsAfterAnswer result }
 {
     send_refusal(link, &mut workspace.lines, heading.is_head, why)
@@ -224,6 +229,7 @@ pub fn serve_next<L: Link, A: Answer>(
     ensures later { L.faults link.old ≤ L.faults link.new }
     ensures read { result ≡ Some LinkEnd.ReadFault → Rose (L.faults link.old) (L.faults link.new) }
     ensures write { result ≡ Some LinkEnd.WriteFault → Rose (L.faults link.old) (L.faults link.new) }
+    ensures quiet { result ≢ Some LinkEnd.ReadFault → result ≢ Some LinkEnd.WriteFault → L.faults link.new ≡ L.faults link.old }
     ensures limit { result ≢ Some LinkEnd.Limit }
 {
     let heading = match next_head(link, &workspace.routes, &mut workspace.inbox) {
