@@ -13,8 +13,7 @@ use cf_desk::{Unread, read_all, write_all};
 use std::alloc::Global;
 
 /// Runs a command over the bytes of its file. The file is only read: nothing else of it can be asked of a source. What
-/// is read of a journal that a desk writes to meanwhile is a state that it had, since an entry counts once its gate is
-/// open, which comes last.
+/// is read of a journal that a desk writes to meanwhile isn't said to be a state that it had (`docs/JOURNAL.md`).
 pub fn run<S: Source, K: Sink>(
     alloc: Global,
     command: Command,

@@ -103,17 +103,16 @@ fn show<H: History>(alloc: Global, history: &H, read: &Read) -> Result<Body, All
     }
 }
 
-/// What a look shows. A look is refused where the caller has seen more than the history has, and where there is
-/// nothing of its name. Its list of items takes memory.
+/// What a look shows. A look is refused where the caller has seen more than the history has, for which it takes no memory, and
+/// where there is nothing of its name. Its list of items takes memory.
 pub fn answer<H: History>(alloc: Global, history: &H, look: &Look) -> Result<Body, AllocError>
     requires form { IsReadInForm look.now.read }
     requires lent { LendsRead (H.lends history.now) look.now.read }
     ensures { IfOk result (λ b. b ≡ step.look_body (H.plan history.now) (H.entries history.now) look.now) }
 {
-    let body = show(alloc, history, &look.read)?;
     match ahead_rule(look.after, history.len()) {
         Some(refusal) => Ok(Body::Refused(refusal)),
-        None => Ok(body),
+        None => show(alloc, history, &look.read),
     }
 }
 
