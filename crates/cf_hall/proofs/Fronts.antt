@@ -1,7 +1,7 @@
 -- What a crash leaves while a hall is open goes on recovering to fronts of its history.
-use Rattle.std.proofs.Common.{◌≡◌, ℕ, List, ◌++◌, length, take, drop, sym, subst, ap, ◌∙◌, inl, inr, ⊎_elim, append_assoc, arith}
+use Rattle.std.proofs.Common.{◌≡◌, ℕ, ◌≤◌, List, ◌++◌, length, take, drop, sym, subst, ap, ◌∙◌, inl, inr, ⊎_elim, append_assoc, arith}
 use Rattle.std.specs.Bool.{⊤}
-use Rattle.std.proofs.lemmas.List.{take-append-drop}
+use Rattle.std.proofs.lemmas.List.{take-append-drop, length-take}
 use Rattle.std.proofs.Math.Seq.{take-append_seam, take-length}
 use Rattle.cf_book.specs.Books.{RecoversNear}
 use Rattle.cf_calls.specs.declared.entry.Entry.{Entry}
@@ -15,8 +15,8 @@ near_any plan h P image (inl without) = inl without
 near_any plan h P image (inr with) = inr (with.0, tt, with.2)
 
 -- a history is a front of itself
-pub whole_front : (plan : Plan) (h : List Entry) (P : Entry → Type 0) (image : List ℕ) → RecoversNear plan h P image → RecoversToFront plan h image
-whole_front plan h P image near = (length h, rw (take-length h) (near_any plan h P image near))
+pub whole_front : (plan : Plan) (least : ℕ) (h : List Entry) (P : Entry → Type 0) (image : List ℕ) → least ≤ length h → RecoversNear plan h P image → RecoversToFront plan least h image
+whole_front plan least h P image long near = (length h, long, rw (take-length h) (near_any plan h P image near))
 
 same_front : (h more : List Entry) (n : ℕ) → take (length (take n h)) (h ++ more) ≡ take n h
 same_front h more n =
@@ -24,30 +24,30 @@ same_front h more n =
     ap (λ (l : List Entry). take (length front) (l ++ more)) (sym (take-append-drop n h)) ∙ ap (take (length front)) (append_assoc front (drop n h) more) ∙ take-append_seam front (drop n h ++ more)
 
 -- a front of a history is one of a longer history
-pub longer_front : (plan : Plan) (h more : List Entry) (image : List ℕ) → RecoversToFront plan h image → RecoversToFront plan (h ++ more) image
-longer_front plan h more image front =
-    (length (take front.0 h), subst (λ (l : List Entry). RecoversNear plan l (λ e. ⊤) image) (sym (same_front h more front.0)) front.1)
+pub longer_front : (plan : Plan) (least : ℕ) (h more : List Entry) (image : List ℕ) → least ≤ length h → RecoversToFront plan least h image → RecoversToFront plan least (h ++ more) image
+longer_front plan least h more image long front =
+    (length (take front.0 h), omega (arith, long, front.1, length-take front.0 h), subst (λ (l : List Entry). RecoversNear plan l (λ e. ⊤) image) (sym (same_front h more front.0)) front.2)
 
-module _ {D : Type 0} (moment : D → ℕ) (was_image : D → ℕ → List ℕ → Type 0) (plan : Plan) where
+module _ {D : Type 0} (moment : D → ℕ) (was_image : D → ℕ → List ℕ → Type 0) (plan : Plan) (least : ℕ) where
   -- after one call more, which kept the history or added to it
-  pub kept_on : (h new more : List Entry) (P : Entry → Type 0) (begun : ℕ) (old disk : D) → new ≡ h ++ more → IsKeptSince moment was_image plan h begun old
-      → AtEachMoment moment was_image old disk (RecoversNear plan h P) → KeptSince moment was_image plan new begun disk
-  kept_on h new more P begun old disk grows (inl here) run = record {
+  pub kept_on : (h new more : List Entry) (P : Entry → Type 0) (begun : ℕ) (old disk : D) → least ≤ length h → new ≡ h ++ more → IsKeptSince moment was_image plan least h begun old
+      → AtEachMoment moment was_image old disk (RecoversNear plan h P) → KeptSince moment was_image plan least new begun disk
+  kept_on h new more P begun old disk long grows (inl here) run = record {
     later = omega (arith, here, run.later);
-    images = λ image was. subst (λ (l : List Entry). RecoversToFront plan l image) (sym grows)
-        (longer_front plan h more image (whole_front plan h P image (run.images image (subst (λ (t : ℕ). was_image disk t image) (sym here) was))));
+    images = λ image was. subst (λ (l : List Entry). RecoversToFront plan least l image) (sym grows)
+        (longer_front plan least h more image long (whole_front plan least h P image long (run.images image (subst (λ (t : ℕ). was_image disk t image) (sym here) was))));
   }
-  kept_on h new more P begun old disk grows (inr kept) run = record {
+  kept_on h new more P begun old disk long grows (inr kept) run = record {
     later = omega (arith, kept.later, run.later);
-    images = λ image was. subst (λ (l : List Entry). RecoversToFront plan l image) (sym grows)
-        (longer_front plan h more image (⊎_elim (λ before. kept.images image before) (λ near. whole_front plan h P image near) (run.since begun image kept.later was)));
+    images = λ image was. subst (λ (l : List Entry). RecoversToFront plan least l image) (sym grows)
+        (longer_front plan least h more image long (⊎_elim (λ before. kept.images image before) (λ near. whole_front plan least h P image long near) (run.since begun image kept.later was)));
   }
 
   -- at the end
-  pub kept_end : (is_image : D → List ℕ → Type 0) (h : List Entry) (P : Entry → Type 0) (begun : ℕ) (disk : D) → ((image : List ℕ) → was_image disk (moment disk) image → is_image disk image)
-      → ((image : List ℕ) → is_image disk image → RecoversNear plan h P image) → IsKeptSince moment was_image plan h begun disk → KeptSince moment was_image plan h begun disk
-  kept_end is_image h P begun disk only_now near (inl here) = record {
+  pub kept_end : (is_image : D → List ℕ → Type 0) (h : List Entry) (P : Entry → Type 0) (begun : ℕ) (disk : D) → least ≤ length h → ((image : List ℕ) → was_image disk (moment disk) image → is_image disk image)
+      → ((image : List ℕ) → is_image disk image → RecoversNear plan h P image) → IsKeptSince moment was_image plan least h begun disk → KeptSince moment was_image plan least h begun disk
+  kept_end is_image h P begun disk long only_now near (inl here) = record {
     later = omega (arith, here);
-    images = λ image was. whole_front plan h P image (near image (only_now image (subst (λ (t : ℕ). was_image disk t image) (sym here) was)));
+    images = λ image was. whole_front plan least h P image long (near image (only_now image (subst (λ (t : ℕ). was_image disk t image) (sym here) was)));
   }
-  kept_end is_image h P begun disk only_now near (inr kept) = kept
+  kept_end is_image h P begun disk long only_now near (inr kept) = kept

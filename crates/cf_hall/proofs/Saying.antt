@@ -1,18 +1,21 @@
 -- What is said of a call, and what its pass is told.
-use Rattle.std.proofs.Common.{◌≡◌, ℕ, ◌+◌, ◌≤◌, List, [], ◌∷◌, ◌++◌, length, refl, sym, ap, subst, ◌∙◌, arith, inl, inr, length-append, min, ◌^◌, ◌-◌}
+use Rattle.std.proofs.Common.{◌≡◌, ◌⊎◌, ⊎_elim, ℕ, ◌+◌, ◌≤◌, List, [], ◌∷◌, ◌++◌, Option, None, length, refl, sym, ap, subst, ◌∙◌, arith, inl, inr, length-append, min, ◌^◌, ◌-◌}
 use mathlib.Core.List.{IsPrefix}
 use Rattle.cf_calls.specs.declared.call.Call.{Call}
+use Rattle.cf_calls.specs.declared.call.Call.TheVariants as call
 use Rattle.cf_calls.specs.declared.entry.Entry.{Entry}
 use Rattle.cf_calls.specs.declared.reply.Posted.{Posted}
 use Rattle.cf_calls.specs.declared.reply.Posted.TheVariants as posted
 use Rattle.cf_calls.specs.declared.reply.Reply.{Reply}
+use Rattle.cf_calls.specs.declared.reply.Verdict.{Verdict}
+use Rattle.cf_calls.specs.declared.reply.Verdict.TheVariants.{Accept, Repeat, Refuse}
 use Rattle.cf_chart.specs.Plan.{Plan}
-use Rattle.cf_model.specs.Step.{body_of, next_of}
+use Rattle.cf_model.specs.Step.{IsLegal, body_of, next_of, verdict_of}
 use Rattle.cf_book.specs.DurableState.{DurableState}
-use Rattle.cf_book.specs.Settling.{Settles}
+use Rattle.cf_book.specs.Settling.{Settles, doubt_by, next_doubt}
 use Rattle.cf_names.specs.Closing.{RoseBy}
 use Rattle.cf_names.specs.Lists.{entries_of}
-use Rattle.cf_names.specs.Telling.{Reads, Tells}
+use Rattle.cf_names.specs.Telling.{IsAccepted, Reads, Tells}
 use Rattle.cf_names.proofs.Entries.{entries_length}
 use Rattle.cf_turns.specs.Lists.{TaggedEntry, longer}
 use Rattle.cf_turns.specs.States.{PassState}
@@ -24,12 +27,13 @@ use Rattle.cf_hall.proofs.Longer.{longer_second}
 -- what a call's answer says of the history, and of the next one
 abbrev pub Said : Plan → List Entry → Call → Posted → List Entry → Type 0
 Said plan h c (posted.Reply r) after = (body_of plan h c ≡ r.body) × ((after ≡ next_of plan h c) × (r.at ≡ length after))
-Said plan h c _ after = Unit {0}
+Said plan h c posted.NoMemory after = Unit {0}
+Said plan h c posted.Disk after = IsAccepted plan h c
 
 pub said : (s : DurableState) (c : Call) (given : Posted) (after : DurableState) → Settles s c given after → Said s.plan s.entries c given after.entries
 said s c given after (Settles.replied body is) = (is, (refl, refl))
 said s c given after Settles.memory = tt
-said s c given after (Settles.failed _ fails) = tt
+said s c given after (Settles.failed _ fails) = record { change = fails.would.change; drawn = fails.would.drawn; called = fails.would.called; accepts = fails.would.accepts }
 
 pub said_at : (plan : Plan) (h h' : List Entry) (c : Call) (given : Posted) (s after : DurableState) → s.plan ≡ plan → s.entries ≡ h → after.entries ≡ h' → Settles s c given after → Said plan h c given h'
 said_at plan h h' c given s after p e e' settles =
@@ -46,6 +50,26 @@ pub quiet_by : (s : DurableState) (c : Call) (given : Posted) (after : DurableSt
 quiet_by s c given after n risen (Settles.replied body is) quiet none = quiet (omega (arith, none))
 quiet_by s c given after n risen Settles.memory quiet none = quiet (omega (arith, none))
 quiet_by s c given after n risen (Settles.failed _ fails) quiet none = absurd (omega (arith, none))
+
+doubt_stays : (v : Verdict) (d : Option Entry) → (doubt_by v d ≡ d) ⊎ (doubt_by v d ≡ None)
+doubt_stays (Accept drawn) d = inr refl
+doubt_stays (Repeat was) d = inl refl
+doubt_stays (Refuse r) d = inl refl
+
+next_stays : (s : DurableState) (c : Call) → (next_doubt s c ≡ s.doubt) ⊎ (next_doubt s c ≡ None)
+next_stays s (call.Change c) = doubt_stays (verdict_of s.plan s.entries c) s.doubt
+next_stays s (call.Look l) = inl refl
+
+-- nor came anything in doubt
+pub clear_by : (s : DurableState) (c : Call) (given : Posted) (after : DurableState) (n : ℕ) (first : Option Entry) → Settles s c given after → (n ≡ 0 → (s.doubt ≡ first) ⊎ (s.doubt ≡ None)) → n + faults_by given ≡ 0
+    → (after.doubt ≡ first) ⊎ (after.doubt ≡ None)
+clear_by s c given after n first (Settles.replied body is) clear none =
+    elim (next_stays s c) [
+      | inl same ↦ ⊎_elim (λ e. inl (same ∙ e)) (λ e. inr (same ∙ e)) (clear (omega (arith, none)))
+      | inr gone ↦ inr gone
+    ]
+clear_by s c given after n first Settles.memory clear none = clear (omega (arith, none))
+clear_by s c given after n first (Settles.failed _ fails) clear none = absurd (omega (arith, none))
 
 -- ---- the pass
 
@@ -68,8 +92,8 @@ module _ (plan : Plan) (old now new : PassState) (list : List TaggedEntry) (c : 
   learned : new ≡ record now { seen = longer now.seen list } → new.seen ≡ list
   learned is = ap (λ (p : PassState). p.seen) is ∙ ap (λ (xs : List TaggedEntry). longer xs list) seen_now ∙ longer_second old.seen list short
 
-  pub told_kept : (given : Posted) → Said plan (entries_of list) c given (entries_of list) → Sights now list given new → IsPrefix now.seen new.seen → Tells plan old new c given
-  told_kept (posted.Reply r) s is pre =
+  pub told_kept : (given : Posted) → Said plan (entries_of list) c given (entries_of list) → IsLegal plan (entries_of list) → Sights now list given new → IsPrefix now.seen new.seen → Tells plan old new c given
+  told_kept (posted.Reply r) s legal is pre =
       let seen = learned is in
       let entries : entries_of list ≡ entries_of new.seen = ap entries_of (sym seen) in
       let at : r.at ≡ length new.seen = s.1.1 ∙ entries_length list ∙ ap length (sym seen) in
@@ -88,18 +112,19 @@ module _ (plan : Plan) (old now new : PassState) (list : List TaggedEntry) (c : 
           }),
         ),
       )
-  told_kept posted.NoMemory s is pre = (
+  told_kept posted.NoMemory s legal is pre = (
     reads_of new (ap (λ (p : PassState). p.table) is) (ap (λ (p : PassState). p.number) is) (ap (λ (p : PassState). p.reads) is) pre,
     (
       record { seen = ap (λ (p : PassState). p.seen) is ∙ seen_now; places = ap (λ (p : PassState). p.places) is ∙ ap (λ (p : PassState). p.places) asked.now_is },
       ap (λ (p : PassState). p.faults) is ∙ ap (λ (p : PassState). p.faults) asked.now_is,
     ),
   )
-  told_kept posted.Disk s is pre = (
+  told_kept posted.Disk s legal is pre = (
     reads_of new (ap (λ (p : PassState). p.table) is) (ap (λ (p : PassState). p.number) is) (ap (λ (p : PassState). p.reads) is) pre,
     (
       record { seen = ap (λ (p : PassState). p.seen) is ∙ seen_now; places = ap (λ (p : PassState). p.places) is ∙ ap (λ (p : PassState). p.places) asked.now_is },
       ap (λ (p : PassState). p.faults) is ∙ ap (λ (n : ℕ). min (n + 1) (2 ^ 64 - 1)) (ap (λ (p : PassState). p.faults) asked.now_is),
+      record { history = entries_of list; legal = legal; long = omega (arith, short, entries_length list); accepted = s },
     ),
   )
 

@@ -1,5 +1,5 @@
 -- What closing a hall tells.
-use Rattle.std.specs.Prelude.{◌≡◌, ℕ, Bool, IsTrue, IfSome, All, List, [], ◌∷◌, ◌++◌, length, map, Option, Some}
+use Rattle.std.specs.Prelude.{◌≡◌, ◌⊎◌, ℕ, Bool, IsTrue, IfSome, All, List, [], ◌∷◌, ◌++◌, length, map, Option, Some, None}
 use mathlib.Core.List.{IsPrefix}
 use Rattle.cf_book.specs.Books.{RecoversNear}
 use Rattle.cf_calls.specs.declared.entry.Entry.{Entry}
@@ -13,9 +13,10 @@ use Rattle.cf_hall.specs.Fronts.{KeptSince}
 
 -- A hall that had this chart and these passes was closed: there is one list of which each pass has seen a beginning, and each
 -- entry was recorded for exactly one of them. Its history is sound, and whatever a crash leaves of the disk recovers to it,
--- or to it and the entry in doubt; at each moment since the hall was opened, to a front of it, or to that and one entry. The
--- disk's count of faults rose by the passes' fault replies at least, and not at all where there was none.
-pub record HallEnds {D : Type 0} (tells : Bool) (is_image : D → List ℕ → Type 0) (moment : D → ℕ) (was_image : D → ℕ → List ℕ → Type 0) (faults : D → ℕ) (plan : Plan) (begun risen : ℕ) (kept : PassState) (passes : List PassState) (many : ℕ) (disk : D) : Type 0 where
+-- or to it and the entry in doubt; at each moment since the hall was opened, to a front of it, no shorter than the history was
+-- then, or to that and one entry. The disk's count of faults rose by the passes' fault replies at least. Where there was none it
+-- stands, and nothing came in doubt.
+pub record HallEnds {D : Type 0} (tells : Bool) (is_image : D → List ℕ → Type 0) (moment : D → ℕ) (was_image : D → ℕ → List ℕ → Type 0) (faults : D → ℕ) (plan : Plan) (first : ℕ) (in_doubt : Option Entry) (begun risen : ℕ) (kept : PassState) (passes : List PassState) (many : ℕ) (disk : D) : Type 0 where
   pub list : List TaggedEntry
   pub doubt : Option Entry
   pub many_is : many ≡ length list
@@ -25,6 +26,7 @@ pub record HallEnds {D : Type 0} (tells : Bool) (is_image : D → List ℕ → T
   pub sound : IsSoundState (record { plan = plan; entries = entries_of list })
   pub doubt_sound : IfSome doubt (λ e. IsSoundState (record { plan = plan; entries = entries_of list ++ e ∷ [] }))
   pub images : IsTrue tells → (image : List ℕ) → is_image disk image → RecoversNear plan (entries_of list) (λ e. doubt ≡ Some e) image
-  pub any_moment : IsTrue tells → KeptSince moment was_image plan (entries_of list) begun disk
+  pub any_moment : IsTrue tells → KeptSince moment was_image plan first (entries_of list) begun disk
   pub faulted : RoseBy (faults_in (map receipts_of passes)) risen (faults disk)
   pub quiet : faults_in (map receipts_of passes) ≡ 0 → faults disk ≡ risen
+  pub clear : faults_in (map receipts_of passes) ≡ 0 → (doubt ≡ in_doubt) ⊎ (doubt ≡ None)

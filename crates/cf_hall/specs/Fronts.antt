@@ -4,15 +4,16 @@ use Rattle.cf_book.specs.Books.{RecoversNear}
 use Rattle.cf_calls.specs.declared.entry.Entry.{Entry}
 use Rattle.cf_chart.specs.Plan.{Plan}
 
--- the bytes recover to a front of the history, or to that and one entry
-abbrev pub RecoversToFront : Plan → List Entry → List ℕ → Type 0
-RecoversToFront plan history image = (n : ℕ) × RecoversNear plan (take n history) (λ e. ⊤) image
+-- the bytes recover to a front of the history that has so many entries at least, or to that and one entry
+abbrev pub RecoversToFront : Plan → ℕ → List Entry → List ℕ → Type 0
+RecoversToFront plan least history image = (n : ℕ) × (least ≤ n) × RecoversNear plan (take n history) (λ e. ⊤) image
 
--- at each moment since this one, whatever a crash left recovers to a front of the history, or to that and one entry
-pub record KeptSince {D : Type 0} (moment : D → ℕ) (was_image : D → ℕ → List ℕ → Type 0) (plan : Plan) (history : List Entry) (begun : ℕ) (disk : D) : Type 0 where
+-- At each moment since this one, whatever a crash left recovers to a front of the history, no shorter than it was then, or to
+-- that and one entry.
+pub record KeptSince {D : Type 0} (moment : D → ℕ) (was_image : D → ℕ → List ℕ → Type 0) (plan : Plan) (least : ℕ) (history : List Entry) (begun : ℕ) (disk : D) : Type 0 where
   pub later : begun ≤ moment disk
-  pub images : (image : List ℕ) → was_image disk begun image → RecoversToFront plan history image
+  pub images : (image : List ℕ) → was_image disk begun image → RecoversToFront plan least history image
 
 -- it is that moment still, or the history was kept since then
-abbrev pub IsKeptSince : {D : Type 0} → (D → ℕ) → (D → ℕ → List ℕ → Type 0) → Plan → List Entry → ℕ → D → Type 0
-IsKeptSince moment was_image plan history begun disk = (moment disk ≡ begun) ⊎ KeptSince moment was_image plan history begun disk
+abbrev pub IsKeptSince : {D : Type 0} → (D → ℕ) → (D → ℕ → List ℕ → Type 0) → Plan → ℕ → List Entry → ℕ → D → Type 0
+IsKeptSince moment was_image plan least history begun disk = (moment disk ≡ begun) ⊎ KeptSince moment was_image plan least history begun disk

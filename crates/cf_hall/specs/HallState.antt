@@ -1,5 +1,5 @@
 -- The book of a hall, and how a call changes its list.
-use Rattle.std.specs.Prelude.{◌≡◌, ◌⊎◌, ℕ, Bool, IsTrue, List, [], ◌∷◌, ◌++◌, length}
+use Rattle.std.specs.Prelude.{◌≡◌, ◌⊎◌, ℕ, ◌≤◌, Bool, IsTrue, List, [], ◌∷◌, ◌++◌, length, Option, None}
 use Rattle.atomic_table.specs.Seated.{TableId}
 use Rattle.cf_book.specs.DurableState.{DurableBook}
 use Rattle.cf_budget.specs.Tables.{Tables, has_line}
@@ -25,17 +25,20 @@ pub record BookState (D : Type 0) : Type 0 where
   pub archive : DurableBook D
   pub recorder : RecorderState
 
--- The history is the recorder's list, of this chart. So many calls were accepted as it has entries, and the disk's count of
--- faults has risen by the fault replies at least, and not at all where there was none. No pass was ended. Since the hall was
--- opened a crash left what recovers to a front of the history, or to that and one entry.
-pub record IsHallBook {D : Type 0} (tells : Bool) (moment : D → ℕ) (was_image : D → ℕ → List ℕ → Type 0) (faults : D → ℕ) (under : Plan) (begun risen : ℕ) (archive : DurableBook D) (recorder : RecorderState) (totals : TotalsState) : Type 0 where
+-- The history is the recorder's list, of this chart, and has the entries that it was opened with at least. So many calls were
+-- accepted as it has entries, and the disk's count of faults has risen by the fault replies at least. Where there was none it
+-- stands, and nothing came in doubt. No pass was ended. Since the hall was opened a crash left what recovers to a front of the
+-- history, no shorter than it was then, or to that and one entry.
+pub record IsHallBook {D : Type 0} (tells : Bool) (moment : D → ℕ) (was_image : D → ℕ → List ℕ → Type 0) (faults : D → ℕ) (under : Plan) (first : ℕ) (doubt : Option Entry) (begun risen : ℕ) (archive : DurableBook D) (recorder : RecorderState) (totals : TotalsState) : Type 0 where
   pub plan : archive.plan ≡ under
   pub list : archive.entries ≡ entries_of recorder.list
+  pub from : first ≤ length recorder.list
   pub accepted : totals.accepted ≡ length recorder.list
   pub faulted : RoseBy totals.faulted risen (faults archive.disk)
   pub quiet : totals.faulted ≡ 0 → faults archive.disk ≡ risen
+  pub clear : totals.faulted ≡ 0 → (archive.doubt ≡ doubt) ⊎ (archive.doubt ≡ None)
   pub none_ended : recorder.ended ≡ []
-  pub since : IsTrue tells → IsKeptSince moment was_image archive.plan archive.entries begun archive.disk
+  pub since : IsTrue tells → IsKeptSince moment was_image archive.plan first archive.entries begun archive.disk
 
 -- the list stays, or grows by one entry for the pass of this number
 abbrev pub ListGrows : List TaggedEntry → ℕ → List TaggedEntry → Type 0

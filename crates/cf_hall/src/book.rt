@@ -1,15 +1,16 @@
 //! The book of the hall, which one call at a time has, and what it does for a call.
 
-ghost use Rattle.std.specs.Prelude.{◌≡◌, ◌+◌, ◌≤◌, ℕ, List, [], ◌∷◌, ◌++◌, None, IsTrue, length, map};
+ghost use Rattle.std.specs.Prelude.{◌≡◌, ◌+◌, ◌≤◌, ℕ, List, [], ◌∷◌, ◌++◌, None, IsTrue, false, length, map};
 ghost use Rattle.std.specs.Vec.{vec_len, vec_capacity};
 ghost use mathlib.Core.List.{IsPrefix};
 ghost use Rattle.cf_book.specs.Archives.{LendsCall};
-ghost use Rattle.cf_book.specs.Books.{IsInHand, RecoversNear};
+ghost use Rattle.cf_book.specs.Books.{IsInHand, RecoversNear, accepts};
 ghost use Rattle.cf_book.specs.DurableState.{state_of};
 ghost use Rattle.cf_book.specs.Settling.{Settles};
 ghost use Rattle.cf_budget.specs.Tables.{has_line, SameStripes};
 ghost use Rattle.cf_calls.specs.Form.{IsCallInForm};
 ghost use Rattle.cf_calls.specs.declared.entry.Entry.{Entry as EntryOf};
+ghost use Rattle.cf_calls.specs.declared.reply.Posted.TheVariants as posted;
 ghost use Rattle.cf_disk.specs.Moments.{AtEachMoment};
 ghost use Rattle.cf_names.specs.Closing.{receipts_of};
 ghost use Rattle.cf_names.specs.Lists.{entries_of};
@@ -50,7 +51,7 @@ impl<N: City, D: Disk + Drop> Model for HallBook<N, D> {
 
     ghost view = { λ b. record { archive = b.archive; recorder = b.recording } };
 
-    ghost invariant = { λ b. IsHallBook D.tells D.moment D.was_image D.faults N.plan N.begun N.risen b.archive b.recording b.totals };
+    ghost invariant = { λ b. IsHallBook D.tells D.moment D.was_image D.faults N.plan N.first N.doubt N.begun N.risen b.archive b.recording b.totals };
 }
 
 /// What the pass sees after an answer that added nothing. A fault reply is counted.
@@ -109,17 +110,21 @@ fn add_last<N: City, D: Disk + Drop>(
 }
 
 impl<N: City, D: Disk + Drop> HallBook<N, D> {
-    /// A pass with the next number, which has seen nothing.
+    /// A pass with the next number, which has seen the whole list.
     pub(crate) fn open_pass(&mut self, turns: &Turns) -> Pass
         requires own { turns.now ≡ N.table }
         ensures table { result.table ≡ N.table }
-        ensures fresh { (result.seen ≡ []) × (result.places ≡ []) × (result.faults ≡ 0) }
+        ensures seen { N.first ≤ length result.seen }
+        ensures fresh { (result.places ≡ []) × (result.faults ≡ 0) }
     {
-        self.recording.open_pass(turns)
+        let mut pass = self.recording.open_pass(turns);
+        self.recording.tell(turns, &mut pass);
+        pass
     }
 
     /// What is done for a call while its caller has the book. The stripes of the call were taken and owe nothing. After
-    /// an accepted call they owe its entry's changes, and stand for the history once those are made. None is lost.
+    /// an accepted call they owe its entry's changes, and stand for the history once those are made. None is lost. Only a change
+    /// that the rules accept touches the disk, and not where memory was wanting.
     pub fn settle(
         &mut self,
         alloc: Global,
@@ -137,6 +142,8 @@ impl<N: City, D: Disk + Drop> HallBook<N, D> {
         ensures taken { AllSeen self.new.recorder.list taken.new.ties }
         ensures stripes { SameStripes taken.old.lines taken.new.lines }
         ensures pass { Tells N.plan pass.old pass.new call.now result }
+        ensures disk { accepts self.old.archive.plan self.old.archive.entries call.now ≡ false → self.new.archive.disk ≡ self.old.archive.disk }
+        ensures memory { result ≡ posted.NoMemory → self.new.archive.disk ≡ self.old.archive.disk }
 
         // What a crash leaves at any moment of the call.
         ensures any_moment { IsTrue D.tells → AtEachMoment D.moment D.was_image self.old.archive.disk self.new.archive.disk
@@ -179,7 +186,7 @@ impl<N: City, D: Disk + Drop> HallBook<N, D> {
         requires empty { receipts.old.items ≡ [] }
         requires room { vec_len receipts.old + length passes.items ≤ vec_capacity receipts.old }
         ensures receipts { receipts.new.items ≡ map receipts_of passes.items }
-        ensures ends { HallEnds D.tells D.is_image D.moment D.was_image D.faults N.plan N.begun N.risen kept passes.items result.length result.disk }
+        ensures ends { HallEnds D.tells D.is_image D.moment D.was_image D.faults N.plan N.first N.doubt N.begun N.risen kept passes.items result.length result.disk }
     {
         let HallBook {
             archive,

@@ -40,6 +40,8 @@ impl<N: City, D: Disk + Drop> Hall<N, D> {
         requires stripes { (k : ℕ) → k < 8 → name_at opening.stripes k ≡ N.stripes k }
         requires ledgers { (opening.accepted.name ≡ N.accepted) × (opening.faulted.name ≡ N.faulted) }
         requires plan { (book.plan ≡ N.plan) × (chart ≡ N.plan) }
+        requires first { length book.entries ≡ N.first }
+        requires doubt { book.doubt ≡ N.doubt }
         requires begun { D.moment book.disk ≡ N.begun }
         requires risen { D.faults book.disk ≡ N.risen }
         ensures entered { result.entered ≡ 0 }
@@ -85,13 +87,13 @@ impl<N: City, D: Disk + Drop> Hall<N, D> {
         self.entered
     }
 
-    /// Opens a pass. It waits for nobody, and takes no memory.
+    /// Opens a pass, which has seen the whole history. It waits for nobody, and takes no memory.
     pub fn enter(&mut self) -> HallPass<N>
         requires { self.old.entered < 65535 }
         ensures entered { self.new.entered ≡ self.old.entered + 1 }
         ensures shared { self.new.shared ≡ self.old.shared }
         ensures kept { self.new.kept ≡ self.old.kept }
-        ensures pass { IsFreshPass result }
+        ensures pass { IsFreshPass N.first result }
     {
         let pass = self.shared.open_pass();
         let shares = self.spare.split_one();
@@ -106,7 +108,7 @@ impl<N: City, D: Disk + Drop> Hall<N, D> {
         requires empty { receipts.old.items ≡ [] }
         requires room { vec_len receipts.old + length passes.items ≤ vec_capacity receipts.old }
         ensures receipts { receipts.new.items ≡ map receipts_of passes.items }
-        ensures ends { HallEnds D.tells D.is_image D.moment D.was_image D.faults N.plan N.begun N.risen self.kept passes.items result.length result.disk }
+        ensures ends { HallEnds D.tells D.is_image D.moment D.was_image D.faults N.plan N.first N.doubt N.begun N.risen self.kept passes.items result.length result.disk }
     {
         let Hall {
             shared,

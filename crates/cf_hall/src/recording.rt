@@ -3,6 +3,7 @@
 ghost use Rattle.std.specs.Prelude.{◌≡◌, ◌+◌, ◌<◌, ℕ, Bool, true, if◌then◌else◌, ◌∷◌, ◌++◌, [], None, Some};
 ghost use mathlib.Core.List.{IsPrefix};
 ghost use Rattle.cf_budget.specs.Tables.{has_line};
+ghost use Rattle.cf_model.specs.Step.{IsLegal};
 ghost use Rattle.cf_model.specs.Stripes as spec;
 ghost use Rattle.cf_names.specs.Lists.{entries_of, total_at};
 ghost use Rattle.cf_registers.specs.Lines.{LendsTouched};
@@ -86,6 +87,7 @@ impl<N: City> Recording<N> {
         ensures owes { taken.new.owed ≡ None }
         ensures seen { AllSeen self.old.list taken.new.ties }
         ensures tables { AreTablesOf N.plan (entries_of self.old.list) taken.new.lines }
+        ensures legal { IsLegal N.plan (entries_of self.old.list) }
     {
         let ask = pass.ask(turns);
         self.recorder.hear(turns, ask);

@@ -1,6 +1,6 @@
 //! What the threads of a hall share, and how a call is answered there.
 
-ghost use Rattle.std.specs.Prelude.{◌≡◌, None, []};
+ghost use Rattle.std.specs.Prelude.{◌≡◌, ◌≤◌, None, [], length};
 ghost use Rattle.cf_book.specs.Archives.{LendsCall};
 ghost use Rattle.cf_budget.specs.Tables.{has_line};
 ghost use Rattle.cf_calls.specs.Form.{IsCallInForm};
@@ -57,7 +57,8 @@ impl<N: City, D: Disk + Drop> Model for Shared<N, D> {
 fn open_pass<N: City, D: Disk + Drop>(book: &mut Mutex<HallBook<N, D>>, turns: &Turns) -> Pass
     requires { turns.now ≡ N.table }
     ensures table { result.table ≡ N.table }
-    ensures fresh { (result.seen ≡ []) × (result.places ≡ []) × (result.faults ≡ 0) }
+    ensures seen { N.first ≤ length result.seen }
+    ensures fresh { (result.places ≡ []) × (result.faults ≡ 0) }
 {
     book.get_mut().open_pass(turns)
 }
@@ -89,11 +90,12 @@ impl<N: City, D: Disk + Drop> Shared<N, D> {
         }
     }
 
-    /// A pass with the next number, which has seen nothing, while no thread shares the hall.
+    /// A pass with the next number, which has seen the whole history, while no thread shares the hall.
     pub(crate) fn open_pass(&mut self) -> Pass
         ensures shared { self.new ≡ self.old }
         ensures table { result.table ≡ N.table }
-        ensures fresh { (result.seen ≡ []) × (result.places ≡ []) × (result.faults ≡ 0) }
+        ensures seen { N.first ≤ length result.seen }
+        ensures fresh { (result.places ≡ []) × (result.faults ≡ 0) }
     {
         open_pass(&mut self.book, &self.turns)
     }

@@ -3,9 +3,9 @@ use Rattle.std.specs.Prelude.{◌≡◌, ℕ, ◌+◌, ◌≤◌, ◌<◌, ◌-�
 use Rattle.cf_turns.specs.Lists.{TaggedEntry, count_of, places_of}
 use Rattle.cf_turns.specs.States.{PassState, ReceiptsState}
 
--- a pass that was just opened
-pub record IsFreshPass (p : PassState) : Type 0 where
-  pub seen : p.seen ≡ []
+-- a pass that was just opened, where the history has so many entries at least: it has seen them
+pub record IsFreshPass (first : ℕ) (p : PassState) : Type 0 where
+  pub seen : first ≤ length p.seen
   pub places : p.places ≡ []
   pub faults : p.faults ≡ 0
 

@@ -2,12 +2,16 @@
 use Rattle.std.specs.Prelude.{◌≡◌, ◌⊎◌, ℕ, ◌+◌, ◌^◌, ◌-◌, ◌≤◌, min, List, [], ◌∷◌, ◌++◌, length}
 use mathlib.Core.List.{IsPrefix}
 use Rattle.cf_calls.specs.declared.call.Call.{Call}
+use Rattle.cf_calls.specs.declared.call.Call.TheVariants as call
+use Rattle.cf_calls.specs.declared.call.Change.{Change}
+use Rattle.cf_calls.specs.declared.entry.Drawn.{Drawn}
 use Rattle.cf_calls.specs.declared.entry.Entry.{Entry}
 use Rattle.cf_calls.specs.declared.reply.Posted.{Posted}
 use Rattle.cf_calls.specs.declared.reply.Posted.TheVariants as posted
 use Rattle.cf_calls.specs.declared.reply.Reply.{Reply}
+use Rattle.cf_calls.specs.declared.reply.Verdict.TheVariants.{Accept}
 use Rattle.cf_chart.specs.Plan.{Plan}
-use Rattle.cf_model.specs.Step.{body_of, next_of}
+use Rattle.cf_model.specs.Step.{IsLegal, body_of, next_of, verdict_of}
 use Rattle.cf_turns.specs.Lists.{TaggedEntry}
 use Rattle.cf_turns.specs.States.{PassState}
 use Rattle.cf_names.specs.Lists.{entries_of}
@@ -41,6 +45,20 @@ pub record Keeps (plan : Plan) (old new : PassState) (c : Call) (r : Reply) : Ty
   pub next : next_of plan (entries_of new.seen) c ≡ entries_of new.seen
   pub places : new.places ≡ old.places
 
+-- the call is a change that the rules accept over this history
+pub record IsAccepted (plan : Plan) (history : List Entry) (c : Call) : Type 0 where
+  pub change : Change
+  pub drawn : Drawn
+  pub called : c ≡ call.Change change
+  pub accepts : verdict_of plan history change ≡ Accept drawn
+
+-- it is one over a legal history that is this long at least
+pub record IsAcceptedFrom (plan : Plan) (least : ℕ) (c : Call) : Type 0 where
+  pub history : List Entry
+  pub legal : IsLegal plan history
+  pub long : least ≤ length history
+  pub accepted : IsAccepted plan history c
+
 -- nothing more is seen, and no place is added
 pub record IsSameSight (old new : PassState) : Type 0 where
   pub seen : new.seen ≡ old.seen
@@ -49,7 +67,7 @@ pub record IsSameSight (old new : PassState) : Type 0 where
 abbrev pub Says : Plan → PassState → PassState → Call → Posted → Type 0
 Says plan old new c (posted.Reply r) = Replies old new r × (Adds plan old new c r ⊎ Keeps plan old new c r)
 Says plan old new c posted.NoMemory = IsSameSight old new × (new.faults ≡ old.faults)
-Says plan old new c posted.Disk = IsSameSight old new × (new.faults ≡ min (old.faults + 1) (2 ^ 64 - 1))
+Says plan old new c posted.Disk = IsSameSight old new × (new.faults ≡ min (old.faults + 1) (2 ^ 64 - 1)) × IsAcceptedFrom plan (length old.seen) c
 
 -- what the pass is told by the answer to a call
 abbrev pub Tells : Plan → PassState → PassState → Call → Posted → Type 0

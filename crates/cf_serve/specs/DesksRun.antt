@@ -13,13 +13,13 @@ abbrev pub EachKept : {L : Type 0} → Tells L → Bool → Plan → ℕ → Lis
 EachKept tells known plan links before after =
     (i : ℕ) (d : _) → i < length before → DeskKept tells known plan links (slice_index_or before i d) (slice_index_or after i d)
 
--- A desk was opened at each door, with a fresh pass, and kept. The doors and the passes are those that the desks had in the
+-- A desk was opened at each door, with a fresh pass, which has seen so many entries at least, and kept. The doors and the passes are those that the desks had in the
 -- end. This many links were given at the desks, and a door has failed or not.
-pub record DesksRan {L : Type 0} (tells : Tells L) (known : Bool) (plan : Plan) (links : ℕ) (olds news : List (DoorState L)) (passes : List PassState) (given : ℕ) (failed : Bool) : Type 0 where
+pub record DesksRan {L : Type 0} (tells : Tells L) (known : Bool) (plan : Plan) (first links : ℕ) (olds news : List (DoorState L)) (passes : List PassState) (given : ℕ) (failed : Bool) : Type 0 where
   pub before : List (DeskState L)
   pub after : List (DeskState L)
   pub many : length after ≡ length before
-  pub fresh : All (λ d. IsFreshPass d.pass) before
+  pub fresh : All (λ d. IsFreshPass first d.pass) before
   pub kept : EachKept tells known plan links before after
   pub olds_are : olds ≡ map door_of before
   pub news_are : news ≡ map door_of after

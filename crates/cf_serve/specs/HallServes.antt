@@ -1,5 +1,5 @@
 -- What serving a hall tells.
-use Rattle.std.specs.Prelude.{◌≡◌, ℕ, Bool, true, false, IsTrue, IfSome, List, [], ◌∷◌, ◌++◌, Option, Some}
+use Rattle.std.specs.Prelude.{◌≡◌, ◌⊎◌, ℕ, Bool, true, false, IsTrue, IfSome, List, [], ◌∷◌, ◌++◌, length, Option, Some, None}
 use Rattle.cf_book.specs.Books.{RecoversNear}
 use Rattle.cf_book.specs.DurableState.{DurableBook}
 use Rattle.cf_calls.specs.declared.entry.Entry.{Entry}
@@ -10,7 +10,7 @@ use Rattle.cf_model.specs.State.{IsSoundState}
 use Rattle.cf_serve.specs.declared.end.ServeEnd.{ServeEnd}
 use Rattle.cf_serve.specs.declared.end.ServeEnd.TheVariants.{Served, DoorFailed, NoMemory}
 use Rattle.cf_talk.specs.ServeEnds.{AllQuiet, SomeRose, links_given}
-use Rattle.cf_talk.specs.ServeRuns.{DoorState, ServeRan}
+use Rattle.cf_talk.specs.ServeRuns.{DoorState, ServeRan, faults_said}
 
 -- what a disk tells
 pub record DiskTells (D : Type 0) : Type 1 where
@@ -26,13 +26,15 @@ pub record IsKeptOn {D : Type 0} (device : DiskTells D) (plan : Plan) (history :
   pub images : IsTrue device.tells → (image : List ℕ) → device.is_image disk image → RecoversNear plan history (λ e. doubt ≡ Some e) image
   pub doubt_sound : IfSome doubt (λ e. IsSoundState (record { plan = plan; entries = history ++ e ∷ [] }))
 
--- The doors were served from the book's history to the last one, which the disk keeps, and gave so many links. At each moment
--- since then a crash left what recovers to a front of the last history, or to that and one entry.
+-- The doors were served from the book's history to the last one, which the disk keeps, and gave so many links. Where no call was
+-- answered by a fault of the disk, nothing came in doubt. At each moment since then a crash left what recovers to a front of the
+-- last history that has the book's, or to that and one entry.
 pub record HallRan {D L : Type 0} (device : DiskTells D) (tells : Tells L) (known : Bool) (links : ℕ) (book : DurableBook D) (disk : D) (olds news : List (DoorState L)) (given : ℕ) : Type 0 where
   pub last : List Entry
   pub ran : ServeRan tells known book.plan book.entries last links (device.faults book.disk) (device.faults disk) olds news
   pub kept : IsKeptOn device book.plan last disk
-  pub any_moment : IsTrue device.tells → KeptSince device.moment device.was_image book.plan last (device.moment book.disk) disk
+  pub clear : faults_said ran.doors.talks ≡ 0 → (kept.doubt ≡ book.doubt) ⊎ (kept.doubt ≡ None)
+  pub any_moment : IsTrue device.tells → KeptSince device.moment device.was_image book.plan (length book.entries) last (device.moment book.disk) disk
   pub given_is : given ≡ links_given olds news
 
 -- The doors were served and none failed; or one failed, whose count rose; or there was no memory, and the doors and the disk

@@ -55,6 +55,8 @@ where
     requires stripes { (k : ℕ) → k < 8 → name_at opening.stripes k ≡ N.stripes k }
     requires ledgers { (opening.accepted.name ≡ N.accepted) × (opening.faulted.name ≡ N.faulted) }
     requires plan { (book.plan ≡ N.plan) × (chart ≡ N.plan) }
+    requires first { length book.entries ≡ N.first }
+    requires doubt { book.doubt ≡ N.doubt }
     requires begun { D.moment book.disk ≡ N.begun }
     requires risen { D.faults book.disk ≡ N.risen }
     ensures many { length doors.new.items ≡ length doors.old.items }

@@ -30,7 +30,7 @@ pub(crate) fn enter_all<N: City, D: Disk + Drop>(
     ensures kept { hall.new.kept ≡ hall.old.kept }
     ensures entered { hall.new.entered ≡ hall.old.entered + count }
     ensures many { length passes.new.items ≡ count }
-    ensures fresh { All IsFreshPass passes.new.items }
+    ensures fresh { All (IsFreshPass N.first) passes.new.items }
     ensures capacity { vec_capacity passes.new ≡ vec_capacity passes.old }
 {
     for _entered in 0..count {
@@ -73,12 +73,12 @@ fn seat_all<'a, N: City, D: Disk + Drop, H: Wait, R: Door + Drop>(
     desks: &mut Vec<Desk<'a, N, D, H, R>>,
 )
     requires pairs { length passes.old.items ≡ length doors.items }
-    requires fresh { All IsFreshPass passes.old.items }
+    requires fresh { All (IsFreshPass N.first) passes.old.items }
     requires empty { desks.old.items ≡ [] }
     requires room { length doors.items ≤ vec_capacity desks.old }
     ensures doors { map door_of desks.new.items ≡ map (door_state R.finished R.given R.coming R.faults) doors.items }
     ensures many { length desks.new.items ≡ length doors.items }
-    ensures fresh { All (λ d. IsFreshPass d.pass) desks.new.items }
+    ensures fresh { All (λ d. IsFreshPass N.first d.pass) desks.new.items }
     ensures passes { passes.new.items ≡ [] }
     ensures capacity { vec_capacity passes.new ≡ vec_capacity passes.old }
 {
@@ -192,14 +192,14 @@ where
     R::Link: Send,
     requires few { length doors.items ≤ 65535 }
     requires pairs { length passes.old.items ≡ length doors.items }
-    requires fresh { All IsFreshPass passes.old.items }
+    requires fresh { All (IsFreshPass N.first) passes.old.items }
     requires empty { (back.old.items ≡ []) × (desks.items ≡ []) }
     requires back_room { length doors.items ≤ vec_capacity back.old }
     requires passes_room { length doors.items ≤ vec_capacity passes.old }
     requires desks_room { length doors.items ≤ vec_capacity desks }
     ensures many { (length back.new.items ≡ length doors.items) × (length passes.new.items ≡ length doors.items) }
     ensures ran { DesksRan (record { received = R.Link.received; sent = R.Link.sent; ended = R.Link.ended; faults = R.Link.faults })
-        R.tells N.plan links (map (door_state R.finished R.given R.coming R.faults) doors.items)
+        R.tells N.plan N.first links (map (door_state R.finished R.given R.coming R.faults) doors.items)
         (map (door_state R.finished R.given R.coming R.faults) back.new.items) passes.new.items result.links result.failed }
 {
     seat_all(rt, alloc, shared, doors, passes, &mut desks);

@@ -36,8 +36,8 @@ either false b e = inr e
 
 -- ---- all doors
 
-module _ {L : Type 0} (tells : Tells L) (known : Bool) (plan : Plan) (list : List TaggedEntry) (links : ℕ) where
-  pub all_quiet : (olds news : List (DeskState L)) → AllKept tells known plan list links olds news → list_any (λ (d : DeskState L). is_fault d.end) news ≡ false → AllQuiet (map door_of olds) (map door_of news)
+module _ {L : Type 0} (tells : Tells L) (known : Bool) (plan : Plan) (first : ℕ) (list : List TaggedEntry) (links : ℕ) where
+  pub all_quiet : (olds news : List (DeskState L)) → AllKept tells known plan first list links olds news → list_any (λ (d : DeskState L). is_fault d.end) news ≡ false → AllQuiet (map door_of olds) (map door_of news)
   all_quiet [] [] all none = tt
   all_quiet [] (n ∷ news) all none = absurd all
   all_quiet (o ∷ olds) [] all none = absurd all
@@ -45,7 +45,7 @@ module _ {L : Type 0} (tells : Tells L) (known : Bool) (plan : Plan) (list : Lis
       let split = neither (is_fault n.end) (list_any (λ (d : DeskState L). is_fault d.end) news) none in
       (quiet_is o.faults n.faults n.end all.1.quiet split.0, all_quiet olds news all.3 split.1)
 
-  pub some_rose : (olds news : List (DeskState L)) → AllKept tells known plan list links olds news → list_any (λ (d : DeskState L). is_fault d.end) news ≡ true → SomeRose (map door_of olds) (map door_of news)
+  pub some_rose : (olds news : List (DeskState L)) → AllKept tells known plan first list links olds news → list_any (λ (d : DeskState L). is_fault d.end) news ≡ true → SomeRose (map door_of olds) (map door_of news)
   some_rose [] [] all some = absurd (true≢false (sym some))
   some_rose [] (n ∷ news) all some = absurd all
   some_rose (o ∷ olds) [] all some = absurd all
@@ -56,7 +56,7 @@ module _ {L : Type 0} (tells : Tells L) (known : Bool) (plan : Plan) (list : Lis
       ]
 
   -- the links that were served are those that the doors gave
-  pub given_is : (olds news : List (DeskState L)) → AllKept tells known plan list links olds news → links_given (map door_of olds) (map door_of news) ≡ sum_by (λ (d : DeskState L). end_links d.end) news
+  pub given_is : (olds news : List (DeskState L)) → AllKept tells known plan first list links olds news → links_given (map door_of olds) (map door_of news) ≡ sum_by (λ (d : DeskState L). end_links d.end) news
   given_is [] [] all = refl
   given_is [] (n ∷ news) all = absurd all
   given_is (o ∷ olds) [] all = absurd all

@@ -19,34 +19,34 @@ use Rattle.cf_talk.proofs.Entries.{entries_front}
 use Rattle.cf_talk.proofs.Joining.{each_is_one}
 use Rattle.cf_talk.proofs.Talking.{talk_over, talk_places, talk_faults}
 
-module _ {L : Type 0} (tells : Tells L) (known : Bool) (plan : Plan) (list : List TaggedEntry) (links : ℕ) where
+module _ {L : Type 0} (tells : Tells L) (known : Bool) (plan : Plan) (first : ℕ) (list : List TaggedEntry) (links : ℕ) where
   -- what was said at each desk
-  said_at : (olds news : List (DeskState L)) → AllKept tells known plan list links olds news → List (List Said)
+  said_at : (olds news : List (DeskState L)) → AllKept tells known plan first list links olds news → List (List Said)
   said_at [] [] all = []
   said_at [] (n ∷ news) all = absurd all
   said_at (o ∷ olds) [] all = absurd all
   said_at (o ∷ olds) (n ∷ news) all = all.1.kept.said ∷ said_at olds news all.3
 
-  door_ran : (o n : DeskState L) → IsFreshPass o.pass → (kept : DeskKept tells known plan links o n) → IsPrefix n.pass.seen list
-      → DoorRan tells known plan (entries_of list) links (door_of o) (door_of n) kept.kept.said
+  door_ran : (o n : DeskState L) → IsFreshPass first o.pass → (kept : DeskKept tells known plan links o n) → IsPrefix n.pass.seen list
+      → DoorRan tells known plan first (entries_of list) links (door_of o) (door_of n) kept.kept.said
   door_ran o n fresh kept front = record {
     end = n.end;
     count = kept.count;
     enough = kept.enough;
     quiet = kept.quiet;
     served = kept.kept.served;
-    talk = talk_over plan o.pass n.pass kept.kept.said list 0 kept.kept.talked front (omega arith);
+    talk = talk_over plan o.pass n.pass kept.kept.said list first kept.kept.talked front fresh.seen;
   }
 
-  all_ran : (olds news : List (DeskState L)) → (all : AllKept tells known plan list links olds news)
-      → AllRan tells known plan (entries_of list) links (map door_of olds) (map door_of news) (said_at olds news all)
+  all_ran : (olds news : List (DeskState L)) → (all : AllKept tells known plan first list links olds news)
+      → AllRan tells known plan first (entries_of list) links (map door_of olds) (map door_of news) (said_at olds news all)
   unfolding said_at
   all_ran [] [] all = tt
   all_ran [] (n ∷ news) all = absurd all
   all_ran (o ∷ olds) [] all = absurd all
   all_ran (o ∷ olds) (n ∷ news) all = (door_ran o n all.0 all.1 all.2, all_ran olds news all.3)
 
-  receipts_said : (olds news : List (DeskState L)) → (all : AllKept tells known plan list links olds news)
+  receipts_said : (olds news : List (DeskState L)) → (all : AllKept tells known plan first list links olds news)
       → AreTalksOf (said_at olds news all) (map receipts_of (map (λ (d : DeskState L). d.pass) news))
   unfolding said_at
   receipts_said [] [] all = tt
@@ -57,10 +57,10 @@ module _ {L : Type 0} (tells : Tells L) (known : Bool) (plan : Plan) (list : Lis
     receipts_said olds news all.3,
   )
 
-  pub doors_ran : (olds news : List (DeskState L)) (first : ℕ) (kept : PassState) → AllKept tells known plan list links olds news → HasFirst first kept.places
+  pub doors_ran : (olds news : List (DeskState L)) (kept : PassState) → AllKept tells known plan first list links olds news → HasFirst first kept.places
       → Closes list (receipts_of kept ∷ map receipts_of (map (λ (d : DeskState L). d.pass) news))
       → DoorsRan tells known plan first (entries_of list) links (map door_of olds) (map door_of news)
-  doors_ran olds news first kept all has closes = record {
+  doors_ran olds news kept all has closes = record {
     talks = said_at olds news all;
     doors = all_ran olds news all;
     once = subst (λ (n : ℕ). EachIsOne first n (said_at olds news all)) (sym (entries_length list))
@@ -74,7 +74,7 @@ module _ {L : Type 0} (tells : Tells L) (known : Bool) (plan : Plan) (list : Lis
       → min (before + (here + said)) (2 ^ 64 - 1) ≡ min (before + (counted + rest)) (2 ^ 64 - 1)
   one_fault before here rest said counted is more = omega (arith, is, more)
 
-  faults_same : (olds news : List (DeskState L)) (before : ℕ) → (all : AllKept tells known plan list links olds news)
+  faults_same : (olds news : List (DeskState L)) (before : ℕ) → (all : AllKept tells known plan first list links olds news)
       → min (before + faults_said (said_at olds news all)) (2 ^ 64 - 1) ≡ min (before + faults_in (map receipts_of (map (λ (d : DeskState L). d.pass) news))) (2 ^ 64 - 1)
   unfolding said_at
   faults_same [] [] before all = refl
@@ -85,51 +85,61 @@ module _ {L : Type 0} (tells : Tells L) (known : Bool) (plan : Plan) (list : Lis
       one_fault before (faults_of all.1.kept.said) (faults_in (map receipts_of (map (λ (d : DeskState L). d.pass) news))) (faults_said (said_at olds news all.3)) n.pass.faults
       (omega (arith, here, all.0.faults)) (faults_same olds news before all.3)
 
-  pub faults_ran : (olds news : List (DeskState L)) (first : ℕ) (kept : PassState) (all : AllKept tells known plan list links olds news) (has : HasFirst first kept.places)
+  pub faults_ran : (olds news : List (DeskState L)) (kept : PassState) (all : AllKept tells known plan first list links olds news) (has : HasFirst first kept.places)
       (closes : Closes list (receipts_of kept ∷ map receipts_of (map (λ (d : DeskState L). d.pass) news))) (before now : ℕ)
-      → RoseBy (faults_in (map receipts_of (map (λ (d : DeskState L). d.pass) news))) before now → RoseBy (faults_said (doors_ran olds news first kept all has closes).talks) before now
+      → RoseBy (faults_in (map receipts_of (map (λ (d : DeskState L). d.pass) news))) before now → RoseBy (faults_said (doors_ran olds news kept all has closes).talks) before now
   unfolding doors_ran
-  faults_ran olds news first kept all has closes before now rose = omega (arith, rose, faults_same olds news before all)
+  faults_ran olds news kept all has closes before now rose = omega (arith, rose, faults_same olds news before all)
 
-  pub quiet_ran : (olds news : List (DeskState L)) (first : ℕ) (kept : PassState) (all : AllKept tells known plan list links olds news) (has : HasFirst first kept.places)
-      (closes : Closes list (receipts_of kept ∷ map receipts_of (map (λ (d : DeskState L). d.pass) news))) (before now : ℕ)
-      → (faults_in (map receipts_of (map (λ (d : DeskState L). d.pass) news)) ≡ 0 → now ≡ before) → faults_said (doors_ran olds news first kept all has closes).talks ≡ 0 → now ≡ before
+  -- where no call was answered so, no pass was
+  pub none_said : (olds news : List (DeskState L)) (kept : PassState) (all : AllKept tells known plan first list links olds news) (has : HasFirst first kept.places)
+      (closes : Closes list (receipts_of kept ∷ map receipts_of (map (λ (d : DeskState L). d.pass) news)))
+      → faults_said (doors_ran olds news kept all has closes).talks ≡ 0 → faults_in (map receipts_of (map (λ (d : DeskState L). d.pass) news)) ≡ 0
   unfolding doors_ran
-  quiet_ran olds news first kept all has closes before now quiet none = quiet (omega (arith, none, faults_same olds news 0 all))
+  none_said olds news kept all has closes none = omega (arith, none, faults_same olds news 0 all)
 
   -- ---- the history
 
   goes_on : (seen : List TaggedEntry) (first : List Entry) → entries_of seen ≡ first → IsPrefix seen list → (later : List Entry) × (entries_of list ≡ first ++ later)
   goes_on seen first is p = let q = entries_front seen list p in (q.0, sym q.1 ∙ ap (λ (h : List Entry). h ++ q.0) is)
 
-  pub serve_ran : (olds news : List (DeskState L)) (first : List Entry) (kept : PassState) (before now : ℕ) → AllKept tells known plan list links olds news
-      → entries_of kept.seen ≡ first → HasFirst (length first) kept.places → IsPrefix kept.seen list → Closes list (receipts_of kept ∷ map receipts_of (map (λ (d : DeskState L). d.pass) news))
-      → IsSoundState (record { plan = plan; entries = entries_of list }) → RoseBy (faults_in (map receipts_of (map (λ (d : DeskState L). d.pass) news))) before now
-      → (faults_in (map receipts_of (map (λ (d : DeskState L). d.pass) news)) ≡ 0 → now ≡ before)
-      → ServeRan tells known plan first (entries_of list) links before now (map door_of olds) (map door_of news)
-  serve_ran olds news first kept before now all is has front closes sound rose quiet =
-      let on = goes_on kept.seen first is front in
-      record {
-        later = on.0;
-        goes_on = on.1;
-        sound = sound;
-        doors = doors_ran olds news (length first) kept all has closes;
-        faults = faults_ran olds news (length first) kept all has closes before now rose;
-        quiet = quiet_ran olds news (length first) kept all has closes before now quiet;
-      }
-
   -- ---- from one by one to all
 
-  pub all_kept : (olds news : List (DeskState L)) → length news ≡ length olds → All (λ (d : DeskState L). IsFreshPass d.pass) olds
+  pub all_kept : (olds news : List (DeskState L)) → length news ≡ length olds → All (λ (d : DeskState L). IsFreshPass first d.pass) olds
       → ((i : ℕ) (d : DeskState L) → i < length olds → DeskKept tells known plan links (slice_index_or olds i d) (slice_index_or news i d))
-      → All (λ (d : DeskState L). IsPrefix d.pass.seen list) news → AllKept tells known plan list links olds news
+      → All (λ (d : DeskState L). IsPrefix d.pass.seen list) news → AllKept tells known plan first list links olds news
   all_kept [] [] same fresh each seen = tt
   all_kept [] (n ∷ news) same fresh each seen = absurd (omega (arith, same))
   all_kept (o ∷ olds) [] same fresh each seen = absurd (omega (arith, same))
   all_kept (o ∷ olds) (n ∷ news) same fresh each seen = (
-    All-head (λ (d : DeskState L). IsFreshPass d.pass) o olds fresh,
+    All-head (λ (d : DeskState L). IsFreshPass first d.pass) o olds fresh,
     each zero o (omega arith),
     All-head (λ (d : DeskState L). IsPrefix d.pass.seen list) n news seen,
-    all_kept olds news (omega (arith, same)) (All-tail (λ (d : DeskState L). IsFreshPass d.pass) o olds fresh) (λ i d low. each (suc i) d (omega (arith, low)))
+    all_kept olds news (omega (arith, same)) (All-tail (λ (d : DeskState L). IsFreshPass first d.pass) o olds fresh) (λ i d low. each (suc i) d (omega (arith, low)))
         (All-tail (λ (d : DeskState L). IsPrefix d.pass.seen list) n news seen),
   )
+
+-- ---- the run
+
+module _ {L : Type 0} (tells : Tells L) (known : Bool) (plan : Plan) (opening : List Entry) (list : List TaggedEntry) (links : ℕ) (olds news : List (DeskState L)) (kept : PassState) (before now : ℕ)
+    (all : AllKept tells known plan (length opening) list links olds news) (is : entries_of kept.seen ≡ opening) (has : HasFirst (length opening) kept.places) (front : IsPrefix kept.seen list)
+    (closes : Closes list (receipts_of kept ∷ map receipts_of (map (λ (d : DeskState L). d.pass) news))) where
+  pub serve_ran : IsSoundState (record { plan = plan; entries = entries_of list }) → RoseBy (faults_in (map receipts_of (map (λ (d : DeskState L). d.pass) news))) before now
+      → (faults_in (map receipts_of (map (λ (d : DeskState L). d.pass) news)) ≡ 0 → now ≡ before)
+      → ServeRan tells known plan opening (entries_of list) links before now (map door_of olds) (map door_of news)
+  serve_ran sound rose quiet =
+      let on = goes_on tells known plan (length opening) list links kept.seen opening is front in
+      record {
+        later = on.0;
+        goes_on = on.1;
+        sound = sound;
+        doors = doors_ran tells known plan (length opening) list links olds news kept all has closes;
+        faults = faults_ran tells known plan (length opening) list links olds news kept all has closes before now rose;
+        quiet = λ none. quiet (none_said tells known plan (length opening) list links olds news kept all has closes none);
+      }
+
+  pub serve_none : (sound : IsSoundState (record { plan = plan; entries = entries_of list })) (rose : RoseBy (faults_in (map receipts_of (map (λ (d : DeskState L). d.pass) news))) before now)
+      (quiet : faults_in (map receipts_of (map (λ (d : DeskState L). d.pass) news)) ≡ 0 → now ≡ before)
+      → faults_said (serve_ran sound rose quiet).doors.talks ≡ 0 → faults_in (map receipts_of (map (λ (d : DeskState L). d.pass) news)) ≡ 0
+  unfolding serve_ran
+  serve_none sound rose quiet none = none_said tells known plan (length opening) list links olds news kept all has closes none

@@ -12,7 +12,7 @@ use Rattle.cf_turns.specs.Lists.{TaggedEntry}
 use Rattle.cf_turns.specs.States.{PassState}
 use Rattle.cf_turns.proofs.Beginnings.{IsPrefix-self, IsPrefix-trans, IsPrefix-length}
 use Rattle.cf_talk.specs.PassTalks.{Said, place_of, places_of, fault_of, faults_of, AddedAt, KeptAt, Says, added, kept, memory, disk, PassTalk, Hears, told, lost, Talked}
-use Rattle.cf_names.specs.Telling.{Tells, Adds, Keeps, Reads, Replies}
+use Rattle.cf_names.specs.Telling.{IsAcceptedFrom, Tells, Adds, Keeps, Reads, Replies}
 use Rattle.cf_talk.proofs.Accepting.{added_place, kept_place}
 use Rattle.cf_names.proofs.Entries.{entries_append, entries_length}
 use Rattle.cf_talk.proofs.Entries.{entries_front}
@@ -69,11 +69,14 @@ module _ (plan : Plan) (a m : PassState) (list : List TaggedEntry) (least : ℕ)
         within = omega (arith, replies.at);
       }
 
+  from_least : IsAcceptedFrom plan (length a.seen) c → IsAcceptedFrom plan least c
+  from_least f = record { history = f.history; legal = f.legal; long = omega (arith, low, f.long); accepted = f.accepted }
+
   told_over : (given : Posted) → Tells plan a m c given → SaysOver plan (entries_of list) least c given (length m.seen)
   told_over (posted.Reply r) (reads, (replies, inl adds)) = added_over r reads replies adds
   told_over (posted.Reply r) (reads, (replies, inr keeps)) = kept_over r reads replies keeps
   told_over posted.NoMemory t = record { at = least; says = memory; within = omega (arith, low, IsPrefix-length a.seen m.seen t.0.seen) }
-  told_over posted.Disk t = record { at = least; says = disk; within = omega (arith, low, IsPrefix-length a.seen m.seen t.0.seen) }
+  told_over posted.Disk t = record { at = least; says = disk (from_least t.1.2); within = omega (arith, low, IsPrefix-length a.seen m.seen t.0.seen) }
 
 hears_over : (plan : Plan) (a m : PassState) (list : List TaggedEntry) (least : ℕ) (c : Call) (given : Posted) → Hears plan a c given m → IsPrefix m.seen list → least ≤ length a.seen
     → SaysOver plan (entries_of list) least c given (length m.seen)
@@ -100,7 +103,7 @@ says_on : (plan : Plan) (h k : List Entry) (least : ℕ) (c : Call) (given : Pos
 says_on plan h k least c _ _ p (added r low a) = added r low (added_on plan h k c r p a)
 says_on plan h k least c _ _ p (kept r low a) = kept r low (kept_on plan h k c r p a)
 says_on plan h k least c _ _ p memory = memory
-says_on plan h k least c _ _ p disk = disk
+says_on plan h k least c _ _ p (disk accepted) = disk accepted
 
 -- a talk over a history is one over every history that it begins
 pub talk_on : (plan : Plan) (h k : List Entry) (least : ℕ) (said : List Said) → IsPrefix h k → PassTalk plan h least said → PassTalk plan k least said

@@ -11,7 +11,7 @@ use Rattle.cf_calls.specs.declared.reply.Reply.{Reply}
 use Rattle.cf_chart.specs.Plan.{Plan}
 use Rattle.cf_model.specs.Step.{body_of, next_of}
 use Rattle.cf_turns.specs.States.{PassState}
-use Rattle.cf_names.specs.Telling.{Tells}
+use Rattle.cf_names.specs.Telling.{IsAcceptedFrom, Tells}
 
 -- a call, and what it was answered
 abbrev pub Said : Type 0
@@ -60,12 +60,13 @@ pub record KeptAt (plan : Plan) (history : List Entry) (c : Call) (r : Reply) : 
   pub body : body_of plan front c ≡ r.body
   pub next : next_of plan front c ≡ front
 
--- what a call is answered, where the answers before it named no place above the first number, nor this one above the last
+-- What a call is answered, where the answers before it named no place above the first number, nor this one above the last. A
+-- fault of the disk is answered to a change alone that the rules accept over a legal history no shorter than that.
 pub data Says (plan : Plan) (history : List Entry) (least : ℕ) (c : Call) : Posted → ℕ → Type 0 where
   added : (r : Reply) → least < r.at → AddedAt plan history c r → Says plan history least c (posted.Reply r) r.at
   kept : (r : Reply) → least ≤ r.at → KeptAt plan history c r → Says plan history least c (posted.Reply r) r.at
   memory : Says plan history least c posted.NoMemory least
-  disk : Says plan history least c posted.Disk least
+  disk : IsAcceptedFrom plan least c → Says plan history least c posted.Disk least
 
 -- the calls of a pass in their order, from a place on
 abbrev pub PassTalk : Plan → List Entry → ℕ → List Said → Type 0

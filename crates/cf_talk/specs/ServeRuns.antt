@@ -24,20 +24,20 @@ abbrev pub door_state : {R L : Type 0} → (R → List L) → (R → ℕ) → (R
 door_state finished given coming faults door = record { finished = finished door; given = given door; coming = coming door; faults = faults door }
 
 -- A door that was kept: it gave so many links, or fewer where none is left to come or it failed. Each was served and
--- finished, one after another, by one clerk; what was said there is a pass's talk over the last history.
-pub record DoorRan {L : Type 0} (tells : Tells L) (known : Bool) (plan : Plan) (last : List Entry) (links : ℕ) (old new : DoorState L) (said : List Said) : Type 0 where
+-- finished, one after another, by one clerk; what was said there is a pass's talk over the last history, from its opening on.
+pub record DoorRan {L : Type 0} (tells : Tells L) (known : Bool) (plan : Plan) (first : ℕ) (last : List Entry) (links : ℕ) (old new : DoorState L) (said : List Said) : Type 0 where
   pub end : DoorEnd
   pub count : ℕ
   pub enough : IsEnough links new.coming end count
   pub quiet : IsQuiet old.faults new.faults end
   pub served : DoorServed tells Adds known [] said old.finished new.finished old.given new.given count
-  pub talk : PassTalk plan last 0 said
+  pub talk : PassTalk plan last first said
 
 -- each door, with what was said there
-abbrev pub AllRan : {L : Type 0} → Tells L → Bool → Plan → List Entry → ℕ → List (DoorState L) → List (DoorState L) → List (List Said) → Type 0
-AllRan tells known plan last links [] [] [] = ⊤
-AllRan tells known plan last links (o ∷ olds) (n ∷ news) (said ∷ talks) = DoorRan tells known plan last links o n said × AllRan tells known plan last links olds news talks
-AllRan tells known plan last links _ _ _ = ⊥
+abbrev pub AllRan : {L : Type 0} → Tells L → Bool → Plan → ℕ → List Entry → ℕ → List (DoorState L) → List (DoorState L) → List (List Said) → Type 0
+AllRan tells known plan first last links [] [] [] = ⊤
+AllRan tells known plan first last links (o ∷ olds) (n ∷ news) (said ∷ talks) = DoorRan tells known plan first last links o n said × AllRan tells known plan first last links olds news talks
+AllRan tells known plan first last links _ _ _ = ⊥
 
 -- how many calls were answered by a fault of the disk, at all doors
 abbrev pub faults_said : List (List Said) → ℕ
@@ -47,7 +47,7 @@ faults_said (said ∷ talks) = faults_of said + faults_said talks
 -- The doors that were kept: each new entry of the last history is exactly one accepted reply's, at one door.
 pub record DoorsRan {L : Type 0} (tells : Tells L) (known : Bool) (plan : Plan) (first : ℕ) (last : List Entry) (links : ℕ) (olds news : List (DoorState L)) : Type 0 where
   pub talks : List (List Said)
-  pub doors : AllRan tells known plan last links olds news talks
+  pub doors : AllRan tells known plan first last links olds news talks
   pub once : EachIsOne first (length last) talks
 
 -- Doors were kept from a history to the last one, which begins with it and is sound. The doors' talks make up what lies
@@ -67,8 +67,8 @@ abbrev pub door_of : {L : Type 0} → DeskState L → DoorState L
 door_of d = record { finished = d.finished; given = d.given; coming = d.coming; faults = d.faults }
 
 -- the desks were fresh, each was kept, and what its pass has seen then begins the list
-abbrev pub AllKept : {L : Type 0} → Tells L → Bool → Plan → List TaggedEntry → ℕ → List (DeskState L) → List (DeskState L) → Type 0
-AllKept tells known plan list links [] [] = ⊤
-AllKept tells known plan list links (o ∷ olds) (n ∷ news) =
-    IsFreshPass o.pass × DeskKept tells known plan links o n × IsPrefix n.pass.seen list × AllKept tells known plan list links olds news
-AllKept tells known plan list links _ _ = ⊥
+abbrev pub AllKept : {L : Type 0} → Tells L → Bool → Plan → ℕ → List TaggedEntry → ℕ → List (DeskState L) → List (DeskState L) → Type 0
+AllKept tells known plan first list links [] [] = ⊤
+AllKept tells known plan first list links (o ∷ olds) (n ∷ news) =
+    IsFreshPass first o.pass × DeskKept tells known plan links o n × IsPrefix n.pass.seen list × AllKept tells known plan first list links olds news
+AllKept tells known plan first list links _ _ = ⊥

@@ -13,10 +13,11 @@ use Rattle.cf_top.specs.Serves.{ServeEnds, ServeSays}
 
 module _ {D R L : Type 0} (device : Device D) (kind : DoorKind R L) where
   -- there was no memory for doors that are to be served: enough of them or not
-  pub ends_unprepared : (count links : ℕ) (disk : D) (doors : List R) (held : Option (List ℕ)) → ServeEnds device kind count links disk disk doors doors held held status.NoMemory
-  ends_unprepared count links disk doors held = elim (cases_lt (length doors) count) [
+  pub ends_unprepared : (count links : ℕ) (disk : D) (doors : List R) (held : Option (List ℕ)) → AtEachMoment device.moment device.was_image disk disk (device.is_image disk)
+      → ServeEnds device kind count links disk disk doors doors held held status.NoMemory
+  ends_unprepared count links disk doors held rest = elim (cases_lt (length doors) count) [
     | inl few ↦ inl (record { few = few; ended = inr refl; doors_stay = refl; out = refl; same_disk = refl })
-    | inr enough ↦ inr (record { enough = enough; says = (record { doors_stay = refl; content = λ t. refl }, refl); others = refl })
+    | inr enough ↦ inr (record { enough = enough; says = (record { doors_stay = refl; content = λ t. refl; any_moment = rest }, refl); others = refl })
   ]
 
   -- a run of `serve` reads no chart and no input
@@ -31,8 +32,8 @@ module _ {D R L : Type 0} (device : Device D) (kind : DoorKind R L) where
   -- there was no memory to read the words
   pub ends_unread : (c : Option Command) (o : Outside R) (disk : D) → AtEachMoment device.moment device.was_image disk disk (device.is_image disk) → Ends device kind c o o disk disk status.NoMemory
   ends_unread None o disk rest = record { ended = inr refl; same = refl; same_disk = refl }
-  ends_unread (Some command.Found) o disk rest = ((refl, refl), refl, refl)
-  ends_unread (Some command.Desk) o disk rest = (record { input = Consumes-nil o.input; out = refl; content = λ t. refl }, refl, refl)
-  ends_unread (Some (command.Serve port doors links)) o disk rest = (ends_unprepared doors links disk o.doors o.out, refl, refl)
+  ends_unread (Some command.Found) o disk rest = (((refl, refl), λ fine. refl), refl, refl)
+  ends_unread (Some command.Desk) o disk rest = (record { input = Consumes-nil o.input; out = refl; content = λ t. refl; any_moment = rest }, refl, refl)
+  ends_unread (Some (command.Serve port doors links)) o disk rest = (ends_unprepared doors links disk o.doors o.out rest, refl, refl)
   ends_unread (Some (command.Report year statement csv)) o disk rest = ((record { content = λ t. refl; any_moment = rest }, refl, λ fine. refl), refl, refl, refl)
   ends_unread (Some (command.Generate n)) o disk rest = (refl, refl, refl, refl, refl)

@@ -1,5 +1,5 @@
 -- A run of `serve` over the journal of a disk.
-use Rattle.std.proofs.Common.{◌≡◌, ℕ, ◌≤◌, List, [], ◌++◌, length, map, take, Option, Ok, refl, sym, subst, ap, ◌∙◌}
+use Rattle.std.proofs.Common.{◌≡◌, ⊎_elim, ℕ, ◌≤◌, List, [], ◌++◌, length, map, take, Option, Ok, refl, sym, subst, ap, ◌∙◌}
 use Rattle.std.proofs.lemmas.List.{length-take-le}
 use Rattle.std.proofs.Math.Seq.{take-append_seam}
 use Rattle.cf_articulation.proofs.Articulated.{articulates_always}
@@ -11,19 +11,21 @@ use Rattle.cf_book.specs.declared.refused.BookRefused.TheVariants as refused
 use Rattle.cf_chart.specs.Reading.{chart_of}
 use Rattle.cf_closed.proofs.ClosedYears.{closed_years_always}
 use Rattle.cf_desk.specs.Sinks.{Wrote}
+use Rattle.cf_disk.specs.Moments.{AtEachMoment}
 use Rattle.cf_http.specs.Links.{SentFront}
 use Rattle.cf_serve.specs.HallServes.{HallRan, Serves}
 use Rattle.cf_serve.specs.declared.end.ServeEnd.{ServeEnd}
 use Rattle.cf_serve.specs.declared.end.ServeEnd.TheVariants as end
 use Rattle.cf_talk.specs.ServeEnds.{served_text}
-use Rattle.cf_talk.specs.ServeRuns.{DoorState, ServeRan}
+use Rattle.cf_top.specs.Talks.{RoseBy}
+use Rattle.cf_talk.specs.ServeRuns.{DoorState, faults_said}
 use Rattle.cf_top.specs.declared.serve_command.Kept.{Kept}
 use Rattle.cf_top.specs.declared.serve_command.Kept.TheVariants as kept
 use Rattle.cf_top.specs.declared.status.Status.{Status}
 use Rattle.cf_top.specs.declared.status.Status.TheVariants as status
 use Rattle.cf_top.specs.Devices.{Device, DoorKind}
 use Rattle.cf_top.specs.Refused.{status_of_refused}
-use Rattle.cf_top.specs.Serves.{KeepsDoors, PutsLine, ServeSays, Served, TellsKept, kept_of}
+use Rattle.cf_top.specs.Serves.{IsUnserved, KeepsDoors, PutsLine, ServeSays, Served, TellsKept, kept_of}
 
 -- what was moved to the end of an empty list, and then others after it, stands in front
 pub front_is : {R : Type 0} (count : ℕ) (old first back front rest last : List R) → count ≤ length old → first ≡ take count old → length back ≡ length first → front ≡ back → last ≡ front ++ rest
@@ -55,11 +57,19 @@ module _ {D R L : Type 0} (device : Device D) (kind : DoorKind R L) (links : ℕ
     recovers = opens.recovers;
     disk = book.disk;
     opening = opens.any_moment;
-    ran = subst (λ (n : ℕ). ServeRan kind.tells kind.known book.plan book.entries h.last links n (device.faults new) olds news) opens.quiet h.ran;
+    ran = record {
+      later = h.ran.later;
+      goes_on = h.ran.goes_on;
+      sound = h.ran.sound;
+      doors = h.ran.doors;
+      faults = subst (λ (n : ℕ). RoseBy (faults_said h.ran.doors.talks) n (device.faults new)) opens.quiet h.ran.faults;
+      quiet = λ none. h.ran.quiet none ∙ opens.quiet;
+    };
     closed = closed_years_always book.plan h.last (read_chart bytes book.plan states).whole h.ran.sound.legal;
     articulates = articulates_always bytes book.plan h.last states h.ran.sound.legal;
     images = h.kept.images;
     doubt_sound = h.kept.doubt_sound;
+    clear = λ none. ⊎_elim (λ e. e ∙ opens.clear) (λ e. e) (h.clear none);
     any_moment = h.any_moment;
   }
 
@@ -72,7 +82,12 @@ module _ {D R L : Type 0} (device : Device D) (kind : DoorKind R L) (links : ℕ
   doors_kept book bytes doors doors' given end.DoorFailed opens states h stay =
       (served_by book bytes (map kind.state doors) (map kind.state doors') given opens states h.0, h.1)
   doors_kept book bytes doors doors' given end.NoMemory opens states h stay =
-      (record { doors_stay = stay refl; content = λ t. ap device.content h.1 ∙ opens.reads t }, λ t. tt, λ fine. ap device.faults h.1 ∙ opens.quiet)
+      let unserved : IsUnserved device old new doors doors' = record {
+        doors_stay = stay refl;
+        content = λ t. ap device.content h.1 ∙ opens.reads t;
+        any_moment = subst (λ (d : D). AtEachMoment device.moment device.was_image old d (device.is_image old)) (sym h.1) opens.any_moment;
+      } in
+      (unserved, λ t. tt, λ fine. ap device.faults h.1 ∙ opens.quiet)
 
   -- ---- what is said of it
 

@@ -7,6 +7,7 @@ use Rattle.cf_book.specs.declared.refused.BookRefused.TheVariants as refused
 use Rattle.cf_book.specs.DurableState.{DurableBook}
 use Rattle.cf_book.specs.Openings.{OpensBook, OpensNone, Refuses}
 use Rattle.cf_book.specs.Recovery.{recovered, RecoversTo}
+use Rattle.cf_closed.specs.ClosedYears.{ClosedYearsStay}
 use Rattle.cf_model.specs.State.{IsSoundState}
 use Rattle.cf_top.specs.declared.status.Status.{Status}
 use Rattle.cf_top.specs.declared.status.Status.TheVariants as status
@@ -16,19 +17,19 @@ use Rattle.cf_top.specs.Reports.{IsUnwritten, ReportEnds, ReportSays, report_tex
 use Rattle.cf_top.specs.Refused.{status_of_refused}
 
 module _ {D : Type 0} (device : Device D) (year : ℕ) (kind : Kind) (csv : Bool) (old : D) (held held' : Option (List ℕ)) where
-  says : (book : DurableBook D) (s : Status) → (IsTrue device.tells → RecoversTo book.plan book.entries (device.content old)) → IsSoundState (record { plan = book.plan; entries = book.entries }) → AllArticulate book.plan book.entries
+  says : (book : DurableBook D) (s : Status) → (IsTrue device.tells → RecoversTo book.plan book.entries (device.content old)) → IsSoundState (record { plan = book.plan; entries = book.entries }) → ClosedYearsStay book.plan book.entries → AllArticulate book.plan book.entries
       → Prints (report_text book.plan book.entries year kind csv) held held' s → ReportSays device old year kind csv held held' s
-  says book status.Ok recovers sound articulates prints = record { plan = book.plan; history = book.entries; recovers = recovers; sound = sound; articulates = articulates; prints = prints }
-  says book status.WriteFault recovers sound articulates prints = record { plan = book.plan; history = book.entries; recovers = recovers; sound = sound; articulates = articulates; prints = prints }
-  says book status.NoMemory recovers sound articulates prints = prints
-  says book _ recovers sound articulates prints = absurd prints
+  says book status.Ok recovers sound closed articulates prints = record { plan = book.plan; history = book.entries; recovers = recovers; sound = sound; closed = closed; articulates = articulates; prints = prints }
+  says book status.WriteFault recovers sound closed articulates prints = record { plan = book.plan; history = book.entries; recovers = recovers; sound = sound; closed = closed; articulates = articulates; prints = prints }
+  says book status.NoMemory recovers sound closed articulates prints = prints
+  says book _ recovers sound closed articulates prints = absurd prints
 
   -- a statement of the opened book was printed
   pub report_printed : (book : DurableBook D) (new : D) (s : Status) → OpensBook device.tells device.content device.is_image device.moment device.was_image device.faults old book → new ≡ book.disk
-      → IsSoundState (record { plan = book.plan; entries = book.entries }) → AllArticulate book.plan book.entries → Prints (report_text book.plan book.entries year kind csv) held held' s → ReportEnds device year kind csv old new held held' s
-  report_printed book new s opens same sound articulates prints = (
+      → IsSoundState (record { plan = book.plan; entries = book.entries }) → ClosedYearsStay book.plan book.entries → AllArticulate book.plan book.entries → Prints (report_text book.plan book.entries year kind csv) held held' s → ReportEnds device year kind csv old new held held' s
+  report_printed book new s opens same sound closed articulates prints = (
     subst (λ (d : D). IsUnwritten device old d) (sym same) (record { content = opens.reads; any_moment = opens.any_moment }),
-    says book s opens.recovers sound articulates prints,
+    says book s opens.recovers sound closed articulates prints,
     λ fine. ap device.faults same ∙ opens.quiet,
   )
 

@@ -6,6 +6,7 @@ use Rattle.cf_book.specs.Recovery.{recovered, RecoversTo}
 use Rattle.cf_book.specs.declared.refused.BookRefused.TheVariants as refused
 use Rattle.cf_calls.specs.declared.entry.Entry.{Entry}
 use Rattle.cf_chart.specs.Plan.{Plan}
+use Rattle.cf_closed.specs.ClosedYears.{ClosedYearsStay}
 use Rattle.cf_disk.specs.Moments.{AtEachMoment}
 use Rattle.cf_model.specs.Report.{report_rows}
 use Rattle.cf_model.specs.State.{IsSoundState}
@@ -26,13 +27,14 @@ pub record IsUnwritten {D : Type 0} (device : Device D) (old new : D) : Type 0 w
   pub content : IsTrue device.tells → device.content new ≡ device.content old
   pub any_moment : AtEachMoment device.moment device.was_image old new (device.is_image old)
 
--- The statement of the chart and the history that the disk's content recovers to was printed. That history is sound, and
--- its statements articulate.
+-- The statement of the chart and the history that the disk's content recovers to was printed. That history is sound, no
+-- entry of it posts to a closed fiscal year, and its statements articulate.
 pub record Reported {D : Type 0} (device : Device D) (disk : D) (year : ℕ) (kind : Kind) (csv : Bool) (held held' : Option (List ℕ)) (s : Status) : Type 0 where
   pub plan : Plan
   pub history : List Entry
   pub recovers : IsTrue device.tells → RecoversTo plan history (device.content disk)
   pub sound : IsSoundState (record { plan = plan; entries = history })
+  pub closed : ClosedYearsStay plan history
   pub articulates : AllArticulate plan history
   pub prints : Prints (report_text plan history year kind csv) held held' s
 

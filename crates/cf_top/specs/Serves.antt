@@ -1,5 +1,5 @@
 -- What a run of `serve` says, by its status.
-use Rattle.std.specs.Prelude.{◌≡◌, ◌≢◌, ◌⊎◌, ℕ, ◌<◌, ◌≤◌, List, ◌∷◌, [], ◌++◌, length, map, take, drop, Option, Some, IfSome, IsTrue, Err}
+use Rattle.std.specs.Prelude.{◌≡◌, ◌≢◌, ◌⊎◌, ℕ, ◌<◌, ◌≤◌, List, ◌∷◌, [], ◌++◌, length, map, take, drop, Option, Some, None, IfSome, IsTrue, Err}
 use Rattle.std.specs.Io.KnownBytes.{Appends}
 use Rattle.cf_articulation.specs.Articulates.{AllArticulate}
 use Rattle.cf_book.specs.Books.{RecoversNear}
@@ -16,7 +16,7 @@ use Rattle.cf_model.specs.State.{IsSoundState}
 use Rattle.cf_serve.specs.declared.end.ServeEnd.{ServeEnd}
 use Rattle.cf_serve.specs.declared.end.ServeEnd.TheVariants as end
 use Rattle.cf_talk.specs.ServeEnds.{AllQuiet, SomeRose, EndsWhole, EndsUnwritten, links_given, served_text}
-use Rattle.cf_talk.specs.ServeRuns.{DoorState, ServeRan}
+use Rattle.cf_talk.specs.ServeRuns.{DoorState, ServeRan, faults_said}
 use Rattle.cf_top.specs.declared.serve_command.Kept.{Kept}
 use Rattle.cf_top.specs.declared.serve_command.Kept.TheVariants as kept
 use Rattle.cf_top.specs.declared.status.Status.{Status}
@@ -26,9 +26,9 @@ use Rattle.cf_top.specs.Refused.{status_of_refused}
 
 -- Doors were kept over the journal of a disk, from the history that its content recovers to up to the last one. That is sound,
 -- no entry of it posts to a closed fiscal year, and its statements articulate. Whatever a crash leaves of the disk at the
--- end recovers to it, or to it and the entry in doubt, with which it is sound too. Until the journal was opened a crash left
--- what it could have left before the run; at each moment from then on, what recovers to a front of the last history, or to
--- that and one entry.
+-- end recovers to it, or to it and the entry in doubt, with which it is sound too; nothing is in doubt where no call was answered
+-- by a fault of the disk. Until the journal was opened a crash left what it could have left before the run; at each moment from
+-- then on, what recovers to a front of the last history that has the first one, or to that and one entry.
 pub record Served {D R L : Type 0} (device : Device D) (kind : DoorKind R L) (links : ℕ) (old new : D) (olds news : List (DoorState L)) : Type 0 where
   pub plan : Plan
   pub first : List Entry
@@ -42,12 +42,15 @@ pub record Served {D R L : Type 0} (device : Device D) (kind : DoorKind R L) (li
   pub articulates : AllArticulate plan last
   pub images : IsTrue device.tells → (image : List ℕ) → device.is_image new image → RecoversNear plan last (λ e. doubt ≡ Some e) image
   pub doubt_sound : IfSome doubt (λ e. IsSoundState (record { plan = plan; entries = last ++ e ∷ [] }))
-  pub any_moment : IsTrue device.tells → KeptSince device.moment device.was_image plan last (device.moment disk) new
+  pub clear : faults_said ran.doors.talks ≡ 0 → doubt ≡ None
+  pub any_moment : IsTrue device.tells → KeptSince device.moment device.was_image plan (length first) last (device.moment disk) new
 
--- the doors are as they were, and a read of the disk gives what it gave
+-- The doors are as they were. A read of the disk gives what it gave, and at each moment of the run a crash left what it
+-- could have left before it.
 pub record IsUnserved {D R : Type 0} (device : Device D) (old new : D) (doors doors' : List R) : Type 0 where
   pub doors_stay : doors' ≡ doors
   pub content : IsTrue device.tells → device.content new ≡ device.content old
+  pub any_moment : AtEachMoment device.moment device.was_image old new (device.is_image old)
 
 -- ---- how the doors were kept
 

@@ -10,7 +10,7 @@ ghost use Rattle.cf_top.specs.Devices.{device, door_kind};
 ghost use Rattle.cf_top.specs.Serves.{KeepsDoors, PutsLine, ServeEnds, TellsKept, kept_of};
 ghost use Rattle.cf_words.specs.Words.{command_of};
 
-use crate::running::Ran;
+use crate::running::{Ran, unread};
 use crate::status::{Status, refusal_status};
 use cf_base::Sink;
 use cf_book::{BookRefused, NotOpened, open_with_chart};
@@ -311,9 +311,6 @@ where
             status: Status::BadWords,
             disk,
         },
-        Err(WordsRefused::NoMemory) => Ran {
-            status: Status::NoMemory,
-            disk,
-        },
+        Err(WordsRefused::NoMemory) => unread(disk),
     }
 }

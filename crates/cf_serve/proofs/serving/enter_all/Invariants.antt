@@ -9,5 +9,5 @@ invariant-loop-entered g l = record {
   entered : l.hall.entered ≡ l.initial.hall.entered + l._entered;
   many : length l.passes.items ≡ l._entered;
   capacity : vec_capacity l.passes ≡ vec_capacity l.initial.passes;
-  fresh : All IsFreshPass l.passes.items;
+  fresh : All (IsFreshPass g.N.City.first) l.passes.items;
 }

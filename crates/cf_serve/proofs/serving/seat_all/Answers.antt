@@ -10,8 +10,8 @@ use Rattle.cf_serve.proofs.serving.seat_all.Goals as goal
 pub loop-door-preserved-in-Some-pop : goal.loop-door-preserved-in-Some-pop
 loop-door-preserved-in-Some-pop g c =
     let l = c.loop-door in
-    let split = All-pop IsFreshPass l.passes.items c.pop.new.self.items c.pop.result c.pop.ensures.items l.invariant.fresh in
-    let here : IsFreshPass c.in-Some-pop.pass = subst (λ r. IfSome r IsFreshPass) c.in-Some-pop.is split.1 in
+    let split = All-pop (IsFreshPass g.N.City.first) l.passes.items c.pop.new.self.items c.pop.result c.pop.ensures.items l.invariant.fresh in
+    let here : IsFreshPass g.N.City.first c.in-Some-pop.pass = subst (λ r. IfSome r (IsFreshPass g.N.City.first)) c.in-Some-pop.is split.1 in
     record {
       next = tt;
       finite = tt;
@@ -23,6 +23,6 @@ loop-door-preserved-in-Some-pop g c =
       many = long_on l.desks.items c.push_reserved.new.self.items l.yielded c.seat.result c.in-Some.door l.invariant.many c.push_reserved.ensures.items;
       doors = paired_on (door_of {L = g.row.R-Link.Denot}) (door_state g.R.Door.finished g.R.Door.given g.R.Door.coming g.R.Door.faults) l.desks.items c.push_reserved.new.self.items l.yielded c.seat.result c.in-Some.door
           l.invariant.doors c.seat.ensures.door c.push_reserved.ensures.items;
-      seated = subst (λ (xs : List (DeskState g.row.R-Link.Denot)). All (λ (d : DeskState g.row.R-Link.Denot). IsFreshPass d.pass) xs) (sym c.push_reserved.ensures.items)
-          (All-push (λ (d : DeskState g.row.R-Link.Denot). IsFreshPass d.pass) l.desks.items c.seat.result l.invariant.seated (subst IsFreshPass (sym c.seat.ensures.pass) here));
+      seated = subst (λ (xs : List (DeskState g.row.R-Link.Denot)). All (λ (d : DeskState g.row.R-Link.Denot). IsFreshPass g.N.City.first d.pass) xs) (sym c.push_reserved.ensures.items)
+          (All-push (λ (d : DeskState g.row.R-Link.Denot). IsFreshPass g.N.City.first d.pass) l.desks.items c.seat.result l.invariant.seated (subst (IsFreshPass g.N.City.first) (sym c.seat.ensures.pass) here));
     }

@@ -11,10 +11,10 @@ invariant-loop-door g l = record {
   finite : (goal.iterator-loop-door g).is_finite l.door-iterator;
   all : l.fn.doors.items ≡ l.yielded ++ into_iter_items l.door-iterator;
   pairs : length l.initial.passes.items ≡ length l.passes.items + length l.yielded;
-  fresh : All IsFreshPass l.passes.items;
+  fresh : All (IsFreshPass g.N.City.first) l.passes.items;
   capacity : vec_capacity l.passes ≡ vec_capacity l.initial.passes;
   room : vec_capacity l.desks ≡ vec_capacity l.initial.desks;
   many : length l.desks.items ≡ length l.yielded;
   doors : map door_of l.desks.items ≡ map (door_state g.R.Door.finished g.R.Door.given g.R.Door.coming g.R.Door.faults) l.yielded;
-  seated : All (λ d. IsFreshPass d.pass) l.desks.items;
+  seated : All (λ d. IsFreshPass g.N.City.first d.pass) l.desks.items;
 }

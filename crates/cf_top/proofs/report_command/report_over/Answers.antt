@@ -9,7 +9,7 @@ pub returns-in-Ok-clause-ends : goal.returns-in-Ok-clause-ends
 returns-in-Ok-clause-ends g c =
     report_printed (device g.D.Disk.tells g.D.Disk.content g.D.Disk.is_image g.D.Disk.moment g.D.Disk.was_image g.D.Disk.faults) c.args.year c.args.kind c.args.csv c.args.disk
     (g.O.Sink.held c.args.out.now) (g.O.Sink.held c.print-status.new.out) c.in-Ok.book c.close.result c.print-status.result
-    c.in-Ok.ensures.ok c.close.ensures.disk c.close.ensures.sound c.close.ensures.articulates (c.print-status.ensures.prints _ c.report_bytes.ensures)
+    c.in-Ok.ensures.ok c.close.ensures.disk c.close.ensures.sound c.close.ensures.closed c.close.ensures.articulates (c.print-status.ensures.prints _ c.report_bytes.ensures)
 
 pub returns-in-Err-clause-ends : goal.returns-in-Err-clause-ends
 returns-in-Err-clause-ends g c =

@@ -1,3 +1,4 @@
+use Rattle.std.proofs.Common.{length}
 use Rattle.cf_hall.specs.OpeningNames.{name_at}
 use Rattle.cf_top.proofs.serve_command.keep_doors.Given as goal
 
@@ -8,6 +9,8 @@ ghosts-serve_hall g a = record {
   stripes = name_at a.opening.stripes;
   accepted = a.opening.accepted.name;
   faulted = a.opening.faulted.name;
+  first = length a.book.entries;
+  doubt = a.book.doubt;
   begun = g.D.Disk.moment a.book.disk;
   risen = g.D.Disk.faults a.book.disk;
 }

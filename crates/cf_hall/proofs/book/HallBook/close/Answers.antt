@@ -1,4 +1,4 @@
-use Rattle.std.proofs.Common.{◌≡◌, ◌∷◌, ◌++◌, [], IfSome, Some, length, map, sym, ap, subst, ◌∙◌}
+use Rattle.std.proofs.Common.{◌≡◌, ◌≤◌, ◌∷◌, ◌++◌, [], IfSome, Some, length, map, sym, ap, subst, ◌∙◌, arith}
 use Rattle.cf_book.specs.Books.{RecoversNear}
 use Rattle.cf_calls.specs.declared.entry.Entry.{Entry}
 use Rattle.cf_model.specs.State.{OfficeState, IsSoundState}
@@ -22,6 +22,7 @@ returns-clause-ends g c =
     let was : OfficeState = record { plan = b.archive.plan; entries = b.archive.entries } in
     let now : OfficeState = record { plan = g.N.City.plan; entries = entries_of list } in
     let office : was ≡ now = λ i. record { plan = plan i; entries = entries i } in
+    let long : g.N.City.first ≤ length b.archive.entries = omega (arith, c.self.invariant.from, ap length c.self.invariant.list, entries_length b.recording.list) in
     record {
       list = list;
       doubt = doubt;
@@ -33,12 +34,13 @@ returns-clause-ends g c =
       doubt_sound = subst (λ (s : OfficeState). IfSome doubt (λ (e : Entry). IsSoundState (record { plan = s.plan; entries = s.entries ++ e ∷ [] }))) office c.close.ensures.doubt_sound;
       images = λ tells image is. subst (λ (s : OfficeState). RecoversNear s.plan s.entries (λ (e : Entry). doubt ≡ Some e) image) office (c.close.ensures.images tells image is);
       any_moment = λ tells.
-          subst (λ (disk : g.row.D.Denot). KeptSince d.moment d.was_image g.N.City.plan (entries_of list) g.N.City.begun disk) (sym c.close.ensures.disk)
-          (subst (λ (s : OfficeState). KeptSince d.moment d.was_image s.plan s.entries g.N.City.begun b.archive.disk) office
-          (kept_end d.moment d.was_image b.archive.plan d.is_image b.archive.entries (λ (e : Entry). doubt ≡ Some e) g.N.City.begun b.archive.disk (g.met.D.Disk.only_now b.archive.disk)
+          subst (λ (disk : g.row.D.Denot). KeptSince d.moment d.was_image g.N.City.plan g.N.City.first (entries_of list) g.N.City.begun disk) (sym c.close.ensures.disk)
+          (subst (λ (s : OfficeState). KeptSince d.moment d.was_image s.plan g.N.City.first s.entries g.N.City.begun b.archive.disk) office
+          (kept_end d.moment d.was_image b.archive.plan g.N.City.first d.is_image b.archive.entries (λ (e : Entry). doubt ≡ Some e) g.N.City.begun b.archive.disk long (g.met.D.Disk.only_now b.archive.disk)
           (λ image is. c.close.ensures.images tells image (subst (λ (disk : g.row.D.Denot). d.is_image disk image) (sym c.close.ensures.disk) is)) (c.self.invariant.since tells)));
       faulted =
           subst (λ (disk : g.row.D.Denot). RoseBy (faults_in (map receipts_of c.args.passes.items)) g.N.City.risen (d.faults disk)) (sym c.close.ensures.disk)
           (rose_less _ b.totals.faulted g.N.City.risen (d.faults b.archive.disk) c.close_in.ensures.faulted c.self.invariant.faulted);
       quiet = λ none. ap d.faults c.close.ensures.disk ∙ c.self.invariant.quiet (c.close_in.ensures.quiet none);
+      clear = λ none. c.self.invariant.clear (c.close_in.ensures.quiet none);
     }

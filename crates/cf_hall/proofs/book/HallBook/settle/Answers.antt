@@ -1,4 +1,4 @@
-use Rattle.std.proofs.Common.{◌≡◌, ℕ, ◌+◌, ◌∷◌, ◌++◌, [], List, Option, None, length, sym, ap, subst, ◌∙◌, inr, arith}
+use Rattle.std.proofs.Common.{◌≡◌, ℕ, ◌+◌, ◌≤◌, ◌∷◌, ◌++◌, [], List, Option, None, length, sym, ap, subst, ◌∙◌, inr, arith}
 use Rattle.std.proofs.lemmas.List.{append-nil}
 use Rattle.cf_budget.specs.declared.changes.LineChange.{LineChange}
 use Rattle.cf_budget.specs.Tables.{Tables, has_stripe}
@@ -9,6 +9,7 @@ use Rattle.cf_book.specs.DurableState.{state_of}
 use Rattle.cf_names.specs.Closing.{RoseBy}
 use Rattle.cf_names.specs.Lists.{entries_of}
 use Rattle.cf_names.specs.Shares.{TotalsState}
+use Rattle.cf_names.proofs.Entries.{entries_length}
 use Rattle.cf_registers.specs.Moved.{AreTablesOf}
 use Rattle.cf_turns.specs.Lists.{TaggedEntry}
 use Rattle.cf_turns.specs.States.{RecorderState}
@@ -16,7 +17,7 @@ use Rattle.cf_hall.specs.Fronts.{KeptSince}
 use Rattle.cf_hall.specs.Passes.{Sights, faults_by}
 use Rattle.cf_hall.specs.TakenState.{AreTakenStripes, AllSeen}
 use Rattle.cf_hall.proofs.Fronts.{kept_on}
-use Rattle.cf_hall.proofs.Saying.{risen_by, quiet_by, said_at, told_kept, told_added}
+use Rattle.cf_hall.proofs.Saying.{risen_by, quiet_by, clear_by, said_at, told_kept, told_added}
 use Rattle.cf_hall.proofs.Standing.{kept}
 use Rattle.cf_hall.proofs.book.HallBook.settle.Goals as goal
 
@@ -37,19 +38,22 @@ invariant_of-self g c =
     let b = c.self.inside in
     let list : c.see.new.recording.list ≡ b.recording.list = ap (λ (r : RecorderState). r.list) c.see.ensures.recorder ∙ ap (λ (r : RecorderState). r.list) c.catch_up.ensures.recorder in
     let faulted : c.see.new.totals.faulted ≡ b.totals.faulted + faults_by c.in-Kept.answer = ap (λ (t : TotalsState). t.faulted) c.see.ensures.totals in
+    let long : g.N.City.first ≤ length b.archive.entries = omega (arith, c.self.invariant.from, ap length c.self.invariant.list, entries_length b.recording.list) in
     record {
       plan = c.settle.ensures.plan ∙ c.self.invariant.plan;
       list = c.in-Kept.ensures.grows ∙ c.self.invariant.list ∙ ap entries_of (sym list);
+      from = omega (arith, c.self.invariant.from, ap length list);
       accepted = ap (λ (t : TotalsState). t.accepted) c.see.ensures.totals ∙ c.self.invariant.accepted ∙ ap length (sym list);
       faulted =
           subst (λ (n : ℕ). RoseBy n g.N.City.risen (d.faults c.settle.new.self.disk)) (sym faulted)
           (risen_by (state_of d.faults b.archive) c.args.call.now c.in-Kept.answer (state_of d.faults c.settle.new.self) b.totals.faulted g.N.City.risen c.in-Kept.ensures.reply c.self.invariant.faulted);
       quiet = λ is. quiet_by (state_of d.faults b.archive) c.args.call.now c.in-Kept.answer (state_of d.faults c.settle.new.self) b.totals.faulted g.N.City.risen c.in-Kept.ensures.reply c.self.invariant.quiet (sym faulted ∙ is);
+      clear = λ is. clear_by (state_of d.faults b.archive) c.args.call.now c.in-Kept.answer (state_of d.faults c.settle.new.self) b.totals.faulted g.N.City.doubt c.in-Kept.ensures.reply c.self.invariant.clear (sym faulted ∙ is);
       none_ended = ap (λ (r : RecorderState). r.ended) c.see.ensures.recorder ∙ ap (λ (r : RecorderState). r.ended) c.catch_up.ensures.recorder ∙ c.self.invariant.none_ended;
       since = λ tells. inr (
-          subst (λ (p : Plan). KeptSince d.moment d.was_image p c.settle.new.self.entries g.N.City.begun c.settle.new.self.disk) (sym c.settle.ensures.plan)
-          (kept_on d.moment d.was_image b.archive.plan b.archive.entries c.settle.new.self.entries [] _ g.N.City.begun b.archive.disk c.settle.new.self.disk
-          (c.in-Kept.ensures.grows ∙ sym (append-nil b.archive.entries)) (c.self.invariant.since tells) (c.settle.ensures.any_moment tells)));
+          subst (λ (p : Plan). KeptSince d.moment d.was_image p g.N.City.first c.settle.new.self.entries g.N.City.begun c.settle.new.self.disk) (sym c.settle.ensures.plan)
+          (kept_on d.moment d.was_image b.archive.plan g.N.City.first b.archive.entries c.settle.new.self.entries [] _ g.N.City.begun b.archive.disk c.settle.new.self.disk
+          long (c.in-Kept.ensures.grows ∙ sym (append-nil b.archive.entries)) (c.self.invariant.since tells) (c.settle.ensures.any_moment tells)));
     }
 
 pub invariant_of-taken : goal.invariant_of-taken
@@ -86,7 +90,7 @@ returns-in-Kept-clause-pass g c =
     let said = said_at plan (entries_of list) (entries_of list) c.args.call.now c.in-Kept.answer (state_of d.faults b.archive) (state_of d.faults c.settle.new.self)
     c.self.invariant.plan c.self.invariant.list (c.in-Kept.ensures.grows ∙ c.self.invariant.list) c.in-Kept.ensures.reply in
     let sights = subst (λ (l : List TaggedEntry). Sights now l c.in-Kept.answer c.see.new.pass) caught c.see.ensures.pass in
-    rw (← c.pass.view_is) (told_kept plan c.pass.inside.pass now c.see.new.pass list c.args.call.now c.catch_up.ensures.pass c.in-Kept.answer said sights c.see.ensures.seen)
+    rw (← c.pass.view_is) (told_kept plan c.pass.inside.pass now c.see.new.pass list c.args.call.now c.catch_up.ensures.pass c.in-Kept.answer said c.catch_up.ensures.legal sights c.see.ensures.seen)
 
 -- ---- an entry was added
 
@@ -116,19 +120,22 @@ invariant_of-self-in-Added g c =
     let accepted : c.add_last.new.totals.accepted ≡ b.totals.accepted + 1 = ap (λ (t : TotalsState). t.accepted) c.add_last.ensures.totals in
     let faulted : c.add_last.new.totals.faulted ≡ b.totals.faulted = ap (λ (t : TotalsState). t.faulted) c.add_last.ensures.totals in
     let none : b.totals.faulted + 0 ≡ b.totals.faulted = omega arith in
+    let long : g.N.City.first ≤ length b.archive.entries = omega (arith, c.self.invariant.from, ap length c.self.invariant.list, entries_length b.recording.list) in
     record {
       plan = c.settle.ensures.plan ∙ c.self.invariant.plan;
       list = sym c.add_last.ensures.list;
+      from = omega (arith, c.self.invariant.from, c.add_last.ensures.counted, ap length caught);
       accepted = omega (arith, accepted, c.self.invariant.accepted, c.add_last.ensures.counted, ap length caught);
       faulted =
           subst (λ (n : ℕ). RoseBy n g.N.City.risen (d.faults c.settle.new.self.disk)) (none ∙ sym faulted)
           (risen_by (state_of d.faults b.archive) c.args.call.now (posted.Reply c.in-Added.reply) (state_of d.faults c.settle.new.self) b.totals.faulted g.N.City.risen c.in-Added.ensures.reply c.self.invariant.faulted);
       quiet = λ is. quiet_by (state_of d.faults b.archive) c.args.call.now (posted.Reply c.in-Added.reply) (state_of d.faults c.settle.new.self) b.totals.faulted g.N.City.risen c.in-Added.ensures.reply c.self.invariant.quiet (none ∙ sym faulted ∙ is);
+      clear = λ is. clear_by (state_of d.faults b.archive) c.args.call.now (posted.Reply c.in-Added.reply) (state_of d.faults c.settle.new.self) b.totals.faulted g.N.City.doubt c.in-Added.ensures.reply c.self.invariant.clear (none ∙ sym faulted ∙ is);
       none_ended = c.add_last.ensures.recorder.ended ∙ ap (λ (r : RecorderState). r.ended) c.catch_up.ensures.recorder ∙ c.self.invariant.none_ended;
       since = λ tells. inr (
-          subst (λ (p : Plan). KeptSince d.moment d.was_image p c.settle.new.self.entries g.N.City.begun c.settle.new.self.disk) (sym c.settle.ensures.plan)
-          (kept_on d.moment d.was_image b.archive.plan b.archive.entries c.settle.new.self.entries (c.in-Added.ensures.grows.0 ∷ []) _ g.N.City.begun b.archive.disk c.settle.new.self.disk
-          c.in-Added.ensures.grows.1 (c.self.invariant.since tells) (c.settle.ensures.any_moment tells)));
+          subst (λ (p : Plan). KeptSince d.moment d.was_image p g.N.City.first c.settle.new.self.entries g.N.City.begun c.settle.new.self.disk) (sym c.settle.ensures.plan)
+          (kept_on d.moment d.was_image b.archive.plan g.N.City.first b.archive.entries c.settle.new.self.entries (c.in-Added.ensures.grows.0 ∷ []) _ g.N.City.begun b.archive.disk c.settle.new.self.disk
+          long c.in-Added.ensures.grows.1 (c.self.invariant.since tells) (c.settle.ensures.any_moment tells)));
     }
 
 pub returns-in-Added-clause-stripes : goal.returns-in-Added-clause-stripes

@@ -33,6 +33,7 @@ invariant_of-book g c =
     record {
       plan = ap (λ (a : DurableBook g.row.D.Denot). a.plan) parts.archive ∙ c.requires.plan.0;
       list = entries ∙ ap entries_of (sym here);
+      from = omega (arith, c.requires.first, ap (λ (a : DurableBook g.row.D.Denot). length a.entries) parts.archive, ap length entries, entries_length list, ap (λ (l : List TaggedEntry). length l) here);
       accepted = omega (
         arith,
         ap (λ (t : TotalsState). t.accepted) c.record_all.ensures.totals,
@@ -49,6 +50,7 @@ invariant_of-book g c =
         ap (λ (a : DurableBook g.row.D.Denot). d.faults a.disk) parts.archive,
       );
       quiet = λ none. ap (λ (a : DurableBook g.row.D.Denot). d.faults a.disk) parts.archive ∙ c.requires.risen;
+      clear = λ none. inl (ap (λ (a : DurableBook g.row.D.Denot). a.doubt) parts.archive ∙ c.requires.doubt);
       none_ended = c.begin-recording.ensures.recorder.ended ∙ c.record_all.ensures.recorder.ended ∙ ap (λ (r : RecorderState). r.ended) c.open_pass.ensures.recorder ∙ c.open_ties-counts.ensures.recorder.2
           ∙ ap (λ (r : RecorderState). r.ended) c.args.opening.fresh;
       since = λ tells. inl (ap (λ (a : DurableBook g.row.D.Denot). d.moment a.disk) parts.archive ∙ c.requires.begun);
