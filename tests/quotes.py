@@ -1,4 +1,4 @@
-"""What the pages of docs/ quote stands in the stored talks and statements of examples/: each call with its reply, each statement whole.
+"""What README.md and the pages of docs/ quote stands in the stored talks and statements of examples/: each call with its reply, each statement whole.
 
     python3 tests/quotes.py
 """
@@ -46,7 +46,7 @@ def main():
     pairs = set(stored_pairs())
     statements = [lines_of(name) for name in glob.glob("examples/**/*.reports/*.txt", recursive=True)]
     faults = 0
-    for page in sorted(glob.glob("docs/*.md")):
+    for page in ["README.md", *sorted(glob.glob("docs/*.md"))]:
         for number in [*unknown_quotes(page, pairs), *broken_statements(page, statements)]:
             print("%s:%d: not in the stored talks and statements" % (page, number))
             faults += 1
