@@ -3,12 +3,12 @@ ghost use Rattle.std.specs.Prelude.{◌≡◌, ◌++◌, [], Some, ◌≤◌, dr
 use crate::outside::{Failed, Sink, Source};
 use std::alloc::Global;
 
-// A source over bytes in memory.
+/// A source over bytes in memory.
 #[derive(Drop)]
 pub struct MemSource {
     bytes: Vec<u8>,
     place: usize,
-    // The numbers of the reads that fail.
+    /// The number, from 0, of the read that fails.
     fail_at: u64,
     reads: u64,
     faults: u64,
@@ -18,6 +18,7 @@ pub struct MemSource {
 impl MemSource {
     ghost use Rattle.cf_base.specs.Memory.{left_of};
 
+    /// A source of which no read fails.
     pub fn new(bytes: Vec<u8>) -> Self
         ensures { left_of result ≡ Some bytes.items }
     {
@@ -30,6 +31,7 @@ impl MemSource {
         }
     }
 
+    /// A source whose read of this number, from 0, fails.
     pub fn failing(bytes: Vec<u8>, fail_at: u64) -> Self
         ensures { left_of result ≡ Some bytes.items }
     {
@@ -65,7 +67,7 @@ impl Source for MemSource {
     }
 }
 
-// A sink that keeps its bytes in memory.
+/// A sink that keeps its bytes in memory.
 #[derive(Drop)]
 pub struct MemSink {
     bytes: Vec<u8>,
@@ -74,6 +76,7 @@ pub struct MemSink {
 }
 
 impl MemSink {
+    /// A sink that takes bytes while there is memory.
     pub fn new(alloc: Global) -> Self {
         MemSink {
             bytes: Vec::new(alloc),
@@ -82,6 +85,7 @@ impl MemSink {
         }
     }
 
+    /// A sink that takes this many bytes.
     pub fn limited(alloc: Global, limit: usize) -> Self {
         MemSink {
             bytes: Vec::new(alloc),
@@ -90,6 +94,7 @@ impl MemSink {
         }
     }
 
+    /// The bytes that were written.
     pub fn bytes(&self) -> &[u8] {
         self.bytes.as_slice()
     }

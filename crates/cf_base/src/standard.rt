@@ -15,6 +15,7 @@ pub struct StdSource<R: Read + Drop> {
 }
 
 impl<R: Read + Drop> StdSource<R> {
+    /// The bytes of this reader.
     pub fn new(reader: R) -> Self {
         StdSource { reader, faults: 0 }
     }
@@ -46,6 +47,7 @@ pub struct FileSource<'a, R: Files> {
 }
 
 impl<'a, R: Files> FileSource<'a, R> {
+    /// The bytes of the file at this path, which is opened later.
     pub fn new(files: &'a R, path: &'a str) -> Self {
         FileSource {
             files,
@@ -93,6 +95,7 @@ pub struct StdSink<W: Write + Drop> {
 }
 
 impl<W: Write + Drop> StdSink<W> {
+    /// What is written goes to this writer.
     pub fn new(writer: W) -> Self {
         StdSink { writer, faults: 0 }
     }

@@ -36,6 +36,7 @@ impl<T> List<T> {
         List { items }
     }
 
+    /// The items, to be read.
     pub fn as_slice(&self) -> &[T]
         ensures { result.now ≡ self.now }
     {

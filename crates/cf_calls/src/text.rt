@@ -29,6 +29,7 @@ impl Text {
         })
     }
 
+    /// The characters, to be read.
     pub fn as_str(&self) -> &str
         ensures { result.now ≡ self.now }
     {

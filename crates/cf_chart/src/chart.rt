@@ -70,6 +70,7 @@ impl Chart {
         self.city.as_str()
     }
 
+    /// What the city does, by rising id, at most 64.
     pub fn functions(&self) -> &[Function]
         ensures value { result.now ≡ self.now.functions }
         ensures rising { is_rising (λ f. f.id) result.now ≡ true }
@@ -78,12 +79,14 @@ impl Chart {
         self.functions.as_slice()
     }
 
+    /// The funds, by rising id.
     pub fn funds(&self) -> &[Fund]
         ensures { result.now ≡ self.now.funds }
     {
         self.funds.as_slice()
     }
 
+    /// The departments, by rising id. The function of each is there.
     pub fn depts(&self) -> &[Department]
         ensures value { result.now ≡ self.now.departments }
         ensures known { list_all (has_function self.now.functions) result.now ≡ true }
@@ -91,12 +94,14 @@ impl Chart {
         self.departments.as_slice()
     }
 
+    /// The objects, by rising id.
     pub fn objects(&self) -> &[Object]
         ensures { result.now ≡ self.now.objects }
     {
         self.objects.as_slice()
     }
 
+    /// The revenue sources, by rising id, at most 256.
     pub fn sources(&self) -> &[RevenueSource]
         ensures value { result.now ≡ self.now.sources }
         ensures few { length result.now ≤ 256 }
@@ -112,6 +117,7 @@ impl Chart {
         self.lines.as_slice()
     }
 
+    /// The desks, by rising id.
     pub fn desks(&self) -> &[Desk]
         ensures { result.now ≡ self.now.desks }
     {

@@ -6,10 +6,10 @@ ghost use Rattle.cf_base.specs.Causes.{HasCause};
 
 use cf_base::{Failed, Source};
 
-// The bytes of a read, and of the answers that gather.
+/// The bytes of a read, and of the answers that gather.
 pub(crate) const CHUNK: usize = 65_536;
 
-// Reads at most `most` bytes, and at most a chunk.
+/// Reads at most `most` bytes, and at most a chunk.
 pub(crate) fn read_chunk<S: Source>(
     source: &mut S,
     chunk: &mut [u8],

@@ -24,6 +24,7 @@ pub struct FileDisk<'a, R: Files> {
 }
 
 impl<'a, R: Files<File = File>> FileDisk<'a, R> {
+    /// The disk of the file at this path, which is opened later.
     pub fn new(files: &'a R, path: &'a str) -> Self {
         FileDisk {
             files,

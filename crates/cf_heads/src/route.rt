@@ -33,6 +33,7 @@ pub enum Miss {
 }
 
 impl Route {
+    /// The one method by which the route is asked.
     pub fn method(self) -> Method
         ensures { result ≡ method_of self }
     {
@@ -45,6 +46,7 @@ impl Route {
 }
 
 impl Method {
+    /// The method as it stands in a head (RFC 9110).
     pub fn name(self) -> &'static str
         ensures { result.now ≡ method_name self }
     {

@@ -31,6 +31,7 @@ pub struct Workspace {
 }
 
 impl Workspace {
+    /// Takes the memory that serving needs, but for what an answerer takes.
     pub fn new(alloc: Global) -> Result<Workspace, AllocError>
         ensures { IfOk result (λ workspace. workspace.inbox.bytes.items ≡ []) }
     {

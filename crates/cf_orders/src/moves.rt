@@ -68,6 +68,7 @@ pub fn release_move(row: &HoldRow) -> LineMove
     made
 }
 
+/// Whether a requisition still holds its amounts.
 pub fn is_open(state: RequisitionState) -> bool
     ensures { result ≡ spec.is_open state }
 {
@@ -120,6 +121,7 @@ pub fn item_move(row: &ItemRow, by: i128) -> LineMove
     made
 }
 
+/// What a requisition's item of this place holds.
 pub fn hold_at(year: u16, items: &[AccountItem], nth: usize) -> Option<LineMove>
     ensures value { result ≡ option_map line_move (slice_get (map (model.hold_move year) items.now) nth) }
     ensures small { IfSome result IsSmall }
@@ -130,6 +132,7 @@ pub fn hold_at(year: u16, items: &[AccountItem], nth: usize) -> Option<LineMove>
     }
 }
 
+/// What an order's item of this place encumbers.
 pub fn order_at(year: u16, items: &[AccountItem], nth: usize) -> Option<LineMove>
     ensures value { result ≡ option_map line_move (slice_get (map (model.order_move year) items.now) nth) }
     ensures small { IfSome result IsSmall }
@@ -140,6 +143,7 @@ pub fn order_at(year: u16, items: &[AccountItem], nth: usize) -> Option<LineMove
     }
 }
 
+/// What a voucher's item of this place expends.
 pub fn spend_at(year: u16, items: &[VoucherItem], nth: usize) -> Option<LineMove>
     ensures value { result ≡ option_map line_move (slice_get (map (model.spend_move year) items.now) nth) }
     ensures small { IfSome result IsSmall }

@@ -240,6 +240,7 @@ fn write_off(
     }
 }
 
+/// One deed alone.
 pub fn one(alloc: Global, deed: Deed) -> Result<Vec<Deed>, AllocError>
     ensures { IfOk result (λ v. v.items ≡ deed ∷ []) }
 {

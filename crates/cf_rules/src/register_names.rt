@@ -17,6 +17,7 @@ use cf_debt::Debt;
 use cf_registers::{Registers, is_capital};
 use cf_revenue::Revenue;
 
+/// Refuses a department that isn't in the chart.
 pub fn dept_fault(chart: &Chart, dept: u16) -> Option<Refusal>
     ensures { result ≡ spec.unknown_dept chart.now dept }
 {

@@ -44,6 +44,7 @@ impl Told for Brand {
     ghost entries = { [] };
 }
 
+/// The rule of the history word: it holds the length of one list, which grows at its end alone.
 pub struct LengthOfOneList;
 
 impl TableRule<(), View, ()> for LengthOfOneList {
