@@ -35,7 +35,6 @@ use std::snapshot::Snapshot;
 
 /// A history with the journal that keeps it on a disk, and all that is looked up in it but line numbers. Whatever a crash
 /// leaves of the disk recovers to the history, or to it and the one entry in doubt.
-#[derive(Drop)]
 pub struct Archive<D: Disk + Drop> {
     rest: Rest,
     journal: Journal,
@@ -43,6 +42,19 @@ pub struct Archive<D: Disk + Drop> {
     // For proofs alone: the bytes that state the chart, and the entry in doubt. Neither has bytes of its own.
     chart: Snapshot<Vec<u8>>,
     doubt: Option<Snapshot<Entry>>,
+}
+
+/// Written out, for a derived one is proved anew in each crate that lets such a value go.
+impl<D: Disk + Drop> Drop for Archive<D> {
+    fn drop(self) {
+        let Archive {
+            rest: _,
+            journal: _,
+            disk: _,
+            chart: _,
+            doubt: _,
+        } = self;
+    }
 }
 
 impl<D: Disk + Drop> Model for Archive<D> {
@@ -226,7 +238,13 @@ impl<D: Disk + Drop> Archive<D> {
         ensures images { IsTrue D.tells → (image : List ℕ) → D.is_image result image
             → RecoversNear self.plan self.entries (λ e. self.doubt ≡ Some e) image }
     {
-        let Archive { rest, disk, .. } = self;
+        let Archive {
+            rest,
+            journal: _,
+            disk,
+            chart: _,
+            doubt: _,
+        } = self;
         let _legal = rest.entries();
         disk
     }

@@ -6,7 +6,6 @@ use crate::text::Key;
 use cf_base::Day;
 
 /// A call that would change the history.
-#[derive(Drop)]
 pub struct Change {
     pub desk: u16,
     pub key: Key,
@@ -15,6 +14,19 @@ pub struct Change {
     /// The least length of the history that the caller has seen.
     pub after: Option<u64>,
     pub act: Act,
+}
+
+/// Written out, for a derived one is proved anew in each crate that lets such a value go.
+impl Drop for Change {
+    fn drop(self) {
+        let Change {
+            desk: _,
+            key: _,
+            on: _,
+            after: _,
+            act: _,
+        } = self;
+    }
 }
 
 /// A call that only looks.

@@ -17,7 +17,6 @@ use std::collections::BTreeMap;
 use std::marker::Model;
 
 /// A chart. Each table is by rising id, and the control lines by number.
-#[derive(Drop)]
 pub struct Chart {
     pub(crate) city: Label,
     pub(crate) first_year: u16,
@@ -30,6 +29,25 @@ pub struct Chart {
     pub(crate) lines: List<Line>,
     pub(crate) numbers: BTreeMap<LineKey, u16>,
     pub(crate) desks: List<Desk>,
+}
+
+/// Written out, for a derived one is proved anew in each crate that lets such a value go.
+impl Drop for Chart {
+    fn drop(self) {
+        let Chart {
+            city: _,
+            first_year: _,
+            first_month: _,
+            functions: _,
+            funds: _,
+            departments: _,
+            objects: _,
+            sources: _,
+            lines: _,
+            numbers: _,
+            desks: _,
+        } = self;
+    }
 }
 
 impl Model for Chart {

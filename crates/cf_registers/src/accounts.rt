@@ -29,11 +29,21 @@ use std::alloc::{AllocError, Global};
 use std::marker::Model;
 
 /// The balances of all that was posted, and the posts that are ready: those of an entry, for which memory is taken.
-#[derive(Drop)]
 pub struct Accounts {
     ledger: Ledger,
     fund: Vec<Post>,
     gov: Vec<Post>,
+}
+
+/// Written out, for a derived one is proved anew in each crate that lets such a value go.
+impl Drop for Accounts {
+    fn drop(self) {
+        let Accounts {
+            ledger: _,
+            fund: _,
+            gov: _,
+        } = self;
+    }
 }
 
 impl Model for Accounts {

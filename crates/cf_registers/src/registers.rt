@@ -22,12 +22,23 @@ use std::marker::Model;
 
 /// The registers that the entries of a history make. Each has the same five calls, and the office speaks to them
 /// through these alone. An act that no register knows leaves them all as they are.
-#[derive(Drop)]
 pub struct Registers {
     orders: Orders,
     revenue: Revenue,
     assets: Assets,
     debt: Debt,
+}
+
+/// Written out, for a derived one is proved anew in each crate that lets such a value go.
+impl Drop for Registers {
+    fn drop(self) {
+        let Registers {
+            orders: _,
+            revenue: _,
+            assets: _,
+            debt: _,
+        } = self;
+    }
 }
 
 impl Model for Registers {
