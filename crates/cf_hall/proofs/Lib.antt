@@ -2,6 +2,7 @@ pub mod Begun
 pub mod Counting
 pub mod Ending
 pub mod Fronts
+pub mod Lasting
 pub mod Longer
 pub mod Resting
 pub mod Saying

@@ -3,7 +3,6 @@ use denote.RattleType.{RattleType}
 use denote.Param.{number}
 use denote.Param.Send.{IsSend, IsSync, sendable, struct_send, struct_sync, recorded_send, recorded_sync, view_send, view_sync}
 use denote.Struct.Declared.{shape}
-use denote.Param.SendFields.{as_row_send, as_row_sync, declared_send, declared_sync, variants_send, array_field_send, owner_send}
 use Rattle.std.proofs.Crossing as heap
 use Rattle.std.proofs.Crossing.{crosses}
 use Rattle.std.proofs.MapsCrossing as maps
@@ -14,7 +13,6 @@ use Rattle.atomic_table.proofs.shared.Shared.TheSendSync as word
 use Rattle.atomic_table.proofs.send_lease.SendLease.TheSendSync as lease
 use Rattle.cf_names.specs.declared.names.City as city
 use Rattle.cf_disk.specs.declared.disk.Disk as disk
-use Rattle.atomic_table.specs.contracts.owned.Table as words
 use Rattle.cf_budget.specs.contracts.in_year.InYearPartialEq.TheImpl as in_year_eq
 use Rattle.cf_budget.specs.contracts.in_year.InYearPartialOrd.TheImpl as in_year_partial
 use Rattle.cf_calls.specs.contracts.list.List as list
@@ -42,7 +40,6 @@ use Rattle.cf_chart.specs.contracts.rows.Desk as Desk
 use Rattle.cf_orders.specs.contracts.rows.HoldRow as HoldRow
 use Rattle.cf_orders.specs.contracts.rows.ItemRow as ItemRow
 use Rattle.cf_orders.specs.contracts.rows.ExpenditureRow as ExpenditureRow
-use Rattle.cf_orders.specs.contracts.rows.Extent as Extent
 use Rattle.cf_debt.specs.contracts.rows.BondRow as BondRow
 use Rattle.cf_debt.specs.contracts.rows.LeaveRow as LeaveRow
 use Rattle.cf_journal.specs.contracts.journal.Journal as journal
@@ -61,7 +58,6 @@ use Rattle.cf_chart.specs.contracts.index.LineKeyPartialEq.TheImpl as line_key_e
 use Rattle.cf_chart.specs.contracts.index.LineKeyPartialOrd.TheImpl as line_key_partial
 use Rattle.cf_chart.specs.contracts.chart.Chart as chart
 use Rattle.cf_chart.specs.contracts.chart.Chart.TheInside as chart_inside
-use Rattle.cf_assets.specs.contracts.rows.Extent as AssetExtent
 use Rattle.cf_assets.specs.contracts.rows.AssetRow as AssetRow
 use Rattle.cf_orders.specs.contracts.orders.Orders as orders
 use Rattle.cf_orders.specs.contracts.orders.Orders.TheInside as orders_inside
@@ -95,7 +91,6 @@ use Rattle.cf_ledger.specs.contracts.places.Place as Place
 use Rattle.cf_office.specs.contracts.rest.Rest as rest
 use Rattle.cf_office.specs.contracts.rest.Rest.TheInside as rest_inside
 use Rattle.cf_book.specs.contracts.archive.Archive as archive
-use Rattle.cf_book.specs.contracts.archive.Archive.TheInside as archive_inside
 use Rattle.cf_names.specs.contracts.shares.Totals as totals
 use Rattle.cf_names.specs.contracts.shares.Shares as shares
 use Rattle.cf_names.specs.contracts.ties.Counts as counts
@@ -118,7 +113,6 @@ use Rattle.std.specs.contracts.prelude.U16PartialOrd.TheImpl as u16_partial
 use Rattle.std.specs.contracts.prelude.StringPartialEq.TheImpl as string_eq
 use Rattle.std.specs.contracts.prelude.StringPartialOrd.TheImpl as string_partial
 use Rattle.cf_hall.specs.contracts.shared.Shared.TheInside as shared_inside
-use Rattle.cf_ledger.specs.contracts.history.History as History
 use Rattle.std.specs.contracts.alloc.Global as global_row
 use Rattle.std.specs.contracts.impls.GlobalAllocator.TheImpl as global_impl
 use denote.Struct.Field.{i128-field}

@@ -17,6 +17,7 @@ use Rattle.cf_hall.specs.Fronts.{KeptSince}
 use Rattle.cf_hall.specs.Passes.{Sights, faults_by}
 use Rattle.cf_hall.specs.TakenState.{AreTakenStripes, AllSeen}
 use Rattle.cf_hall.proofs.Fronts.{kept_on}
+use Rattle.cf_hall.proofs.Lasting.{added_by}
 use Rattle.cf_hall.proofs.Saying.{risen_by, quiet_by, clear_by, said_at, told_kept, told_added}
 use Rattle.cf_hall.proofs.Standing.{kept}
 use Rattle.cf_hall.proofs.book.HallBook.settle.Goals as goal
@@ -156,3 +157,13 @@ returns-in-Added-clause-pass g c =
     let e : Entry = c.add_last.ensures.grows.0 in
     let grows : c.add_last.new.recording.list ≡ list ++ (e, now.number) ∷ [] = c.add_last.ensures.grows.1 ∙ ap (λ (l : List TaggedEntry). l ++ (e, now.number) ∷ []) caught in
     rw (← c.pass.view_is) (told_added plan c.pass.inside.pass now c.add_last.new.pass list c.args.call.now c.catch_up.ensures.pass c.add_last.new.recording.list e c.in-Added.reply grows said c.add_last.ensures.pass)
+
+pub add_last-requires-clause-added : goal.add_last-requires-clause-added
+add_last-requires-clause-added g c =
+    let plan = g.N.City.plan in
+    let b = c.self.inside in
+    let list = c.catch_up.new.self.list in
+    let history : b.archive.entries ≡ entries_of list = c.self.invariant.list ∙ ap entries_of (sym (ap (λ (r : RecorderState). r.list) c.catch_up.ensures.recorder)) in
+    let none : c.taken.inside.lines ≡ c.args.taken.now.lines = rw (← c.taken.view_is) at c.catch_up.ensures.lines in
+    added_by plan list b.archive.plan b.archive.entries c.settle.new.self.entries c.args.taken.now.lines c.settle.new.lines c.args.call.now c.in-Added.reply c.in-Added.owed
+    c.self.invariant.plan history c.in-Added.ensures.grows c.requires.lent (λ k. c.settle.ensures.stripes k ∙ ap (λ (t : Tables). has_stripe t k) none)
