@@ -11,39 +11,11 @@ use std::thread::Threads;
 use std::time::Clock;
 use std::{fs, io};
 
-/// Counts, with a blank before each.
-fn numbers(alloc: Global, counts: &[u64]) -> Result<String, AllocError> {
-    let mut text = String::new(alloc);
-    for count in counts {
-        let count = format!(in alloc; " {count}")?;
-        text.push_str(count.as_str())?;
-    }
-    Ok(text)
-}
-
-/// How many calls of each caller were accepted.
-fn accepted(alloc: Global, played: &Played) -> Result<Vec<u64>, AllocError> {
-    let mut counts = Vec::new(alloc);
-    for receipts in &played.receipts {
-        counts.push(receipts.accepted())?;
-    }
-    Ok(counts)
-}
-
-/// How many calls of each caller were answered by a fault of the disk.
-fn faults(alloc: Global, played: &Played) -> Result<Vec<u64>, AllocError> {
-    let mut counts = Vec::new(alloc);
-    for receipts in &played.receipts {
-        counts.push(receipts.faults())?;
-    }
-    Ok(counts)
-}
-
-/// The sum of counts.
-fn total(counts: &[u64]) -> u64 {
+/// How many calls of all callers were accepted.
+fn accepted(played: &Played) -> u64 {
     let mut total = 0u64;
-    for count in counts {
-        total = total.saturating_add(*count);
+    for receipts in &played.receipts {
+        total = total.saturating_add(receipts.accepted());
     }
     total
 }
@@ -77,23 +49,36 @@ fn show_gates(rt: &impl Print, stage: &Stage) -> io::Result<()> {
     )
 }
 
+/// Prints how many calls of each caller were accepted.
+fn show_accepted(rt: &impl Print, played: &Played) -> io::Result<()> {
+    for receipts in &played.receipts {
+        print!(rt; " {}", receipts.accepted())?;
+    }
+    Ok(())
+}
+
+/// Prints how many calls of each caller were answered by a fault of the disk.
+fn show_faults(rt: &impl Print, played: &Played) -> io::Result<()> {
+    for receipts in &played.receipts {
+        print!(rt; " {}", receipts.faults())?;
+    }
+    Ok(())
+}
+
 /// Prints what playing left.
-fn show_played(rt: &impl Print, alloc: Global, played: &Played) -> io::Result<()> {
-    let counts = accepted(alloc, played)?;
-    let accepted = numbers(alloc, counts.as_slice())?;
-    let counts = faults(alloc, played)?;
-    let faults = numbers(alloc, counts.as_slice())?;
-    println!(rt;
-        "= {} entries, accepted{accepted}, faults{faults}",
-        played.entries
-    )
+fn show_played(rt: &impl Print, played: &Played) -> io::Result<()> {
+    print!(rt; "= {} entries, accepted", played.entries)?;
+    show_accepted(rt, played)?;
+    print!(rt; ", faults")?;
+    show_faults(rt, played)?;
+    println!(rt; "")
 }
 
 /// Prints what each caller was answered, and what playing left.
 fn show_all(rt: &impl Print, stage: &mut Stage, played: &Played) -> io::Result<()> {
     show_callers(rt, stage)?;
     show_gates(rt, stage)?;
-    show_played(rt, stage.alloc, played)
+    show_played(rt, played)
 }
 
 /// Plays all callers once, and prints what came of it.
@@ -109,8 +94,7 @@ fn play_once<R: Print + Threads + Wait + Clock + Sync>(
 
 /// What playing left that is the same, whoever came first.
 fn mixed_text(stage: &mut Stage, played: &Played) -> Result<String, AllocError> {
-    let counts = accepted(stage.alloc, played)?;
-    let accepted = total(counts.as_slice());
+    let accepted = accepted(played);
     let replies = summary(stage)?;
     format!(in stage.alloc;
         "{replies}\n= {} entries, {accepted} accepted",

@@ -27,31 +27,49 @@ fn add_replies(alloc: Global, sorted: &mut Sorted, replies: &str) -> Result<(), 
     Ok(())
 }
 
-fn text_of(alloc: Global, sorted: &Sorted) -> Result<String, AllocError> {
-    let mut text = String::new(alloc);
-    for body in &sorted.bodies {
+/// Adds the replies to a text, each on a line.
+fn put_bodies(bodies: &[String], text: &mut String) -> Result<(), AllocError> {
+    for body in bodies {
         text.push_str(body.as_str())?;
         text.push('\n')?;
     }
-    text.push_str("at")?;
-    for place in &sorted.places {
+    Ok(())
+}
+
+/// Adds the places to a text, with a blank before each.
+fn put_places(alloc: Global, places: &[u64], text: &mut String) -> Result<(), AllocError> {
+    for place in places {
         let place = format!(in alloc; " {place}")?;
         text.push_str(place.as_str())?;
     }
-    Ok(text)
+    Ok(())
+}
+
+/// Sorts the replies and the places, and adds them to a text.
+fn put_sorted(alloc: Global, sorted: &mut Sorted, text: &mut String) -> Result<(), AllocError> {
+    sorted.bodies.sort()?;
+    sorted.places.sort()?;
+    put_bodies(sorted.bodies.as_slice(), text)?;
+    text.push_str("at")?;
+    put_places(alloc, sorted.places.as_slice(), text)
+}
+
+/// Adds the replies of all callers.
+fn add_all(stage: &mut Stage, sorted: &mut Sorted) -> Result<(), AllocError> {
+    for caller in stage.table.callers.iter_mut() {
+        add_replies(stage.alloc, sorted, caller.get_mut().replies())?;
+    }
+    Ok(())
 }
 
 /// The replies of all callers without their places, and the places, both sorted.
 pub fn summary(stage: &mut Stage) -> Result<String, AllocError> {
-    let alloc = stage.alloc;
     let mut sorted = Sorted {
-        bodies: Vec::new(alloc),
-        places: Vec::new(alloc),
+        bodies: Vec::new(stage.alloc),
+        places: Vec::new(stage.alloc),
     };
-    for caller in stage.table.callers.iter_mut() {
-        add_replies(alloc, &mut sorted, caller.get_mut().replies())?;
-    }
-    sorted.bodies.sort()?;
-    sorted.places.sort()?;
-    text_of(alloc, &sorted)
+    add_all(stage, &mut sorted)?;
+    let mut text = String::new(stage.alloc);
+    put_sorted(stage.alloc, &mut sorted, &mut text)?;
+    Ok(text)
 }
