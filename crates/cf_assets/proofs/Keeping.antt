@@ -6,8 +6,8 @@ use Rattle.std.proofs.lemmas.List.Sums.{sum_by-cons}
 use Rattle.cf_assets.specs.declared.rows.AssetRow.{AssetRow}
 use Rattle.cf_assets.specs.declared.rows.StageNow.{StageNow}
 use Rattle.cf_assets.specs.declared.rows.StageNow.TheVariants.{Held, Void, Disposed}
-use Rattle.cf_assets.specs.Inventory.{AreKept, worn_at}
-use Rattle.cf_assets.specs.InventoryView.{AreWorn}
+use Rattle.cf_assets.specs.Inventory.{AreKept, accumulated_at}
+use Rattle.cf_assets.specs.InventoryView.{AreAccumulated}
 use Rattle.cf_assets.specs.Rows.{view_asset, view_stage, IsRow, IsStage, AreRows, no_row}
 use Rattle.cf_assets.specs.Years.{AreYears, cell_of, with_cell, bought_in, given_in, book_in}
 use Rattle.cf_assets.proofs.Cells.{sum_push, sum_set, sum_small, push_adds, push_same, set_same, set_adds, set_takes, years_same, enough_there}
@@ -109,8 +109,8 @@ kept closed rows are k d l =
 
 -- ---- a new asset
 
-pub worn_push : (rows : List AssetRow) (r : AssetRow) (worn : List ℕ) → r.stage ≡ Held → length worn ≤ r.service → AreWorn (map view_asset rows) worn → AreWorn (map view_asset (rows ++ r ∷ [])) worn
-worn_push rows r worn is early are n l =
+pub accumulated_push : (rows : List AssetRow) (r : AssetRow) (accumulated : List ℕ) → r.stage ≡ Held → length accumulated ≤ r.service → AreAccumulated (map view_asset rows) accumulated → AreAccumulated (map view_asset (rows ++ r ∷ [])) accumulated
+accumulated_push rows r accumulated is early are n l =
     let none : depreciation (n + 1) (view_asset r) ≡ 0 = not_yet (n + 1) (view_asset r) (omega (arith, early, l, ap (λ s. counted (view_stage s) (n + 1)) is)) in
     rw (view_push rows r) (omega (arith, are n l, sum_push (depreciation (n + 1)) (map view_asset rows) (view_asset r), none))
 
@@ -190,9 +190,9 @@ restage_rows closed k rows r s at are ok =
     let was = row_is closed k rows r at are in
     rows_set closed rows k (restaged s r) at.within are (record { number = was.number; cost = was.cost; from = was.from; to = was.to; stage = ok })
 
-pub restage_worn : (k : ℕ) (rows : List AssetRow) (r : AssetRow) (s : StageNow) (worn : List ℕ) → IsAt k rows r → AreWorn (map view_asset rows) worn →
-    ((n : ℕ) → n < length worn → depreciation (n + 1) (view_asset (restaged s r)) ≡ depreciation (n + 1) (view_asset r)) → AreWorn (map view_asset (set rows k (restaged s r))) worn
-restage_worn k rows r s worn at are same n l =
+pub restage_accumulated : (k : ℕ) (rows : List AssetRow) (r : AssetRow) (s : StageNow) (accumulated : List ℕ) → IsAt k rows r → AreAccumulated (map view_asset rows) accumulated →
+    ((n : ℕ) → n < length accumulated → depreciation (n + 1) (view_asset (restaged s r)) ≡ depreciation (n + 1) (view_asset r)) → AreAccumulated (map view_asset (set rows k (restaged s r))) accumulated
+restage_accumulated k rows r s accumulated at are same n l =
     rw (view_set rows k (restaged s r))
     (omega (
       arith,
@@ -228,10 +228,10 @@ held_now (Disposed year closed) e = cc
 pub held_row : (k : ℕ) (rows : List AssetRow) (r : AssetRow) → IsAt k rows r → ((d : Asset) → (get_or (map view_asset rows) k d).stage ≡ held) → r.stage ≡ Held
 held_row k rows r at keeps = held_now r.stage (sym (ap (λ (a : Asset). a.stage) (viewed k rows r (view_asset r) at)) ∙ keeps (view_asset r))
 
-pub void_worn : (k : ℕ) (rows : List AssetRow) (r : AssetRow) (worn : List ℕ) → IsAt k rows r → depreciation (length worn) (view_asset r) ≡ 0 → AreWorn (map view_asset rows) worn → AreWorn (map view_asset (set rows k (restaged Void r))) worn
-void_worn k rows r worn at none are =
-    restage_worn k rows r Void worn at are (λ n l.
-    omega (arith, none, never_falls (n + 1) (length worn) (view_asset r) (omega (arith, l)), not_yet (n + 1) (view_asset (restaged Void r)) (omega arith)))
+pub void_accumulated : (k : ℕ) (rows : List AssetRow) (r : AssetRow) (accumulated : List ℕ) → IsAt k rows r → depreciation (length accumulated) (view_asset r) ≡ 0 → AreAccumulated (map view_asset rows) accumulated → AreAccumulated (map view_asset (set rows k (restaged Void r))) accumulated
+void_accumulated k rows r accumulated at none are =
+    restage_accumulated k rows r Void accumulated at are (λ n l.
+    omega (arith, none, never_falls (n + 1) (length accumulated) (view_asset r) (omega (arith, l)), not_yet (n + 1) (view_asset (restaged Void r)) (omega arith)))
 
 pub void_bought : (k : ℕ) (rows : List AssetRow) (r : AssetRow) (cells : List ℕ) → IsAt k rows r → r.stage ≡ Held → is_some r.voucher ≡ true → 1970 ≤ r.year → r.year ≤ 2200 →
     AreYears (λ y. sum_by (bought_in y) (map view_asset rows)) cells → AreYears (λ y. sum_by (bought_in y) (map view_asset (set rows k (restaged Void r)))) (with_cell cells r.year (cell_of cells r.year - r.cost))
@@ -275,10 +275,10 @@ held_book closed y r is = by_stage r.stage is
 
 -- ---- a disposal
 
-pub gone_worn : (k at : ℕ) (rows : List AssetRow) (r : AssetRow) (worn : List ℕ) → IsAt k rows r → r.stage ≡ Held → AreWorn (map view_asset rows) worn → AreWorn (map view_asset (set rows k (restaged (Disposed at (length worn)) r))) worn
-gone_worn k at rows r worn here is are =
-    restage_worn k rows r (Disposed at (length worn)) worn here are (λ n l.
-    let same : min (n + 1) (length worn) - r.service ≡ (n + 1) - r.service = omega (arith, l) in
+pub gone_accumulated : (k at : ℕ) (rows : List AssetRow) (r : AssetRow) (accumulated : List ℕ) → IsAt k rows r → r.stage ≡ Held → AreAccumulated (map view_asset rows) accumulated → AreAccumulated (map view_asset (set rows k (restaged (Disposed at (length accumulated)) r))) accumulated
+gone_accumulated k at rows r accumulated here is are =
+    restage_accumulated k rows r (Disposed at (length accumulated)) accumulated here are (λ n l.
+    let same : min (n + 1) (length accumulated) - r.service ≡ (n + 1) - r.service = omega (arith, l) in
     ap (depreciated r.cost r.life) (same ∙ sym (ap (λ s. counted (view_stage s) (n + 1) - r.service) is)))
 
 pub gone_bought : (y at closed : ℕ) (r : AssetRow) → r.stage ≡ Held → bought_in y (view_asset (restaged (Disposed at closed) r)) ≡ bought_in y (view_asset r)
@@ -293,13 +293,13 @@ gone_book k at closed rows r cells amount here is from to value are =
     (omega (arith, whole (at == at) (same_year at), value, ap (book_in closed at) (viewed k rows r (view_asset r) here), held_book closed at r is))
     (λ y apart. nothing (at == y) (other_year at y apart) ∙ sym (held_book closed y r is) ∙ sym (ap (book_in closed y) (viewed k rows r (view_asset r) here))))
   where
-    worn : depreciation closed (view_asset (restaged (Disposed at closed) r)) ≡ depreciation closed (view_asset r)
-    worn =
+    accumulated : depreciation closed (view_asset (restaged (Disposed at closed) r)) ≡ depreciation closed (view_asset r)
+    accumulated =
         let same : min closed closed - r.service ≡ closed - r.service = omega arith in
         ap (depreciated r.cost r.life) (same ∙ sym (ap (λ s. counted (view_stage s) closed - r.service) is))
 
     whole : (b : Bool) → b ≡ true → (if b then r.cost - depreciation closed (view_asset (restaged (Disposed at closed) r)) else 0) ≡ r.cost - depreciation closed (view_asset r)
-    whole b e = rw e (ap (λ n. r.cost - n) worn)
+    whole b e = rw e (ap (λ n. r.cost - n) accumulated)
 
     nothing : (b : Bool) → b ≡ false → (if b then r.cost - depreciation closed (view_asset (restaged (Disposed at closed) r)) else 0) ≡ 0
     nothing b e = rw e refl
@@ -331,33 +331,33 @@ pub close_books : (closed : ℕ) (rows : List AssetRow) (cells : List ℕ) → A
 close_books closed rows cells are years =
     years_same (λ y. sum_by (book_in closed y) (map view_asset rows)) (λ y. sum_by (book_in (closed + 1) y) (map view_asset rows)) cells years (λ y. books_later closed y rows (λ k d l. (are k d l).stage))
 
-pub worn_is : (assets : List Asset) (worn : List ℕ) → AreWorn assets worn → (n : ℕ) → n ≤ length worn → worn_at worn n ≡ sum_by (depreciation n) assets
-worn_is assets worn are zero l = sym (total_first assets)
-worn_is assets worn are (suc n) l =
+pub accumulated_is : (assets : List Asset) (accumulated : List ℕ) → AreAccumulated assets accumulated → (n : ℕ) → n ≤ length accumulated → accumulated_at accumulated n ≡ sum_by (depreciation n) assets
+accumulated_is assets accumulated are zero l = sym (total_first assets)
+accumulated_is assets accumulated are (suc n) l =
     let next : n + 1 ≡ suc n = omega arith in
     are n (omega arith) ∙ ap (λ m. sum_by (depreciation m) assets) next
 
-pub close_worn : (assets : List Asset) (worn : List ℕ) (before charged : ℕ) → AreWorn assets worn → before ≡ worn_at worn (length worn) → charged ≡ sum_by (charge (length worn)) assets → AreWorn assets (worn ++ (before + charged) ∷ [])
-close_worn assets worn before charged are was is n l = by_place (less_or_not n (length worn))
+pub close_accumulated : (assets : List Asset) (accumulated : List ℕ) (before charged : ℕ) → AreAccumulated assets accumulated → before ≡ accumulated_at accumulated (length accumulated) → charged ≡ sum_by (charge (length accumulated)) assets → AreAccumulated assets (accumulated ++ (before + charged) ∷ [])
+close_accumulated assets accumulated before charged are was is n l = by_place (less_or_not n (length accumulated))
   where
-    by_place : (n < length worn) ⊎ (length worn ≤ n) → get_or (worn ++ (before + charged) ∷ []) n 0 ≡ sum_by (depreciation (n + 1)) assets
-    by_place (inl a) = get_or_append_left worn ((before + charged) ∷ []) 0 n a ∙ are n a
+    by_place : (n < length accumulated) ⊎ (length accumulated ≤ n) → get_or (accumulated ++ (before + charged) ∷ []) n 0 ≡ sum_by (depreciation (n + 1)) assets
+    by_place (inl a) = get_or_append_left accumulated ((before + charged) ∷ []) 0 n a ∙ are n a
     by_place (inr a) =
-        let at : length worn ≡ n = omega (arith, a, l, length-append worn ((before + charged) ∷ [])) in
-        get_or_push worn (before + charged) 0 n at
-        ∙ omega (arith, was, is, worn_is assets worn are (length worn) (omega arith), total_next (length worn) assets)
+        let at : length accumulated ≡ n = omega (arith, a, l, length-append accumulated ((before + charged) ∷ [])) in
+        get_or_push accumulated (before + charged) 0 n at
+        ∙ omega (arith, was, is, accumulated_is assets accumulated are (length accumulated) (omega arith), total_next (length accumulated) assets)
         ∙ ap (λ m. sum_by (depreciation (m + 1)) assets) at
 
 -- what all assets are depreciated by after the month fits
-pub close_fits : (rows : List AssetRow) (worn : List ℕ) (before charged : ℕ) → length rows ≤ 33554432 → AreRows (length worn) rows → AreWorn (map view_asset rows) worn → before ≡ worn_at worn (length worn) →
-    charged ≡ sum_by (charge (length worn)) (map view_asset rows) → before + charged < 340282366920938463463374607431768211456
-close_fits rows worn before charged few are is was so =
+pub close_fits : (rows : List AssetRow) (accumulated : List ℕ) (before charged : ℕ) → length rows ≤ 33554432 → AreRows (length accumulated) rows → AreAccumulated (map view_asset rows) accumulated → before ≡ accumulated_at accumulated (length accumulated) →
+    charged ≡ sum_by (charge (length accumulated)) (map view_asset rows) → before + charged < 340282366920938463463374607431768211456
+close_fits rows accumulated before charged few are is was so =
     omega (
       arith,
       few,
       was,
       so,
-      worn_is (map view_asset rows) worn is (length worn) (omega arith),
-      total_next (length worn) (map view_asset rows),
-      total_most (length worn + 1) rows (λ k d l. (are k d l).cost),
+      accumulated_is (map view_asset rows) accumulated is (length accumulated) (omega arith),
+      total_next (length accumulated) (map view_asset rows),
+      total_most (length accumulated + 1) rows (λ k d l. (are k d l).cost),
     )

@@ -75,9 +75,9 @@ donated_sum year assets = sum_same (donated year) (λ a. pos (given_in year a)) 
 pub book_sum : (closed year : ℕ) (assets : List Asset) → int_sum (book_value closed year) assets ≡ pos (sum_by (book_in closed year) assets)
 book_sum closed year assets = sum_same (book_value closed year) (λ a. pos (book_in closed year a)) (book_is closed year) assets ∙ sym (sum_pos (book_in closed year) assets)
 
-pub worn_sum : (plan : Plan) (closed year : ℕ) (assets : List Asset) →
+pub accumulated_sum : (plan : Plan) (closed year : ℕ) (assets : List Asset) →
     int_sum (depreciated_in plan closed year) assets ≡ pos (sum_by (depreciation (closed_to plan closed year)) assets) -ℤ pos (sum_by (depreciation (closed_to plan closed (year - 1))) assets)
-worn_sum plan closed year assets =
+accumulated_sum plan closed year assets =
     sum_minus (λ a. pos (depreciation (closed_to plan closed year) a)) (λ a. pos (depreciation (closed_to plan closed (year - 1)) a)) assets
     ∙ (λ i. sym (sum_pos (depreciation (closed_to plan closed year)) assets) i -ℤ sym (sum_pos (depreciation (closed_to plan closed (year - 1))) assets) i)
 
@@ -117,7 +117,7 @@ net_to plan closed assets first from sound (suc n) =
     (int_sum (book_value closed (n + 1970)) assets) (sum_to (λ y. sum_by (bought_in y) assets) n) (sum_to (λ y. sum_by (given_in y) assets) n) (sum_to (λ y. sum_by (book_in closed y) assets) n)
     (sum_by (depreciation (closed_to plan closed (n + 1969))) assets) (sum_by (bought_in (n + 1970)) assets) (sum_by (given_in (n + 1970)) assets) (sum_by (book_in closed (n + 1970)) assets)
     (sum_by (depreciation (closed_to plan closed (n + 1970))) assets) (ap (λ y. int_sum (net plan closed y) assets) before ∙ net_to plan closed assets first from sound n) (outlay_sum (n + 1970) assets) (donated_sum (n + 1970) assets)
-    (worn_sum plan closed (n + 1970) assets ∙ ap (λ y. pos (sum_by (depreciation (closed_to plan closed (n + 1970))) assets) -ℤ pos (sum_by (depreciation (closed_to plan closed y)) assets)) before) (book_sum closed (n + 1970) assets)
+    (accumulated_sum plan closed (n + 1970) assets ∙ ap (λ y. pos (sum_by (depreciation (closed_to plan closed (n + 1970))) assets) -ℤ pos (sum_by (depreciation (closed_to plan closed y)) assets)) before) (book_sum closed (n + 1970) assets)
     ∙ ap
     (λ y. pos ((sum_to (λ z. sum_by (bought_in z) assets) n + sum_by (bought_in (n + 1970)) assets) + (sum_to (λ z. sum_by (given_in z) assets) n + sum_by (given_in (n + 1970)) assets))
     -ℤ pos ((sum_to (λ z. sum_by (book_in closed z) assets) n + sum_by (book_in closed (n + 1970)) assets) + sum_by (depreciation (closed_to plan closed y)) assets))

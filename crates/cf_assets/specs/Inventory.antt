@@ -49,6 +49,6 @@ pub record IsFreshAt (at : ℕ) (i : Inventory) : Type 0 where
   pub none : (d : Asset) → depreciation i.closed (slice_index_or i.assets at d) ≡ 0
 
 -- what stands for so many closed months; for none, nothing
-abbrev pub worn_at : List ℕ → ℕ → ℕ
-worn_at worn zero = 0
-worn_at worn (suc n) = slice_index_or worn n 0
+abbrev pub accumulated_at : List ℕ → ℕ → ℕ
+accumulated_at accumulated zero = 0
+accumulated_at accumulated (suc n) = slice_index_or accumulated n 0

@@ -12,21 +12,21 @@ use Rattle.cf_assets.specs.Years.{AreYears, bought_in, given_in, book_in}
 abbrev pub inventory_of : Inside → Inventory
 inventory_of a = record {
   assets = map view_asset a.rows.items;
-  closed = length a.worn.items;
+  closed = length a.accumulated.items;
   room = min (vec_capacity a.rows - length a.rows.items) (vec_capacity a.serving - length a.serving.items);
-  months = vec_capacity a.worn - length a.worn.items;
+  months = vec_capacity a.accumulated - length a.accumulated.items;
 }
 
 -- the number after so many closed months is the depreciation of all assets over them
-abbrev pub AreWorn : List Asset → List ℕ → Type 0
-AreWorn assets worn = (n : ℕ) → n < length worn → slice_index_or worn n 0 ≡ sum_by (depreciation (n + 1)) assets
+abbrev pub AreAccumulated : List Asset → List ℕ → Type 0
+AreAccumulated assets accumulated = (n : ℕ) → n < length accumulated → slice_index_or accumulated n 0 ≡ sum_by (depreciation (n + 1)) assets
 
 pub record IsSound (a : Inside) : Type 0 where
   pub few : length a.rows.items ≤ 33554432
-  pub months : length a.worn.items ≤ most_entries
-  pub rows : AreRows (length a.worn.items) a.rows.items
-  pub serving : ServeAll (length a.worn.items) a.rows.items a.serving.items
-  pub worn : AreWorn (map view_asset a.rows.items) a.worn.items
+  pub months : length a.accumulated.items ≤ most_entries
+  pub rows : AreRows (length a.accumulated.items) a.rows.items
+  pub serving : ServeAll (length a.accumulated.items) a.rows.items a.serving.items
+  pub accumulated : AreAccumulated (map view_asset a.rows.items) a.accumulated.items
   pub outlay : AreYears (λ year. sum_by (bought_in year) (map view_asset a.rows.items)) a.outlay
   pub donated : AreYears (λ year. sum_by (given_in year) (map view_asset a.rows.items)) a.donated
-  pub disposals : AreYears (λ year. sum_by (book_in (length a.worn.items) year) (map view_asset a.rows.items)) a.disposals
+  pub disposals : AreYears (λ year. sum_by (book_in (length a.accumulated.items) year) (map view_asset a.rows.items)) a.disposals

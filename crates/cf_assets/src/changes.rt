@@ -34,7 +34,7 @@ impl Assets {
         let months = closed_through(chart, self.closed(), year);
         let acquired = self.inventory.acquired_through(year);
         let gone = self.inventory.gone_through(year);
-        difference(acquired, gone + self.inventory.worn_to(months))
+        difference(acquired, gone + self.inventory.accumulated_to(months))
     }
 
     /// What a fiscal year changes.
@@ -44,14 +44,16 @@ impl Assets {
     {
         let closed = self.closed();
         let sums = self.inventory.year_sums(year);
-        let worn = self.inventory.worn_to(closed_through(chart, closed, year));
+        let accumulated = self
+            .inventory
+            .accumulated_to(closed_through(chart, closed, year));
         let before = self
             .inventory
-            .worn_to(closed_through(chart, closed, year - 1));
+            .accumulated_to(closed_through(chart, closed, year - 1));
         AssetChanges {
             outlay: difference(sums.bought, 0),
             donated: difference(sums.given, 0),
-            depreciation: difference(before, worn),
+            depreciation: difference(before, accumulated),
             disposals: difference(0, sums.gone),
         }
     }

@@ -6,7 +6,7 @@ ghost use Rattle.std.specs.Vec.{vec_capacity};
 ghost use Rattle.cf_base.specs.Limits.{last_fiscal_year, most_entries};
 ghost use Rattle.cf_chart.specs.Rising.{is_rising};
 ghost use Rattle.cf_assets.specs.Charges.{AreCharges};
-ghost use Rattle.cf_assets.specs.Inventory.{AreNumbered, StagesOne, worn_at};
+ghost use Rattle.cf_assets.specs.Inventory.{AreNumbered, StagesOne, accumulated_at};
 ghost use Rattle.cf_assets.specs.Rows.{view_asset, IsRow};
 ghost use Rattle.cf_assets.specs.Inventory as spec;
 ghost use Rattle.cf_model.specs.Assets.{Asset, held, void, disposed, depreciation};
@@ -28,7 +28,7 @@ pub struct Inventory {
     /// The places of the assets that may still be charged.
     pub(crate) serving: Vec<u32>,
     /// The depreciation of all assets after one closed month, after two, and so on, in cents.
-    pub(crate) worn: Vec<u128>,
+    pub(crate) accumulated: Vec<u128>,
     /// The cost of what vouchers bought, in cents, by fiscal year.
     pub(crate) outlay: [u128; YEARS],
     pub(crate) donated: [u128; YEARS],
@@ -57,7 +57,7 @@ impl Inventory {
         Inventory {
             rows: Vec::new(alloc),
             serving: Vec::new(alloc),
-            worn: Vec::new(alloc),
+            accumulated: Vec::new(alloc),
             outlay: no_years(),
             donated: no_years(),
             disposals: no_years(),
@@ -78,7 +78,7 @@ impl Inventory {
         ensures value { result ≡ self.now.closed }
         ensures most { result ≤ most_entries }
     {
-        self.worn.len() as u32
+        self.accumulated.len() as u32
     }
 
     /// The asset at a place, from 0.
@@ -118,7 +118,7 @@ impl Inventory {
         ensures assets { self.new.assets ≡ self.old.assets }
         ensures closed { self.new.closed ≡ self.old.closed }
     {
-        self.worn.reserve(1)
+        self.accumulated.reserve(1)
     }
 
     /// Enters an asset that a voucher bought. It takes no memory.
@@ -174,7 +174,7 @@ impl Inventory {
         ensures closed { self.new.closed ≡ self.old.closed }
     {
         let row = self.rows[at];
-        let closed = self.worn.len() as u32;
+        let closed = self.accumulated.len() as u32;
         let book_value = row.cost - depreciation_of(&row, closed);
         raise(&mut self.disposals, year, book_value);
         self.rows[at] = staged(row, StageNow::Disposed { year, closed });
@@ -187,10 +187,10 @@ impl Inventory {
         ensures assets { self.new.assets ≡ self.old.assets }
         ensures closed { self.new.closed ≡ self.old.closed + 1 }
     {
-        let closed = self.worn.len() as u32;
-        let before = worn_after(&self.worn, closed);
+        let closed = self.accumulated.len() as u32;
+        let before = accumulated_after(&self.accumulated, closed);
         let charge = total_charge(&self.rows, &self.serving, closed);
-        push_within(&mut self.worn, before + charge);
+        push_within(&mut self.accumulated, before + charge);
         retire(&mut self.serving, &self.rows, closed + 1);
     }
 
@@ -201,20 +201,20 @@ impl Inventory {
         ensures charges { AreCharges self.now.closed self.now.assets functions.now result }
         ensures most { (k : ℕ) → slice_index_or result k 0 ≤ 335544320000000000000 }
     {
-        let closed = self.worn.len() as u32;
+        let closed = self.accumulated.len() as u32;
         function_charges(&self.rows, &self.serving, closed, functions)
     }
 }
 
 /// What all assets were depreciated by after so many closed months.
-pub fn worn_after(worn: &Vec<u128>, months: u32) -> u128
-    requires { months ≤ length worn.now.items }
-    ensures { result ≡ worn_at worn.now.items months }
+pub fn accumulated_after(accumulated: &Vec<u128>, months: u32) -> u128
+    requires { months ≤ length accumulated.now.items }
+    ensures { result ≡ accumulated_at accumulated.now.items months }
 {
     if months == 0 {
         return 0;
     }
-    worn[months as usize - 1]
+    accumulated[months as usize - 1]
 }
 
 fn staged(row: AssetRow, stage: StageNow) -> AssetRow

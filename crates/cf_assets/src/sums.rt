@@ -6,7 +6,7 @@ ghost use Rattle.cf_assets.specs.Inventory.{AreKept};
 ghost use Rattle.cf_assets.specs.Years.{bought_in, given_in, book_in, sum_to};
 ghost use Rattle.cf_model.specs.Assets.{depreciation};
 
-use crate::inventory::{Inventory, worn_after};
+use crate::inventory::{Inventory, accumulated_after};
 use crate::years::{amount_in, total_through};
 
 /// What a fiscal year has, in cents.
@@ -20,12 +20,12 @@ pub struct YearSums {
 
 impl Inventory {
     /// What all assets were depreciated by over the first so many months, which are closed, in cents.
-    pub fn worn_to(&self, months: u32) -> u128
+    pub fn accumulated_to(&self, months: u32) -> u128
         requires { months ≤ self.now.closed }
         ensures value { result ≡ sum_by (depreciation months) self.now.assets }
         ensures most { result ≤ 335544320000000000000 }
     {
-        worn_after(&self.worn, months)
+        accumulated_after(&self.accumulated, months)
     }
 
     /// What a fiscal year has.

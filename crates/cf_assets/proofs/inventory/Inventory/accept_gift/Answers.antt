@@ -5,7 +5,7 @@ use Rattle.cf_assets.specs.Rows.{view_asset, IsStage}
 use Rattle.cf_assets.specs.Years.{given_in}
 use Rattle.cf_assets.proofs.Cells.{cell_small}
 use Rattle.cf_assets.proofs.InService.{serving_push}
-use Rattle.cf_assets.proofs.Keeping.{rows_push, worn_push, gift_bought, gift_given, new_book, given_most, costs}
+use Rattle.cf_assets.proofs.Keeping.{rows_push, accumulated_push, gift_bought, gift_given, new_book, given_most, costs}
 use Rattle.cf_assets.proofs.inventory.Inventory.accept_gift.Goals as goal
 
 pub raise-requires-clause-fits : goal.raise-requires-clause-fits
@@ -13,27 +13,27 @@ raise-requires-clause-fits c =
     let rows = c.self.inside.rows.items in
     let was = c.self.invariant in
     cell_small given_in (map view_asset rows) c.self.inside.donated c.args.row.year c.args.row.cost was.donated c.requires.new.from c.requires.new.to (omega (arith, was.few, length-map rows view_asset)) c.requires.new.cost
-    (λ k d l. omega (arith, given_most c.args.row.year (get_or (map view_asset rows) k d), costs (length c.self.inside.worn.items) rows was.rows k d l))
+    (λ k d l. omega (arith, given_most c.args.row.year (get_or (map view_asset rows) k d), costs (length c.self.inside.accumulated.items) rows was.rows k d l))
 
 pub invariant_of-self : goal.invariant_of-self
 invariant_of-self c =
     let was = c.self.invariant in
     let r = c.args.row in
     let rows = c.self.inside.rows.items in
-    let worn = c.self.inside.worn.items in
+    let accumulated = c.self.inside.accumulated.items in
     let new = c.requires.new in
     let few : length (map view_asset rows) < 33554432 = subst (λ (i : Inventory). length i.assets < 33554432) (sym c.self.view_is) c.requires.few in
     let next : r.number ≡ length (map view_asset rows) + 1 = subst (λ (i : Inventory). r.number ≡ length i.assets + 1) (sym c.self.view_is) new.number in
-    let early : length worn ≤ r.service = subst (λ (i : Inventory). i.closed ≤ r.service) (sym c.self.view_is) new.early in
+    let early : length accumulated ≤ r.service = subst (λ (i : Inventory). i.closed ≤ r.service) (sym c.self.view_is) new.early in
     let at : c.len-at.result ≡ length rows = omega (arith, c.len-at.ensures) in
     record {
       few = rw (c.push_within.ensures.items, length-append rows) (omega (arith, few, length-map rows view_asset));
       months = was.months;
       rows = rw c.push_within.ensures.items
-          (rows_push (length worn) rows r was.rows (record { number = omega (arith, next, length-map rows view_asset); cost = new.cost; from = new.from; to = new.to; stage = subst (IsStage (length worn)) (sym new.held) tt }));
-      serving = rw (c.push_within.ensures.items, c.enlist.ensures.items) (serving_push (length worn) c.len-at.result rows c.self.inside.serving.items r at was.serving);
-      worn = rw c.push_within.ensures.items (worn_push rows r worn new.held early was.worn);
+          (rows_push (length accumulated) rows r was.rows (record { number = omega (arith, next, length-map rows view_asset); cost = new.cost; from = new.from; to = new.to; stage = subst (IsStage (length accumulated)) (sym new.held) tt }));
+      serving = rw (c.push_within.ensures.items, c.enlist.ensures.items) (serving_push (length accumulated) c.len-at.result rows c.self.inside.serving.items r at was.serving);
+      accumulated = rw c.push_within.ensures.items (accumulated_push rows r accumulated new.held early was.accumulated);
       outlay = rw c.push_within.ensures.items (gift_bought rows r c.self.inside.outlay c.requires.gift was.outlay);
       donated = rw (c.push_within.ensures.items, c.raise.ensures) (gift_given rows r c.self.inside.donated c.requires.gift new.from new.to was.donated);
-      disposals = rw c.push_within.ensures.items (new_book (length worn) rows r c.self.inside.disposals new.held was.disposals);
+      disposals = rw c.push_within.ensures.items (new_book (length accumulated) rows r c.self.inside.disposals new.held was.disposals);
     }

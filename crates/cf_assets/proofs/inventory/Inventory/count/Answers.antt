@@ -4,4 +4,4 @@ use Rattle.cf_assets.proofs.Keeping.{numbered}
 use Rattle.cf_assets.proofs.inventory.Inventory.count.Goals as goal
 
 pub returns-clause-numbered : goal.returns-clause-numbered
-returns-clause-numbered c = subst (λ (i : Inventory). AreNumbered i.assets) c.self.view_is (numbered (length c.self.inside.worn.items) c.self.inside.rows.items c.self.invariant.rows)
+returns-clause-numbered c = subst (λ (i : Inventory). AreNumbered i.assets) c.self.view_is (numbered (length c.self.inside.accumulated.items) c.self.inside.rows.items c.self.invariant.rows)

@@ -9,7 +9,7 @@ use Rattle.cf_assets.specs.declared.rows.AssetRow.{AssetRow}
 use Rattle.cf_assets.specs.declared.rows.StageNow.TheVariants.{Disposed, Held}
 use Rattle.cf_assets.proofs.Cells.{cell_small}
 use Rattle.cf_assets.proofs.InService.{serving_set}
-use Rattle.cf_assets.proofs.Keeping.{IsAt, restaged, row_is, restage_rows, restage_same, gone_worn, gone_bought, gone_book, held_row, view_set, viewed, book_most, costs}
+use Rattle.cf_assets.proofs.Keeping.{IsAt, restaged, row_is, restage_rows, restage_same, gone_accumulated, gone_bought, gone_book, held_row, view_set, viewed, book_most, costs}
 use Rattle.cf_model.specs.Assets.{Asset, disposed, depreciation}
 use Rattle.cf_assets.proofs.inventory.Inventory.dispose_at.Goals as goal
 
@@ -20,48 +20,48 @@ pub raise-requires : goal.raise-requires
 raise-requires c =
     let r = c.index.result.now in
     let rows = c.self.inside.rows.items in
-    let worn = c.self.inside.worn.items in
+    let accumulated = c.self.inside.accumulated.items in
     let was = c.self.invariant in
     let at : IsAt c.args.at rows r = there c.self.inside _ c.args.at r c.self.view_is c.requires.within c.index.ensures in
-    let row = row_is (length worn) c.args.at rows r at was.rows in
+    let row = row_is (length accumulated) c.args.at rows r at was.rows in
     record {
       from = c.requires.from;
       to = c.requires.to;
-      fits = cell_small (book_in (length worn)) (map view_asset rows) c.self.inside.disposals c.args.year (r.cost - c.depreciation_of.result) was.disposals c.requires.from c.requires.to
-          (omega (arith, was.few, length-map rows view_asset)) (omega (arith, row.cost)) (λ k d l. omega (arith, book_most (length worn) c.args.year (get_or (map view_asset rows) k d), costs (length worn) rows was.rows k d l));
+      fits = cell_small (book_in (length accumulated)) (map view_asset rows) c.self.inside.disposals c.args.year (r.cost - c.depreciation_of.result) was.disposals c.requires.from c.requires.to
+          (omega (arith, was.few, length-map rows view_asset)) (omega (arith, row.cost)) (λ k d l. omega (arith, book_most (length accumulated) c.args.year (get_or (map view_asset rows) k d), costs (length accumulated) rows was.rows k d l));
     }
 
 pub invariant_of-self : goal.invariant_of-self
 invariant_of-self c =
     let r = c.index.result.now in
     let rows = c.self.inside.rows.items in
-    let worn = c.self.inside.worn.items in
+    let accumulated = c.self.inside.accumulated.items in
     let was = c.self.invariant in
     let at : IsAt c.args.at rows r = there c.self.inside _ c.args.at r c.self.view_is c.requires.within c.index.ensures in
     let holds : IsHeldAt c.args.at (inventory_of c.self.inside) = subst (λ (i : Inventory). IsHeldAt c.args.at i) (sym c.self.view_is) c.requires.held in
     let is : r.stage ≡ Held = held_row c.args.at rows r at holds in
-    let len : c.len-closed.result ≡ length worn = omega (arith, c.len-closed.ensures) in
-    let stage = Disposed c.args.year (length worn) in
+    let len : c.len-closed.result ≡ length accumulated = omega (arith, c.len-closed.ensures) in
+    let stage = Disposed c.args.year (length accumulated) in
     let closed : c.staged.result ≡ restaged stage r = c.staged.ensures ∙ ap (λ n. restaged (Disposed c.args.year n) r) len in
-    let value : r.cost - c.depreciation_of.result ≡ r.cost - depreciation (length worn) (view_asset r) = ap (λ n. r.cost - n) (c.depreciation_of.ensures ∙ ap (λ n. depreciation n (view_asset r)) len) in
+    let value : r.cost - c.depreciation_of.result ≡ r.cost - depreciation (length accumulated) (view_asset r) = ap (λ n. r.cost - n) (c.depreciation_of.ensures ∙ ap (λ n. depreciation n (view_asset r)) len) in
     record {
       few = rw length-set was.few;
       months = was.months;
-      rows = rw closed (restage_rows (length worn) c.args.at rows r stage at was.rows (omega arith));
-      serving = rw closed (serving_set (length worn) 0 rows c.args.at c.self.inside.serving.items (restaged stage r) refl was.serving);
-      worn = rw closed (gone_worn c.args.at c.args.year rows r worn at is was.worn);
-      outlay = rw closed (restage_same bought_in c.args.at rows r stage c.self.inside.outlay at was.outlay (λ y. gone_bought y c.args.year (length worn) r is));
+      rows = rw closed (restage_rows (length accumulated) c.args.at rows r stage at was.rows (omega arith));
+      serving = rw closed (serving_set (length accumulated) 0 rows c.args.at c.self.inside.serving.items (restaged stage r) refl was.serving);
+      accumulated = rw closed (gone_accumulated c.args.at c.args.year rows r accumulated at is was.accumulated);
+      outlay = rw closed (restage_same bought_in c.args.at rows r stage c.self.inside.outlay at was.outlay (λ y. gone_bought y c.args.year (length accumulated) r is));
       donated = rw closed (restage_same given_in c.args.at rows r stage c.self.inside.donated at was.donated (λ y. refl));
-      disposals = rw (closed, c.raise.ensures) (gone_book c.args.at c.args.year (length worn) rows r c.self.inside.disposals (r.cost - c.depreciation_of.result) at is c.requires.from c.requires.to value was.disposals);
+      disposals = rw (closed, c.raise.ensures) (gone_book c.args.at c.args.year (length accumulated) rows r c.self.inside.disposals (r.cost - c.depreciation_of.result) at is c.requires.from c.requires.to value was.disposals);
     }
 
 pub returns-clause-assets : goal.returns-clause-assets
 returns-clause-assets c d =
     let r = c.index.result.now in
     let rows = c.self.inside.rows.items in
-    let worn = c.self.inside.worn.items in
+    let accumulated = c.self.inside.accumulated.items in
     let at : IsAt c.args.at rows r = there c.self.inside _ c.args.at r c.self.view_is c.requires.within c.index.ensures in
-    let len : c.len-closed.result ≡ length worn = omega (arith, c.len-closed.ensures) in
-    let stage = Disposed c.args.year (length worn) in
+    let len : c.len-closed.result ≡ length accumulated = omega (arith, c.len-closed.ensures) in
+    let stage = Disposed c.args.year (length accumulated) in
     let closed : c.staged.result ≡ restaged stage r = c.staged.ensures ∙ ap (λ n. restaged (Disposed c.args.year n) r) len in
-    rw (← c.self.view_is, closed) (view_set rows c.args.at (restaged stage r) ∙ ap (λ (a : Asset). set (map view_asset rows) c.args.at (staged (disposed c.args.year (length worn)) a)) (sym (viewed c.args.at rows r d at)))
+    rw (← c.self.view_is, closed) (view_set rows c.args.at (restaged stage r) ∙ ap (λ (a : Asset). set (map view_asset rows) c.args.at (staged (disposed c.args.year (length accumulated)) a)) (sym (viewed c.args.at rows r d at)))

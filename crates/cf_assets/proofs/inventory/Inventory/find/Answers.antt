@@ -9,7 +9,7 @@ use Rattle.cf_assets.proofs.inventory.Inventory.find.Goals.{then-number-eq0-via-
 pub returns-then-number-eq0-clause-value : goal.returns-then-number-eq0-clause-value
 returns-then-number-eq0-clause-value c =
     let rows = c.self.inside.rows.items in
-    let are = numbered (length c.self.inside.worn.items) rows c.self.invariant.rows in
+    let are = numbered (length c.self.inside.accumulated.items) rows c.self.invariant.rows in
     rw (← c.self.view_is) (elim c.then-number-eq0.branch [
       | then-number-eq0-via-then-number-eq0 w ↦ sym (no_number (map view_asset rows) c.args.number are (inl w.if-number-eq0.true))
       | then-number-eq0-via-else-number-eq0+then-number-len w ↦ sym (no_number (map view_asset rows) c.args.number are (inr (omega (arith, w.len.ensures, w.if-number-len.true, length-map rows view_asset))))
@@ -18,7 +18,7 @@ returns-then-number-eq0-clause-value c =
 pub returns-then-number-eq0-clause-alone : goal.returns-then-number-eq0-clause-alone
 returns-then-number-eq0-clause-alone c =
     let rows = c.self.inside.rows.items in
-    rw (← c.self.view_is) (number_alone (map view_asset rows) c.args.number (numbered (length c.self.inside.worn.items) rows c.self.invariant.rows))
+    rw (← c.self.view_is) (number_alone (map view_asset rows) c.args.number (numbered (length c.self.inside.accumulated.items) rows c.self.invariant.rows))
 
 pub returns-clause-value : goal.returns-clause-value
 returns-clause-value c =
@@ -28,10 +28,10 @@ returns-clause-value c =
     let l : c.args.number - 1 < length rows = omega (arith, n, c.len.ensures, c.if-number-len.false) in
     let at : IsAt (c.args.number - 1) rows r = record { within = l; is = c.index.ensures } in
     rw (← c.self.view_is)
-    (sym (found_number (map view_asset rows) c.args.number (c.args.number - 1) (view_asset r) (numbered (length c.self.inside.worn.items) rows c.self.invariant.rows) (omega (arith, l, length-map rows view_asset)) n
+    (sym (found_number (map view_asset rows) c.args.number (c.args.number - 1) (view_asset r) (numbered (length c.self.inside.accumulated.items) rows c.self.invariant.rows) (omega (arith, l, length-map rows view_asset)) n
     ∙ ap Some (viewed (c.args.number - 1) rows r (view_asset r) at)))
 
 pub returns-clause-alone : goal.returns-clause-alone
 returns-clause-alone c =
     let rows = c.self.inside.rows.items in
-    rw (← c.self.view_is) (number_alone (map view_asset rows) c.args.number (numbered (length c.self.inside.worn.items) rows c.self.invariant.rows))
+    rw (← c.self.view_is) (number_alone (map view_asset rows) c.args.number (numbered (length c.self.inside.accumulated.items) rows c.self.invariant.rows))

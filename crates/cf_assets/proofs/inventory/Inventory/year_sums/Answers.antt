@@ -10,19 +10,19 @@ returns-clause-most_bought c =
     let rows = c.self.inside.rows.items in
     let was = c.self.invariant in
     let year = c.args.year in
-    omega (arith, c.amount_in.ensures, year_is (λ y. sum_by (bought_in y) (map view_asset rows)) c.self.inside.outlay year was.outlay c.requires.from c.requires.to, year_most bought_in bought_most (length c.self.inside.worn.items) rows was.rows was.few year)
+    omega (arith, c.amount_in.ensures, year_is (λ y. sum_by (bought_in y) (map view_asset rows)) c.self.inside.outlay year was.outlay c.requires.from c.requires.to, year_most bought_in bought_most (length c.self.inside.accumulated.items) rows was.rows was.few year)
 
 pub returns-clause-most_given : goal.returns-clause-most_given
 returns-clause-most_given c =
     let rows = c.self.inside.rows.items in
     let was = c.self.invariant in
     let year = c.args.year in
-    omega (arith, c.amount_in-2.ensures, year_is (λ y. sum_by (given_in y) (map view_asset rows)) c.self.inside.donated year was.donated c.requires.from c.requires.to, year_most given_in given_most (length c.self.inside.worn.items) rows was.rows was.few year)
+    omega (arith, c.amount_in-2.ensures, year_is (λ y. sum_by (given_in y) (map view_asset rows)) c.self.inside.donated year was.donated c.requires.from c.requires.to, year_most given_in given_most (length c.self.inside.accumulated.items) rows was.rows was.few year)
 
 pub returns-clause-most_gone : goal.returns-clause-most_gone
 returns-clause-most_gone c =
     let rows = c.self.inside.rows.items in
-    let closed = length c.self.inside.worn.items in
+    let closed = length c.self.inside.accumulated.items in
     let was = c.self.invariant in
     let year = c.args.year in
     omega (arith, c.amount_in-3.ensures, year_is (λ y. sum_by (book_in closed y) (map view_asset rows)) c.self.inside.disposals year was.disposals c.requires.from c.requires.to, year_most (book_in closed) (book_most closed) closed rows was.rows was.few year)
