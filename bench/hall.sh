@@ -4,7 +4,8 @@
 # JSON, answered, and its reply written as text. Finding the journal and opening it isn't counted.
 #  - vouchers one after another through `post` by one thread, beside the same calls settled by the book of a desk over the same
 #    office: at most 1.3 times as long, also where the time that reading the lines takes is taken off both
-#  - the same vouchers by four threads, each on a line of its own: all together no slower than by one thread
+#  - the same of vouchers of 32 items over four lines
+#  - the vouchers of one item by four threads, each on a line of its own: all together no slower than by one thread
 #  - a voucher after 1,000 entries and after 100,000: at most 1.3 times as long
 # What is compared is timed in turn, and the least time of each counts. Build the program first: rt run in crates/scenes. PROGRAM
 # names another one, by its whole path.
@@ -20,7 +21,7 @@ cp "$top/examples/rivertown/chart.toml" "$scratch/chart.toml"
 cd "$scratch" && timeout 1200 python3 - "$program" <<'PY'
 import json, re, subprocess, sys
 
-TURNS, CALLS, FEW = 7, 40_000, 2_000
+TURNS, CALLS, FEW, ITEMS = 7, 40_000, 2_000, 32
 ACCOUNTS = {0: (1, 10, 510), 1: (1, 10, 520), 3: (1, 20, 510), 4: (2, 20, 510)}  # line: fund, department, object
 LINES = list(ACCOUNTS)
 ROOM = 10 ** 12
@@ -29,10 +30,13 @@ def adoption(fund, lines):
     return json.dumps({"call": "adopt", "desk": 1, "key": f"b{fund}", "on": "2025-07-01", "fund": fund, "year": 2026,
                        "lines": [{"line": line, "amount": ROOM} for line in lines], "estimates": []})
 
-def voucher(number, line):
+def item(line):
     fund, dept, object_ = ACCOUNTS[line]
+    return {"fund": fund, "dept": dept, "object": object_, "amount": 1}
+
+def voucher(number, *lines):
     return json.dumps({"call": "voucher", "desk": 4, "key": f"v{number}", "on": "2025-07-05", "vendor": 77,
-                       "items": [{"fund": fund, "dept": dept, "object": object_, "amount": 1}]})
+                       "items": [item(line) for line in lines]})
 
 ADOPTIONS = [adoption(1, [0, 1, 3]), adoption(2, [4])]
 
@@ -64,14 +68,20 @@ def say(what, one, other, most):
 
 calls = vouchers(0, CALLS)
 apart = [calls[place::4] for place in range(4)]
+long = [voucher(number, *(LINES * (ITEMS // 4))) for number in range(CALLS // ITEMS)]
 read, desk, post, four = least((ADOPTIONS, [calls], "time read"), (ADOPTIONS, [calls], "time desk"), (ADOPTIONS, [calls], "time"),
                                (ADOPTIONS, apart, "time"))
 print(f"a voucher: {desk / 1000:.2f} us by a desk's book, {post / 1000:.2f} us by one thread through post, {four / 1000:.2f} us by "
       f"four threads on four lines together; reading its line {read / 1000:.2f} us of each")
+long_read, long_desk, long_post = least(*((ADOPTIONS, [long], word) for word in ("time read", "time desk", "time")))
+print(f"a voucher of {ITEMS} items: {long_desk / 1000:.2f} us by a desk's book, {long_post / 1000:.2f} us by one thread through post; "
+      f"reading its line {long_read / 1000:.2f} us of each")
 few, many = least(*((ADOPTIONS + vouchers(0, entries - 2), [vouchers(entries, FEW)], "time") for entries in (1_000, 100_000)))
 print(f"a voucher through post after 1,000 entries: {few / 1000:.2f} us; after 100,000: {many / 1000:.2f} us")
 held = [say("post by one thread, beside a desk's book", desk, post, 1.3),
         say("the same without the reading", desk - read, post - read, 1.3),
+        say(f"{ITEMS} items, post beside a desk's book", long_desk, long_post, 1.3),
+        say("the same without the reading", long_desk - long_read, long_post - long_read, 1.3),
         say("four threads on four lines, beside one", post, four, 1.0),
         say("after 100,000 entries, beside 1,000", few, many, 1.3)]
 sys.exit(0 if all(held) else 1)

@@ -1,5 +1,5 @@
 -- The longer of two lists, and the last of one.
-use Rattle.std.proofs.Common.{◌≡◌, ◌≤◌, Bool, true, false, List, [], ◌∷◌, ◌++◌, length, get_or, refl, sym, ap, ◌∙◌, arith}
+use Rattle.std.proofs.Common.{◌≡◌, ◌≤◌, Bool, true, false, List, [], ◌∷◌, ◌++◌, length, get_or, refl, arith}
 use Rattle.std.proofs.lemmas.Bool.Decides.{nat_tests}
 use Rattle.std.specs.Prelude.{ltb}
 use Rattle.cf_turns.specs.Lists.{longer}
@@ -15,6 +15,3 @@ longer_second xs ys le = by_case (ltb (length ys) (length xs)) refl
 pub last_is : {A : Type 0} (xs : List A) (x d : A) → get_or (xs ++ x ∷ []) (length xs) d ≡ x
 last_is [] x d = refl
 last_is (y ∷ xs) x d = last_is xs x d
-
-pub same_last : {A : Type 0} (xs : List A) (x y : A) → xs ++ x ∷ [] ≡ xs ++ y ∷ [] → x ≡ y
-same_last xs x y is = sym (last_is xs x x) ∙ ap (λ l. get_or l (length xs) x) is ∙ last_is xs y x

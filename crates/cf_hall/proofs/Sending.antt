@@ -100,7 +100,8 @@ use Rattle.cf_turns.specs.contracts.tie.Tie as tie
 use Rattle.cf_hall.specs.contracts.recording.Recording as recording
 use Rattle.cf_hall.specs.contracts.pass.HallPass as pass
 use Rattle.cf_hall.specs.contracts.stripe.Stripe as stripe
-use Rattle.cf_hall.specs.contracts.stripe.Place as place
+use Rattle.cf_hall.specs.contracts.places.Place as place
+use Rattle.cf_hall.specs.contracts.places.Places as places
 use Rattle.cf_hall.specs.contracts.book.HallBook as book
 use Rattle.cf_hall.specs.contracts.shared.Shared as shared
 use Rattle.cf_turns.specs.declared.tie.Stripe as striped
@@ -369,6 +370,9 @@ stripe_send N K n = search (sendable, table_send, tie_send) depth 20
 pub place_sync : (N K : RattleType) (n : city.Ghosts N.Denot) → IsSync (place.the_field N K n).row
 place_sync N K n = search (sendable, crosses, stripe_send) depth 20
 
+pub places_sync : (N : RattleType) (n : city.Ghosts N.Denot) → IsSync (places.the_field N n).row
+places_sync N n = struct_sync (shape (places.the_type N n)) (place_sync N (number 0) n, (place_sync N (number 1) n, (place_sync N (number 2) n, (place_sync N (number 3) n, (place_sync N (number 4) n, (place_sync N (number 5) n, (place_sync N (number 6) n, (place_sync N (number 7) n, tt))))))))
+
 pub posted_send : IsSend posted.the_row
 posted_send = view_send _ _ _ _ _ (recorded_send posted_inside.the_field.row _ _ posted_inside.the_type.to_one (struct_send (shape posted_inside.the_type) (maps.BTreeMap-send _ _ _ place_eq.ghosts place_partial.ghosts place_send (heap.Vec-send _ amount_send), (search sendable, (history.the_send _ post_row_send, (search sendable depth 20, tt))))))
 
@@ -388,4 +392,4 @@ pub book_send : (N D : RattleType) (n : city.Ghosts N.Denot) (d : disk.Ghosts D.
 book_send N D n d sends = search (sendable, archive_send, recording_send, totals_send) depth 20
 
 pub shared_sync : (N D : RattleType) (n : city.Ghosts N.Denot) (d : disk.Ghosts D.Denot) → IsSend D → IsSync (shared.the_row N D n d)
-shared_sync N D n d sends = view_sync _ _ _ _ _ (recorded_sync (shared_inside.the_field N D n d).row _ _ (shared_inside.the_type N D n d).to_one (struct_sync (shape (shared_inside.the_type N D n d)) (turns_sync, (chart_sync, (place_sync N (number 0) n, (place_sync N (number 1) n, (place_sync N (number 2) n, (place_sync N (number 3) n, (place_sync N (number 4) n, (place_sync N (number 5) n, (place_sync N (number 6) n, (place_sync N (number 7) n, (search (crosses, book_send, sendable) depth 20, tt)))))))))))))
+shared_sync N D n d sends = view_sync _ _ _ _ _ (recorded_sync (shared_inside.the_field N D n d).row _ _ (shared_inside.the_type N D n d).to_one (struct_sync (shape (shared_inside.the_type N D n d)) (turns_sync, (chart_sync, (places_sync N n, (search (crosses, book_send, sendable) depth 20, tt))))))

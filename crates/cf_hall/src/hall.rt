@@ -1,6 +1,6 @@
 //! The hall: what its threads share, and the parts of its ledgers that no pass has yet.
 
-ghost use Rattle.std.specs.Prelude.{◌≡◌, ◌+◌, ◌<◌, ◌≤◌, ℕ, [], length, map};
+ghost use Rattle.std.specs.Prelude.{◌≡◌, ◌+◌, ◌<◌, ◌≤◌, ℕ, [], length, map, All};
 ghost use Rattle.std.specs.Vec.{vec_len, vec_capacity};
 ghost use Rattle.cf_names.specs.Closing.{HasFirst, IsFreshPass, receipts_of};
 ghost use Rattle.cf_names.specs.Lists.{entries_of};
@@ -80,13 +80,6 @@ impl<N: City, D: Disk + Drop> Hall<N, D> {
         }
     }
 
-    /// How many passes were entered.
-    pub fn entered(&self) -> u16
-        ensures { result ≡ self.now.entered }
-    {
-        self.entered
-    }
-
     /// Opens a pass, which has seen the whole history. It waits for nobody, and takes no memory.
     pub fn enter(&mut self) -> HallPass<N>
         requires { self.old.entered < 65535 }
@@ -99,6 +92,23 @@ impl<N: City, D: Disk + Drop> Hall<N, D> {
         let shares = self.spare.split_one();
         self.entered += 1;
         HallPass::new(pass, shares)
+    }
+
+    /// Opens so many passes. It waits for nobody, and takes no memory.
+    pub fn enter_all(&mut self, count: usize, passes: &mut Vec<HallPass<N>>)
+        requires few { self.old.entered + count ≤ 65535 }
+        requires empty { passes.old.items ≡ [] }
+        requires room { count ≤ vec_capacity passes.old }
+        ensures kept { self.new.kept ≡ self.old.kept }
+        ensures entered { self.new.entered ≡ self.old.entered + count }
+        ensures many { length passes.new.items ≡ count }
+        ensures fresh { All (IsFreshPass N.first) passes.new.items }
+        ensures capacity { vec_capacity passes.new ≡ vec_capacity passes.old }
+    {
+        for _entered in 0..count {
+            let pass = self.enter();
+            passes.push_reserved(pass);
+        }
     }
 
     /// Ends all passes, which are as many as were entered, and hands the disk back. The receipts of the passes come in

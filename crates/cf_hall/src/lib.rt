@@ -8,6 +8,7 @@ mod gate;
 mod hall;
 mod opening;
 mod pass;
+mod places;
 mod recording;
 mod shared;
 mod stripe;

@@ -1,7 +1,7 @@
 //! Opening a hall over an opened book: the entries of its journal are recorded for a pass of the hall's own, and every stripe
 //! sees them.
 
-ghost use Rattle.std.specs.Prelude.{◌≡◌, ◌+◌, ◌<◌, ◌≤◌, ◌++◌, ◌∷◌, ℕ, List, [], length, IfOk};
+ghost use Rattle.std.specs.Prelude.{◌≡◌, ◌+◌, ◌<◌, ◌≤◌, ◌++◌, ◌∷◌, ℕ, [], length, IfOk};
 ghost use Rattle.std.specs.List.{count_by};
 ghost use Rattle.cf_base.specs.Limits.{most_entries};
 ghost use Rattle.cf_model.specs.Step.{IsLegal};
@@ -12,11 +12,10 @@ ghost use Rattle.cf_hall.specs.OpeningNames.{name_at, part_at, first_recorder, H
 ghost use Rattle.cf_hall.specs.Recordings.{SameRecorder};
 
 use crate::pass::HallPass;
-use crate::recording::Recording;
+use crate::recording::{Recording, touched};
 use cf_calls::Entry;
 use cf_chart::Chart;
 use cf_names::{City, Counts, OfStripe, Ties, Totals, follow_all};
-use cf_office::touches;
 use cf_turns::{Recorder, Tie, Turns};
 use std::alloc::{AllocError, Global};
 use std::sync::ledger::{Blank, Book as Count};
@@ -183,18 +182,26 @@ pub(crate) fn record_all<N: City>(
     pass.see_all(turns, recorder);
 }
 
-/// How many entries touch a stripe.
-fn count_touched(chart: &Chart, stripe: usize, entries: &[Entry]) -> u64
-    requires { length entries.now ≤ most_entries }
-    ensures { result ≡ count_by (entry_touches chart.now stripe) entries.now }
+/// Adds counts to counts, stripe by stripe.
+fn add_all(counts: &mut [u64; 8], more: &[u64; 8])
+    requires { (k : ℕ) → k < 8 → (total_at counts.old k ≤ most_entries) × (total_at more.now k ≤ 1) }
+    ensures { (k : ℕ) → k < 8 → total_at counts.new k ≡ total_at counts.old k + total_at more.now k }
 {
-    let mut count = 0;
-    for entry in entries {
-        if touches(chart, stripe, &entry.change.act) {
-            count += 1;
-        }
+    for k in 0..8 {
+        counts[k] += more[k];
     }
-    count
+}
+
+/// How many entries touch each stripe.
+fn count_touched(chart: &Chart, entries: &[Entry]) -> [u64; 8]
+    requires { length entries.now ≤ most_entries }
+    ensures { (k : ℕ) → k < 8 → total_at result k ≡ count_by (entry_touches chart.now k) entries.now }
+{
+    let mut counts = [0; 8];
+    for entry in entries {
+        add_all(&mut counts, &touched(chart, &entry.change.act));
+    }
+    counts
 }
 
 /// All stripes see the recorder's list, whose entries these are, and it is counted.
@@ -217,16 +224,7 @@ pub(crate) fn begin<N: City>(
     ensures list { result.list ≡ recorder.list }
     ensures ties { (k : ℕ) → k < 8 → HasSeen N.table recorder.list (tie_at ties.new k) }
 {
-    let more = [
-        count_touched(chart, 0, entries),
-        count_touched(chart, 1, entries),
-        count_touched(chart, 2, entries),
-        count_touched(chart, 3, entries),
-        count_touched(chart, 4, entries),
-        count_touched(chart, 5, entries),
-        count_touched(chart, 6, entries),
-        count_touched(chart, 7, entries),
-    ];
+    let more = count_touched(chart, entries);
     follow_all(ties, turns, &mut recorder, &mut counts, &more);
     Recording { recorder, counts }
 }

@@ -1,6 +1,6 @@
 //! Recording entries: the one list of the hall, with the counts of its entries by stripe.
 
-ghost use Rattle.std.specs.Prelude.{◌≡◌, ◌+◌, ◌<◌, ℕ, Bool, true, if◌then◌else◌, ◌∷◌, ◌++◌, [], None, Some};
+ghost use Rattle.std.specs.Prelude.{◌≡◌, ◌+◌, ◌<◌, ℕ, if◌then◌else◌, ◌∷◌, ◌++◌, [], None, Some};
 ghost use mathlib.Core.List.{IsPrefix};
 ghost use Rattle.cf_budget.specs.Tables.{has_line};
 ghost use Rattle.cf_model.specs.Step.{IsLegal};
@@ -17,7 +17,7 @@ use crate::taken::Taken;
 use cf_calls::{Act, Entry};
 use cf_chart::Chart;
 use cf_names::{City, Counts, follow_all};
-use cf_office::{PreparedLines, touches};
+use cf_office::{PreparedLines, touched_stripes};
 use cf_turns::{Pass, Recorder, Turns};
 use std::marker::Model;
 
@@ -50,18 +50,19 @@ fn one_if(touched: bool) -> u64
 }
 
 /// For each stripe 1 where the act touches it, and else 0.
-fn touched(chart: &Chart, act: &Act) -> [u64; 8]
+pub(crate) fn touched(chart: &Chart, act: &Act) -> [u64; 8]
     ensures { (k : ℕ) → k < 8 → total_at result k ≡ (if spec.touches chart.now k act.now then 1 else 0) }
 {
+    let marks = touched_stripes(chart, act);
     [
-        one_if(touches(chart, 0, act)),
-        one_if(touches(chart, 1, act)),
-        one_if(touches(chart, 2, act)),
-        one_if(touches(chart, 3, act)),
-        one_if(touches(chart, 4, act)),
-        one_if(touches(chart, 5, act)),
-        one_if(touches(chart, 6, act)),
-        one_if(touches(chart, 7, act)),
+        one_if(marks[0]),
+        one_if(marks[1]),
+        one_if(marks[2]),
+        one_if(marks[3]),
+        one_if(marks[4]),
+        one_if(marks[5]),
+        one_if(marks[6]),
+        one_if(marks[7]),
     ]
 }
 

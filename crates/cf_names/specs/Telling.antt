@@ -16,7 +16,7 @@ use Rattle.cf_turns.specs.Lists.{TaggedEntry}
 use Rattle.cf_turns.specs.States.{PassState}
 use Rattle.cf_names.specs.Lists.{entries_of}
 
--- each answer read the word once, and keeps what the pass had seen
+-- each answer asked once how long the list is, and keeps what the pass had seen
 pub record Reads (old new : PassState) : Type 0 where
   pub table : new.table ≡ old.table
   pub number : new.number ≡ old.number

@@ -2,7 +2,6 @@
 //! each pass has one.
 
 ghost use Rattle.std.specs.Prelude.{◌≡◌, ◌+◌, ◌<◌};
-ghost use Rattle.cf_names.specs.Shares.{TotalsState, SharesState};
 
 use crate::names::{Accepted, City, Faulted};
 use std::marker::Model;

@@ -1,107 +1,127 @@
-//! The stripes of control lines that a call touches.
+//! The stripes of control lines that a call touches, as eight marks.
 
-ghost use Rattle.std.specs.Prelude.{◌≡◌, ◌==◌};
+ghost use Rattle.std.specs.Prelude.{◌≡◌, ◌==◌, ◌||◌, ◌<◌, ℕ};
 ghost use Rattle.std.specs.List.{list_any};
 ghost use Rattle.cf_model.specs.Stripes as spec;
+ghost use Rattle.cf_office.specs.Marks.{mark_at};
 
 use cf_calls::acts::LeaveAct;
 use cf_calls::items::{AccountItem, LineAmount, VoucherItem};
 use cf_calls::{Act, Call, Read};
 use cf_chart::{Chart, LineId, stripe_of};
 
-fn is_of(stripe: usize, line: u16) -> bool
-    ensures { result ≡ (spec.stripe_of line == stripe) }
+/// No stripe is marked.
+const NONE: [bool; 8] = [false; 8];
+
+/// All stripes are marked.
+const ALL: [bool; 8] = [true; 8];
+
+/// Marks the stripe of a line.
+fn mark(line: u16, marks: &mut [bool; 8])
+    ensures { (k : ℕ) → k < 8 → mark_at marks.new k ≡ (mark_at marks.old k || (spec.stripe_of line == k)) }
 {
-    stripe_of(LineId { number: line }) == stripe
+    marks[stripe_of(LineId { number: line })] = true;
 }
 
-/// Whether an account's line is of a stripe.
-fn is_in(chart: &Chart, stripe: usize, fund: u16, dept: u16, object: u16) -> bool
-    ensures { result ≡ spec.is_in chart.now stripe fund dept object }
+/// Marks the stripe of an account's line, where it has one.
+fn mark_account(chart: &Chart, fund: u16, dept: u16, object: u16, marks: &mut [bool; 8])
+    ensures { (k : ℕ) → k < 8 → mark_at marks.new k ≡ (mark_at marks.old k || spec.is_in chart.now k fund dept object) }
 {
-    match chart.line_of(fund, dept, object) {
-        Some(line) => is_of(stripe, line.number),
-        None => false,
+    if let Some(line) = chart.line_of(fund, dept, object) {
+        mark(line.number, marks);
     }
 }
 
-fn is_item_in(chart: &Chart, stripe: usize, item: &AccountItem) -> bool
-    ensures { result ≡ spec.is_item_in chart.now stripe item.now }
+/// Marks the stripes of lines.
+fn mark_rows(rows: &[LineAmount], marks: &mut [bool; 8])
+    ensures { (k : ℕ) → k < 8 → mark_at marks.new k ≡ (mark_at marks.old k || list_any (λ r. spec.stripe_of r.line == k) rows.now) }
 {
-    is_in(chart, stripe, item.fund, item.dept, item.object)
-}
-
-fn is_leave_in(chart: &Chart, stripe: usize, act: &LeaveAct) -> bool
-    ensures { result ≡ spec.leave_touches chart.now stripe act.now }
-{
-    match act {
-        LeaveAct::Mature(l) => is_in(chart, stripe, l.fund, l.dept, l.object),
-        _ => false,
+    for row in rows {
+        mark(row.line, marks);
     }
 }
 
-fn has_line(stripe: usize, rows: &[LineAmount]) -> bool
-    ensures { result ≡ list_any (λ r. spec.stripe_of r.line == stripe) rows.now }
+/// Marks the stripes of accounts' lines.
+fn mark_items(chart: &Chart, items: &[AccountItem], marks: &mut [bool; 8])
+    ensures { (k : ℕ) → k < 8 → mark_at marks.new k ≡ (mark_at marks.old k || list_any (spec.is_item_in chart.now k) items.now) }
 {
-    rows.iter().any(|row| is_of(stripe, row.line))
+    for item in items {
+        mark_account(chart, item.fund, item.dept, item.object, marks);
+    }
 }
 
-fn has_account(chart: &Chart, stripe: usize, items: &[AccountItem]) -> bool
-    ensures { result ≡ list_any (spec.is_item_in chart.now stripe) items.now }
+/// The same, of the items of a voucher.
+fn mark_invoice(chart: &Chart, items: &[VoucherItem], marks: &mut [bool; 8])
+    ensures { (k : ℕ) → k < 8 → mark_at marks.new k ≡ (mark_at marks.old k || list_any (λ i. spec.is_item_in chart.now k i.account) items.now) }
 {
-    items.iter().any(|item| is_item_in(chart, stripe, item))
+    for item in items {
+        let account = &item.account;
+        mark_account(chart, account.fund, account.dept, account.object, marks);
+    }
 }
 
-fn has_item(chart: &Chart, stripe: usize, items: &[VoucherItem]) -> bool
-    ensures { result ≡ list_any (λ i. spec.is_item_in chart.now stripe i.account) items.now }
+/// Marks the stripe of matured leave's account.
+fn mark_leave(chart: &Chart, act: &LeaveAct, marks: &mut [bool; 8])
+    ensures { (k : ℕ) → k < 8 → mark_at marks.new k ≡ (mark_at marks.old k || spec.leave_touches chart.now k act.now) }
 {
-    items
-        .iter()
-        .any(|item| is_item_in(chart, stripe, &item.account))
+    if let LeaveAct::Mature(l) = act {
+        mark_account(chart, l.fund, l.dept, l.object, marks);
+    }
 }
 
-/// Whether an act touches a stripe: those of its lines or of its accounts' lines, or all where documents tell which (own
+/// The stripes that an act touches: those of its lines or of its accounts' lines, or all where documents tell which (own
 /// rule). An account without a line adds none.
-pub fn touches(chart: &Chart, stripe: usize, act: &Act) -> bool
-    ensures { result ≡ spec.touches chart.now stripe act.now }
+pub fn touched_stripes(chart: &Chart, act: &Act) -> [bool; 8]
+    ensures { (k : ℕ) → k < 8 → mark_at result k ≡ spec.touches chart.now k act.now }
 {
+    let mut marks = NONE;
     match act {
-        Act::Adopt(a) => has_line(stripe, a.lines.as_slice()),
-        Act::Amend(a) => is_of(stripe, a.line),
-        Act::Transfer(t) => is_of(stripe, t.from) || is_of(stripe, t.to),
-        Act::Requisition(r) => has_account(chart, stripe, r.items.as_slice()),
-        Act::Order(o) => {
-            o.requisition.is_some() || has_account(chart, stripe, o.items.as_slice())
+        Act::Adopt(a) => mark_rows(a.lines.as_slice(), &mut marks),
+        Act::Amend(a) => mark(a.line, &mut marks),
+        Act::Transfer(t) => {
+            mark(t.from, &mut marks);
+            mark(t.to, &mut marks);
         }
-        Act::ChangeOrder(c) => is_in(chart, stripe, c.fund, c.dept, c.object),
-        Act::Voucher(v) => has_item(chart, stripe, v.items.as_slice()),
+        Act::Requisition(r) => mark_items(chart, r.items.as_slice(), &mut marks),
+        Act::Order(o) if o.requisition.is_none() => {
+            mark_items(chart, o.items.as_slice(), &mut marks);
+        }
+        Act::ChangeOrder(c) => mark_account(chart, c.fund, c.dept, c.object, &mut marks),
+        Act::Voucher(v) => mark_invoice(chart, v.items.as_slice(), &mut marks),
         Act::PayDue(p) => {
-            is_in(chart, stripe, p.fund, p.dept, p.principal)
-                || is_in(chart, stripe, p.fund, p.dept, p.interest)
+            mark_account(chart, p.fund, p.dept, p.principal, &mut marks);
+            mark_account(chart, p.fund, p.dept, p.interest, &mut marks);
         }
-        Act::Leave(l) => is_leave_in(chart, stripe, l),
-        Act::Withdraw(_) | Act::CancelOrder(_) | Act::VoidVoucher(_) | Act::Close(_) => true,
-        _ => false,
+        Act::Leave(l) => mark_leave(chart, l, &mut marks),
+        Act::Order(_)
+        | Act::Withdraw(_)
+        | Act::CancelOrder(_)
+        | Act::VoidVoucher(_)
+        | Act::Close(_) => marks = ALL,
+        _ => {}
     }
+    marks
 }
 
-/// Whether a look reads a stripe.
-fn reads(stripe: usize, read: &Read) -> bool
-    ensures { result ≡ spec.read_touches stripe read.now }
+/// The stripes that a look reads.
+fn read_by(read: &Read) -> [bool; 8]
+    ensures { (k : ℕ) → k < 8 → mark_at result k ≡ spec.read_touches k read.now }
 {
+    let mut marks = NONE;
     match *read {
-        Read::Line { line, year: _ } => is_of(stripe, line),
-        Read::Report { .. } => true,
-        _ => false,
+        Read::Line { line, year: _ } => mark(line, &mut marks),
+        Read::Report { .. } => marks = ALL,
+        _ => {}
     }
+    marks
 }
 
-/// Whether a call touches a stripe, so that who makes it must hold that one's line numbers. It takes no memory.
-pub fn takes(chart: &Chart, stripe: usize, call: &Call) -> bool
-    ensures { result ≡ spec.call_touches chart.now stripe call.now }
+/// The stripes that a call touches, so that who makes it must hold their line numbers. It takes no memory.
+pub fn taken_stripes(chart: &Chart, call: &Call) -> [bool; 8]
+    ensures { (k : ℕ) → k < 8 → mark_at result k ≡ spec.call_touches chart.now k call.now }
 {
     match call {
-        Call::Change(change) => touches(chart, stripe, &change.act),
-        Call::Look(look) => reads(stripe, &look.read),
+        Call::Change(change) => touched_stripes(chart, &change.act),
+        Call::Look(look) => read_by(&look.read),
     }
 }

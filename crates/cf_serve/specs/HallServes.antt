@@ -38,11 +38,11 @@ pub record HallRan {D L : Type 0} (device : DiskTells D) (tells : Tells L) (know
   pub given_is : given ≡ links_given olds news
 
 -- The doors were served and none failed; or one failed, whose count rose; or there was no memory, and the doors and the disk
--- are as they were.
+-- are as they were, and no link was given.
 abbrev pub Serves : {D L : Type 0} → DiskTells D → Tells L → Bool → ℕ → DurableBook D → D → List (DoorState L) → List (DoorState L) → ℕ → ServeEnd → Type 0
 Serves device tells known links book disk olds news given Served = HallRan device tells known links book disk olds news given × AllQuiet olds news
 Serves device tells known links book disk olds news given DoorFailed = HallRan device tells known links book disk olds news given × SomeRose olds news
-Serves device tells known links book disk olds news given NoMemory = (news ≡ olds) × (disk ≡ book.disk)
+Serves device tells known links book disk olds news given NoMemory = (news ≡ olds) × (disk ≡ book.disk) × (given ≡ 0)
 
 -- how the service ended, where a door failed or none did
 abbrev pub end_by : Bool → ServeEnd

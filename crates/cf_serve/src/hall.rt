@@ -8,7 +8,7 @@ ghost use Rattle.cf_talk.specs.ServeRuns.{door_state};
 
 use crate::end::{HallServed, ServeEnd};
 use crate::rooms::Rooms;
-use crate::serving::{enter_all, serve_doors};
+use crate::serving::serve_doors;
 use cf_book::Book;
 use cf_chart::Chart;
 use cf_disk::Disk;
@@ -80,7 +80,7 @@ where
         mut receipts,
     } = rooms;
     let mut hall = Hall::open(book, chart, opening);
-    enter_all(&mut hall, doors.len(), &mut passes);
+    hall.enter_all(doors.len(), &mut passes);
     let all = mem::replace(doors, room);
     let kept = serve_doors(
         rt,

@@ -1,6 +1,6 @@
 //! Desks are opened at the doors, kept and parted again.
 
-ghost use Rattle.std.specs.Prelude.{◌≡◌, ◌+◌, ◌≤◌, [], length, map, All};
+ghost use Rattle.std.specs.Prelude.{◌≡◌, ◌≤◌, [], length, map, All};
 ghost use Rattle.std.specs.List.{list_any, sum_by};
 ghost use Rattle.std.specs.Vec.{vec_capacity};
 ghost use Rattle.cf_names.specs.Closing.{IsFreshPass};
@@ -11,33 +11,12 @@ ghost use Rattle.cf_talk.specs.ServeRuns.{door_of, door_state};
 use crate::clerk::Clerk;
 use crate::desk::{Desk, keep_all};
 use cf_disk::Disk;
-use cf_hall::{Hall, HallPass, Shared};
+use cf_hall::{HallPass, Shared};
 use cf_http::{Door, DoorEnd};
 use cf_names::City;
 use std::alloc::Global;
 use std::sync::Wait;
 use std::thread::Threads;
-
-/// Opens so many passes.
-pub(crate) fn enter_all<N: City, D: Disk + Drop>(
-    hall: &mut Hall<N, D>,
-    count: usize,
-    passes: &mut Vec<HallPass<N>>,
-)
-    requires few { hall.old.entered + count ≤ 65535 }
-    requires empty { passes.old.items ≡ [] }
-    requires room { count ≤ vec_capacity passes.old }
-    ensures kept { hall.new.kept ≡ hall.old.kept }
-    ensures entered { hall.new.entered ≡ hall.old.entered + count }
-    ensures many { length passes.new.items ≡ count }
-    ensures fresh { All (IsFreshPass N.first) passes.new.items }
-    ensures capacity { vec_capacity passes.new ≡ vec_capacity passes.old }
-{
-    for _entered in 0..count {
-        let pass = hall.enter();
-        passes.push_reserved(pass);
-    }
-}
 
 /// Opens a desk: a door, and a clerk with the pass.
 fn seat<'a, N: City, D: Disk + Drop, H: Wait, R: Door + Drop>(

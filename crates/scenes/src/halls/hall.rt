@@ -1,6 +1,6 @@
 //! A hall is opened over a journal, its callers play, and it is closed.
 
-ghost use Rattle.std.specs.Prelude.{◌≡◌, ◌+◌, ◌<◌, ◌≤◌, ℕ, [], length, IfOk};
+ghost use Rattle.std.specs.Prelude.{◌≡◌, ◌<◌, ◌≤◌, ℕ, [], length, IfOk};
 ghost use Rattle.std.specs.Vec.{vec_capacity};
 ghost use Rattle.cf_hall.specs.OpeningNames.{name_at};
 
@@ -43,24 +43,6 @@ pub fn nanoseconds<C: Clock>(clock: &C) -> u64 {
     match clock.monotonic() {
         Ok(time) => u64::try_from(time.as_nanos()).unwrap_or(0),
         Err(_) => 0,
-    }
-}
-
-/// Opens so many passes.
-fn enter_all<N: City, D: Disk + Drop>(
-    hall: &mut Hall<N, D>,
-    count: usize,
-    passes: &mut Vec<HallPass<N>>,
-)
-    requires few { hall.old.entered + count ≤ 65535 }
-    requires empty { passes.old.items ≡ [] }
-    requires room { count ≤ vec_capacity passes.old }
-    ensures entered { hall.new.entered ≡ hall.old.entered + count }
-    ensures many { length passes.new.items ≡ count }
-{
-    for _entered in 0..count {
-        let pass = hall.enter();
-        passes.push_reserved(pass);
     }
 }
 
@@ -159,7 +141,7 @@ fn play_within<N: City + Send + Sync, D: Disk + Drop + Send, H: Threads + Wait +
         mut receipts,
     } = rooms;
     let mut hall = Hall::open(book, chart, opening);
-    enter_all(&mut hall, count, &mut passes);
+    hall.enter_all(count, &mut passes);
     let nanoseconds = time_all(rt, &hall.shared, table, &mut passes);
     let closed = hall.close(passes, &mut receipts);
     Played {

@@ -4,7 +4,7 @@ use crate::halls::hall::Played;
 use crate::halls::stage::Stage;
 use crate::halls::summary::summary;
 use crate::halls::word::Word;
-use std::alloc::{AllocError, Global};
+use std::alloc::AllocError;
 use std::rt::Files;
 use std::sync::Wait;
 use std::thread::Threads;
