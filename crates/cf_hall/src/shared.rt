@@ -21,7 +21,7 @@ use std::sync::{Mutex, MutexGuard, Wait};
 
 /// How often a call tries for the book before it waits by the lock itself, which looks a while longer and then sleeps. To wake a
 /// thread takes longer than most calls hold the book.
-const TRIES: u32 = 512;
+const TRIES: u32 = 2_048;
 
 /// What threads share of a hall: the history word, a copy of the chart, the place of each stripe, and the book. A call
 /// holds its stripes while it is answered, and the book only while it is settled.
