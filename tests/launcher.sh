@@ -1,6 +1,7 @@
 #!/bin/sh
 # Tries ./build and ./cityfund with an rt and a program that are stubs: a failed build leaves the old program and is said
-# to have failed, the launcher builds nothing, and what could be a journal isn't founded over.
+# to have failed, the launcher builds nothing, what could be a journal isn't founded over, a link to a launcher does as it does, and
+# what a user may not write is said.
 cd "$(dirname "$0")/.." || exit 1
 scratch=$(mktemp -d) || exit 1
 trap 'rm -rf "$scratch"' EXIT
@@ -86,5 +87,70 @@ printf '\003' > "$scratch/desk/fund.journal"
 expect "found beside one byte" 0 "new found" "$city/cityfund" found
 : > "$scratch/desk/fund.journal"
 expect "found beside an empty file" 0 "new found" "$city/cityfund" found
+
+rm "$scratch/desk/fund.journal"
+
+# A link, a link to a link, and a link on the path, from another folder.
+mkdir "$scratch/links"
+for name in cityfund books build; do
+    ln -s "$city/$name" "$scratch/links/$name"
+    ln -s "../links/$name" "$scratch/kit/$name"
+done
+expect "a link" 0 "new desk" "$scratch/links/cityfund" desk
+expect "a link to a link" 0 "new desk" "$scratch/kit/cityfund" desk
+expect "a link on the path" 0 "new list -x" books list -x
+rt 7 old
+expect "a build by a link" 0 "build: built out/cityfund and out/books" build
+expect "the program that it built" 0 "old desk" cityfund desk
+rm "$city/out/books"
+expect "no program behind a link" 1 "books: there is no program yet: run $city/build" books check
+
+# What a user may not write is said, and the program runs all the same. Root may write everything, so another user asks.
+chmod -R a+rX "$scratch"
+if [ "$(id -u)" -ne 0 ]; then
+    as() { "$@"; }
+elif command -v setpriv > /dev/null; then
+    as() { setpriv --reuid=nobody --clear-groups "$@"; }
+else
+    as() { false; }
+fi
+
+# told NAME LINES WORDS..: a user who isn't root runs the launcher with the words; LINES is all that is said.
+told() {
+    name=$1 wanted=$2
+    shift 2
+    said=$(cd "$scratch/desk" && as "$city/cityfund" "$@" 2>&1)
+    [ "$said" = "$wanted" ]
+    verdict "$name: $said" $?
+}
+
+user=$(as id -un 2> /dev/null)
+if [ -z "$user" ]; then
+    echo "launcher: skipped: there is no other user to ask as"
+else
+    journal="cityfund: user $user can't read and write $scratch/desk/fund.journal"
+    chmod 555 "$scratch/desk"
+    told "a folder that can't be written" "cityfund: user $user can't write in the folder $scratch/desk
+old found" found
+    told "a desk there" "old desk" desk
+    chmod 755 "$scratch/desk"
+    printf '\001\001entries' > "$scratch/desk/fund.journal"
+    chmod 444 "$scratch/desk/fund.journal"
+    told "a journal to read alone" "$journal
+old desk" desk
+    told "a report over it" "$journal
+old report 2026 balance" report 2026 balance
+    told "serve over it" "$journal
+old serve --doors 2" serve --doors 2
+    told "a run in memory beside it" "old generate 10" generate 10
+    chmod 000 "$scratch/desk/fund.journal"
+    told "found beside a journal that can't be read" "$journal
+old found" found
+    chmod 666 "$scratch/desk/fund.journal"
+    told "a journal that can be written" "old desk" desk
+    chmod 777 "$scratch/desk"
+    rm "$scratch/desk/fund.journal"
+    told "a folder that can be written" "old found" found
+fi
 
 summary launcher

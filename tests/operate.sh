@@ -1,7 +1,7 @@
 #!/bin/sh
 # Runs the files of examples/operate/ at a `serve` of this machine: nginx with TLS and passwords, in which only ports and paths are
 # others, asked by curl and by the clients of examples/clients/; the copy of a journal while it is written to; and what systemd
-# says of the unit. What isn't installed is skipped, and said so. On Debian: nginx, libnginx-mod-http-js, curl, openssl, systemd.
+# says of the unit. What isn't installed is skipped, and said so. On Debian: nginx, libnginx-mod-http-js, curl, openssl, nftables, systemd.
 cd "$(dirname "$0")/.." || exit 1
 top=$(pwd)
 PATH=$PATH:/usr/sbin
@@ -22,7 +22,7 @@ missing() {
 # The programs' folder, as at a city without the sources.
 city=$scratch/city
 mkdir -p "$city/out"
-cp cityfund books "$city/"
+cp cityfund books examples/operate/doors.sh "$city/"
 cp "$program" "$city/out/cityfund"
 cp "$books" "$city/out/books"
 
@@ -66,6 +66,22 @@ fi
 module=/usr/lib/nginx/modules/ngx_http_js_module.so
 . tests/serving.sh
 serving 4 100000
+
+# ---- the doors are counted: of this user's that listen, until all do or the program has ended
+
+# doors STATUS LISTENING PORT DOORS WORDS..: what doors.sh says.
+doors() {
+    wanted=$1 text="cityfund: $2 of $4 doors listen"
+    shift 2
+    said=$(sh examples/operate/doors.sh "$@")
+    status=$?
+    [ "$status" -eq "$wanted" ] && [ "$said" = "$text" ]
+    verdict "doors: status $status: $said" $?
+}
+
+doors 0 4 "$first" 4
+doors 1 1 "$((first + 3))" 2 1
+MAINPID=2147483647 doors 1 0 1 4
 
 # ---- copies
 
@@ -181,6 +197,19 @@ asked "a path in percents" payables 403 "" "$url/%63alls" --data "{\"desk\":1,$a
 asked "two slashes" payables 403 "" "$url//calls" --data "{\"desk\":1,$adopt}"
 asked "a call to a look's path" payables 403 "" "$url/lines/3/2026" --data "{\"desk\":1,$adopt}"
 asked "another's call in chunks" payables 403 "" "$calls" --header 'Transfer-Encoding: chunked' --data "{\"desk\":1,$adopt}"
+# A page of another site, in a browser that was told the council's password: its form of the type text/plain is JSON, since the = between
+# the field's name and its value stands in a text of the call, and of two keys the last one counts.
+printf '{"key":"=","desk":1,%s}\r\n' "$adopt" > "$scratch/forged"
+foreign='^{"proxy":"a foreign page"}$'
+set -- --header 'Content-Type: text/plain' --data-binary "@$scratch/forged" "$calls"
+asked "a foreign page's call" council 403 "$foreign" --header 'Origin: https://elsewhere.example' "$@"
+asked "a call of a page that hides its origin" council 403 "$foreign" --header 'Origin: null' "$@"
+asked "a call of a page without TLS" council 403 "$foreign" --header "Origin: http://localhost:$port" "$@"
+asked "a call of a page of another port" council 403 "$foreign" --header 'Origin: https://localhost' "$@"
+asked "a call of two origins" council 403 "$foreign" --header "Origin: $url" --header 'Origin: https://elsewhere.example' "$@"
+asked "a foreign page's call, by the other field" council 403 "$foreign" --header 'Sec-Fetch-Site: cross-site' "$@"
+asked "a call of a neighbour's page" council 403 "$foreign" --header 'Sec-Fetch-Site: same-site' "$@"
+asked "a foreign page's call with our origin" council 403 "$foreign" --header "Origin: $url" --header 'Sec-Fetch-Site: cross-site' "$@"
 asked "nothing was added" council 200 '^{"at":0,' "$url/lines/3/2026"
 asked "the council's own call" council 200 '^{"at":1,"ok":{}}$' "$calls" --data "{\"desk\":1,$adopt}"
 
@@ -189,6 +218,7 @@ asked "a look as a call" auditor 200 '^{"at":1,"is":{"appropriated":"100000",' "
 asked "a report" auditor 200 '^{"at":1,"is":{"rows":' "$url/reports/2026/balance"
 asked "a body in chunks" council 200 '"was":1' --header 'Transfer-Encoding: chunked' "$calls" --data "{\"desk\":1,$adopt}"
 asked "many fields" council 200 '"was":1' $(seq -f '--header x%g:1' 60) "$calls" --data "{\"desk\":1,$adopt}"
+asked "a call of a page of its own" council 200 '"was":1' --header "Origin: $url" --header 'Sec-Fetch-Site: same-origin' "$calls" --data "{\"desk\":1,$adopt}"
 asked "a call that waits for 100" council 200 '"was":1' --header 'Expect: 100-continue' "$calls" --data "{\"desk\":1,$adopt}"
 asked "no JSON" council 400 '^{"form":"json"}$' "$calls" --data hello
 asked "no JSON object" council 400 '^{"form":"json"}$' "$calls" --data null

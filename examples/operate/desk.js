@@ -8,10 +8,20 @@ function said(r, code, body) {
     r.return(code, JSON.stringify(body));
 }
 
+// Whether a page of another site asks. A browser that was told a password sends it with whatever any page posts, and says in these
+// fields whose page it is. Programs send neither.
+function isForeign(fields) {
+    var origin = fields['Origin'], site = fields['Sec-Fetch-Site'];
+    return origin !== undefined && origin !== 'https://' + fields['Host'] || site !== undefined && site !== 'same-origin';
+}
+
 function post(r) {
     // What isn't a POST is no call, and a door says so.
     if (r.method !== 'POST') {
         return r.internalRedirect('@doors');
+    }
+    if (isForeign(r.headersIn)) {
+        return said(r, 403, {proxy: 'a foreign page'});
     }
     var text, call;
     try {
