@@ -8,10 +8,12 @@
 # The first form measures the named crates, or all, one after another at one job in a copy of the repository. The figures
 # are kept in the file that GATE_SECONDS names, or gate.seconds in the folder for temporary files, a line for each crate, so
 # that crates can be measured on different days; what follows from them is printed for all crates of that file. Measuring
-# all takes about twice the processor time of `rt ci`. A program's tests are its two runs.
+# all takes about twice the processor time of `rt ci`. A program's tests are its two runs. Edits are tried as the gate tries
+# them, with nothing kept.
 #
 # The second form measures nothing: it reckons each crate's price from the size of what its last check kept in out/, in
 # seconds of an otherwise idle machine; with all processors busy each takes up to twice as long. Neither is part of the gate.
+# What the figures mean says docs/GATE.md.
 top=$(cd "$(dirname "$0")/.." && pwd)
 exec python3 - "$top" "${GATE_SECONDS:-}" "$@" <<'PY'
 import heapq, os, re, resource, shutil, subprocess, sys, tempfile
@@ -45,12 +47,22 @@ def all_below(deps, name):
     return seen
 
 
+# rt then does one thing at a time.
+ONE_LANE = {**os.environ, "RT_JOBS": "1"}
+
+
 def seconds(folder, *words):
     """Processor seconds of a command and of what it waited for, and whether it went well."""
     before = resource.getrusage(resource.RUSAGE_CHILDREN)
-    ran = subprocess.run(words, cwd=folder, stdin=subprocess.DEVNULL, stdout=subprocess.DEVNULL, stderr=subprocess.DEVNULL)
+    ran = subprocess.run(words, cwd=folder, env=ONE_LANE, stdin=subprocess.DEVNULL, stdout=subprocess.DEVNULL, stderr=subprocess.DEVNULL)
     after = resource.getrusage(resource.RUSAGE_CHILDREN)
     return after.ru_utime + after.ru_stime - before.ru_utime - before.ru_stime, ran.returncode == 0
+
+
+def edits_of(name):
+    """How many must-fail edits a crate has."""
+    folder = f"{top}/crates/{name}/must-fail"
+    return sum(it.endswith(".edit") for it in os.listdir(folder)) if os.path.isdir(folder) else 0
 
 
 def has(folder, text):
@@ -75,13 +87,15 @@ def measured(root, name):
         tests += seconds(folder, "rt", "test", "--jobs", "1")[0]
         shutil.rmtree(f"{folder}/out", ignore_errors=True)
         os.rename(kept, f"{folder}/out")
-    if os.path.isdir(f"{folder}/must-fail"):
-        edits = seconds(root, "rt", "must-fail", name)[0]
+    if edits_of(name):
+        edits, well = seconds(root, "rt", "must-fail", "--anew", name)
+        if not well:
+            sys.exit(f"an edit of {name} isn't refused")
     return proof, tests, edits
 
 
-# What a check from nothing costs beside the modules: the start, a megabyte of checked modules, a function; and what a
-# further edit, the last check behind the edits, a crate's own tests and the two builds of a program cost. In seconds.
+# What a check from nothing costs beside the modules: the start, a megabyte of checked modules, a function; and what an
+# edit over the seed, the last check behind the edits, a crate's own tests and the two builds of a program cost. In seconds.
 START, MEGABYTE, FUNCTION, EDIT, LAST, TESTS, BUILDS = 6, 0.65, 0.1, 16, 10, 60, 40
 
 
@@ -106,8 +120,10 @@ def reckoned(name):
     proof = START + MEGABYTE * size + FUNCTION * functions(folder)
     tests = BUILDS if os.path.exists(f"{folder}/src/main.rt") else 0
     tests += (proof + TESTS) if has(folder, "#[test]") else 0
-    edits = len(os.listdir(f"{folder}/must-fail")) if os.path.isdir(f"{folder}/must-fail") else 0
-    return proof, tests, edits and proof + EDIT * (edits - 1) + LAST * (edits > 1)
+    # A single edit is tried from nothing, as is the seed of several.
+    count = edits_of(name)
+    edits = proof + (EDIT * count + LAST if count > 1 else 0)
+    return proof, tests, edits if count else 0
 
 
 def reckon():
@@ -152,15 +168,23 @@ def measure(names):
 
 
 def tasks_of(found, deps):
-    """The tasks of the gate, each with those that it waits for and its seconds."""
+    """The tasks of the gate, each with those that it waits for and its seconds. A seed begins beside the crate's own proof."""
     tasks = {}
     for name, (proof, tests, edits) in found.items():
         lower = [(it, "proof") for it in all_below(deps, name) if it in found]
         tasks[name, "proof"] = (lower, proof)
         if tests:
             tasks[name, "tests"] = (lower, tests)
-        if edits:
-            tasks[name, "edits"] = ([(name, "proof")] + [(name, "tests")] * bool(tests), edits)
+        own, count = [(name, it) for it in ("proof", "tests") if (name, it) in tasks], edits_of(name)
+        if count == 1:
+            tasks[name, "edit 1"] = (own, edits)
+        elif count:
+            seed = min(proof, edits)
+            each = (edits - seed) / (count + 1)
+            tasks[name, "seed"] = (lower, seed)
+            for number in range(1, count + 1):
+                tasks[name, f"edit {number}"] = ([*own, (name, "seed")], each)
+            tasks[name, "last"] = ([(name, f"edit {number}") for number in range(1, count + 1)], each)
     return tasks
 
 
@@ -181,16 +205,18 @@ def wall(of, jobs):
 
 
 def played(tasks, processors):
-    """The wall time of all tasks, in the order that the gate takes them: the longest chain first."""
+    """The wall time of all tasks, in the order that the gate takes them: the longest chain first, seeds and edits where
+    proofs leave processors free."""
     order = behind(tasks)
-    left, done, running, now = sorted(tasks, key=lambda it: -order[it]), set(), [], 0.0
+    fills = lambda it: it[1] not in ("proof", "tests")
+    left, done, running, now = sorted(tasks, key=lambda it: (fills(it), -order[it])), set(), [], 0.0
     while left or running:
         ready = [it for it in left if all(before in done for before in tasks[it][0])]
         for place, it in enumerate(ready):
             idle = processors - sum(jobs for _, _, jobs in running)
             if idle <= 0:
                 break
-            jobs = 1 if it[1] == "edits" else max(1, min(4, idle // (len(ready) - place)))
+            jobs = 1 if fills(it) else max(1, min(4, idle // (len(ready) - place)))
             left.remove(it)
             heapq.heappush(running, (now + wall(tasks[it][1], jobs), it, jobs))
         now, it, _ = heapq.heappop(running)

@@ -17,26 +17,26 @@ def adoption(line, amount):
     return head(1, 1, "b", day(2025, 7, 1)) + struct.pack(">HHHHQH", 1, 2026, 1, line, amount, 0)
 
 
-def voucher(number):
+def voucher(number, items=1):
     return (head(9, 4, f"v{number}", day(2025, 7, 5))
-            + struct.pack(">IBH", 77, 0, 1)             # vendor, pay back, how many items
-            + struct.pack(">HHHQB", 1, 20, 510, 1, 0)   # fund, department, object, amount, no order item
-            + struct.pack(">II", number, 1))            # its number, and its first asset's
+            + struct.pack(">IBH", 77, 0, items)                 # vendor, pay back, how many items
+            + struct.pack(">HHHQB", 1, 20, 510, 1, 0) * items   # fund, department, object, amount, no order item
+            + struct.pack(">II", number, 1))                    # its number, and its first asset's
 
 
 def record(payload):
     return b"\x01" + struct.pack(">I", len(payload)) + payload
 
 
-def write(vouchers):
-    """Writes fund.journal under the chart chart.toml: an adoption, and so many direct vouchers of one item. Says its size."""
+def write(vouchers, items=1):
+    """Writes fund.journal under the chart chart.toml: an adoption, and so many direct vouchers of so many items. Says its size."""
     with open("chart.toml", "rb") as file:
         chart = file.read()
     with open("fund.journal", "wb") as file:
-        file.write(b"\x01\x01" + struct.pack(">I", len(chart)) + chart)
+        file.write(b"\x01\x02" + struct.pack(">I", len(chart)) + chart)
         file.write(record(adoption(3, 1_000_000_000)))
         for number in range(1, vouchers + 1):
-            file.write(record(voucher(number)))
+            file.write(record(voucher(number, items)))
         file.write(b"\x00")
         file.flush()
         os.fsync(file.fileno())

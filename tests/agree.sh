@@ -19,11 +19,12 @@ same() {
     python3 "$@" | cmp -s - "$file" || { echo "$what: the office says otherwise"; stored=1; }
 }
 
-for talk in examples/*.jsonl examples/milltown/*.jsonl examples/older/quarter.jsonl; do
+for talk in examples/*.jsonl examples/*/*.jsonl; do
     case $talk in
-    examples/milltown/*) chart=examples/milltown/chart.toml ;;
+    examples/*/*) chart=$(dirname "$talk")/chart.toml ;;
     *) chart=examples/rivertown/chart.toml ;;
     esac
+    [ -e "$chart" ] || continue
     python3 "$office" "$chart" "$talk" "${talk%.jsonl}.replies" || stored=1
     for report in "${talk%.jsonl}".reports/*.txt; do
         [ -e "$report" ] || continue
@@ -31,6 +32,16 @@ for talk in examples/*.jsonl examples/milltown/*.jsonl examples/older/quarter.js
         same "$report" "$report" "$office" "$chart" "$talk" "${name%-*}" "${name#*-}"
         same "$report as CSV" "${report%.txt}.csv" "$office" "$chart" "$talk" "${name%-*}" "${name#*-}" --csv
     done
+done
+# Talks that go on where the one before ended.
+for talks in "two-runs/morning two-runs/afternoon" "older/quarter older/looks older/more older/lease"; do
+    joined=$(mktemp -d) || exit 1
+    for talk in $talks; do
+        cat "examples/$talk.jsonl" >> "$joined/talk"
+        cat "examples/$talk.replies" >> "$joined/replies"
+    done
+    python3 "$office" examples/rivertown/chart.toml "$joined/talk" "$joined/replies" || stored=1
+    rm -r "$joined"
 done
 python3 tests/quotes.py || stored=1
 [ "$stored" -eq 0 ] && echo "the stored talks and statements agree"

@@ -1,7 +1,8 @@
 #!/bin/sh
 # Tries the program `books` on the journals of the examples: their calls, sent to a desk over a newly founded journal, make the
 # same file; a Rivertown journal moves to a chart with a line and a desk more; a journal that is cut at any byte gives the
-# whole entries before the cut. Then what it refuses. BOOKS names another program than the one that rt built last.
+# whole entries before the cut; the lines of a fund with a later level say their years. Then what it refuses. BOOKS names
+# another program than the one that rt built last.
 cd "$(dirname "$0")/.." || exit 1
 top=$(pwd)
 . tests/program.sh
@@ -25,11 +26,12 @@ found() {
 
 # ---- the calls of a journal make it again
 
-for talk in examples/*.jsonl examples/milltown/*.jsonl; do
+for talk in examples/*.jsonl examples/*/*.jsonl; do
     case $talk in
-    examples/milltown/*) chart=examples/milltown/chart.toml ;;
+    examples/*/*) chart=$(dirname "$talk")/chart.toml ;;
     *) chart=examples/rivertown/chart.toml ;;
     esac
+    [ -e "$chart" ] || continue
     found first "$chart"
     (cd "$scratch/first" && "$program" desk < "$top/$talk" > /dev/null && "$books" calls > calls && "$books" chart > "$scratch/chart.toml")
     found again "$scratch/chart.toml"
@@ -59,6 +61,26 @@ found again "$scratch/longer.toml"
 (cd "$scratch/again" && "$program" desk < "$scratch/first/calls" > replies && ! grep -q '"no"' replies &&
     "$books" list > list && "$books" list ../first/fund.journal | cmp - list)
 verdict "a journal moves to a longer chart with the same numbers" $?
+
+# ---- a later level of control
+
+found again examples/fairview/chart.toml
+expect "a fund that changes its level" 0 "city: Fairview
+first fiscal year: 2026
+first month: 7
+functions: 2
+funds: 3
+departments: 3
+objects: 7
+sources: 3
+lines: 10
+desks: 10
+fund 1 is controlled by department from 2027" check-chart ../again/chart.toml
+(cd "$scratch/again" && "$books" lines | sed -n '4p;5p;9p' > got &&
+    printf '3\t1\tGeneral Fund\t20\tStreets\tobject 510 (through 2026)\tSupplies
+4\t2\tStreet Fund\t20\tStreets\tall objects\t
+8\t1\tGeneral Fund\t20\tStreets\tall objects (from 2027)\t\n' | cmp - got)
+verdict "which years a line is of" $?
 
 # ---- a journal that is cut
 

@@ -1,9 +1,10 @@
 #!/bin/sh
 # Runs the examples through the launcher and compares what it prints with the replies beside them: each talk of
-# examples/ over a journal of its own, founded with the chart of Rivertown, those of examples/milltown/ with the chart of
-# Milltown, with the statements that stand beside a talk, a journal that an earlier program wrote (examples/older/), and the day of
+# examples/ over a journal of its own, founded with the chart of Rivertown, or with the chart that stands beside it,
+# with the statements that stand beside a talk, a journal that an earlier program wrote (examples/older/), and the day of
 # examples/two-runs/ by two desks, one after the other, over one journal. The journal of each talk is read by its format alone
-# (journal.py). Then what founding and opening refuse, and the launcher with stubs (launcher.sh).
+# (journal.py). Then what founding and opening refuse, the launcher with stubs (launcher.sh), the program books (books.sh), calls of
+# sheets (sheets.sh) and the package (package.sh).
 cd "$(dirname "$0")/.." || exit 1
 top=$(pwd)
 . tests/program.sh
@@ -46,11 +47,14 @@ fresh() {
     cp "examples/$1/chart.toml" "$scratch/chart.toml"
 }
 
-for lines in examples/*.jsonl examples/milltown/*.jsonl; do
+for lines in examples/*.jsonl examples/*/*.jsonl; do
     case $lines in
-    examples/milltown/*) fresh milltown ;;
-    *) fresh rivertown ;;
+    examples/*/*) chart=$(dirname "$lines")/chart.toml ;;
+    *) chart=examples/rivertown/chart.toml ;;
     esac
+    # Talks that go on where another one ended come below.
+    [ -e "$chart" ] || continue
+    fresh "$(basename "$(dirname "$chart")")"
     expect "found for $lines" 0 founded found
     talk "$lines" "${lines%.jsonl}.replies"
     python3 tests/journal.py "$scratch/fund.journal" "$lines" "${lines%.jsonl}.replies"
@@ -65,16 +69,52 @@ verdict "generate 100000 twice" $?
 [ "$(head -n 1 "$scratch/run/first" | tr -s ' ')" = "Entries 100007" ] && [ "$(ls "$scratch/run" | wc -l)" -eq 2 ]
 verdict "the lines of generate 100000, and no other file" $?
 
-# A journal that an earlier program wrote: this one writes the same for its talk, and opens it with the same answers and nothing lost.
+# byte AT VALUE: sets a byte of the journal, by an octal number.
+byte() {
+    printf "\\$2" | dd of="$scratch/fund.journal" bs=1 seek="$1" conv=notrunc 2> /dev/null
+}
+
+# version NUMBER: the journal's byte 1.
+version() {
+    [ "$(od -A n -t u1 -j 1 -N 1 "$scratch/fund.journal" | tr -d ' ')" = "$1" ]
+    verdict "a journal of version $1" $?
+}
+
+# A journal that an earlier program wrote, of version 1: this one writes the same for its talk but for the version, and opens it with
+# the same answers and nothing lost.
 fresh rivertown
 expect "found for an older journal" 0 founded found
+version 2
 talk examples/older/quarter.jsonl examples/older/quarter.replies
+byte 1 001
 cmp "$scratch/fund.journal" examples/older/quarter.journal
 verdict "the journal of examples/older/quarter.jsonl is the older one" $?
 cp examples/older/quarter.journal "$scratch/fund.journal"
 talk examples/older/looks.jsonl examples/older/looks.replies
 cmp "$scratch/fund.journal" examples/older/quarter.journal
 verdict "the older journal stays" $?
+# It goes on as it is, until its first lease, which only version 2 has: byte 1 becomes 2, and no other byte of it changes.
+talk examples/older/more.jsonl examples/older/more.replies
+version 1
+cp "$scratch/fund.journal" "$scratch/before"
+talk examples/older/lease.jsonl examples/older/lease.replies
+version 2
+last=$(($(wc -c < "$scratch/before") - 1))
+for journal in before fund.journal; do
+    tail -c +3 "$scratch/$journal" | head -c $((last - 2)) > "$scratch/$journal.part"
+done
+cmp "$scratch/before.part" "$scratch/fund.journal.part"
+verdict "a lease leaves the records of an older journal" $?
+for kind in jsonl replies; do
+    cat examples/older/quarter.$kind examples/older/looks.$kind examples/older/more.$kind examples/older/lease.$kind > "$scratch/all.$kind"
+done
+python3 tests/journal.py "$scratch/fund.journal" "$scratch/all.jsonl" "$scratch/all.replies"
+verdict "the older journal with a lease, read by its format" $?
+# Version 1 has no lease, and each other value of byte 1 is version 2.
+byte 1 001
+expect "a lease in version 1" 9 "cityfund: damaged at $last" desk
+byte 1 377
+expect "another byte 1" 0 "" desk
 
 fresh rivertown
 expect "found for two runs" 0 founded found
@@ -117,10 +157,10 @@ printf '\001' | dd of="$scratch/fund.journal" bs=1 conv=notrunc 2> /dev/null
 cmp -s "$scratch/fund.journal" "$scratch/before"
 verdict "the journal without a first byte stays" $?
 
-# Another version of the journal.
-printf '\002' | dd of="$scratch/fund.journal" bs=1 seek=1 conv=notrunc 2> /dev/null
-expect "another version" 9 "cityfund: damaged at 1" desk
-expect "a report of another version" 9 "cityfund: damaged at 1" report 2026 balance
+# A head that is cut short behind the version.
+head -c 5 "$scratch/before" > "$scratch/fund.journal"
+expect "a head cut short" 9 "cityfund: damaged at 1" desk
+expect "a report of a head cut short" 9 "cityfund: damaged at 1" report 2026 balance
 
 fresh rivertown
 expect "a desk without a journal" 7 "cityfund: not founded" desk
@@ -136,5 +176,9 @@ sh tests/launcher.sh
 verdict "the launcher" $?
 sh tests/books.sh
 verdict "the program books" $?
+sh tests/sheets.sh
+verdict "calls of sheets, and the tables of docs/CALLS.md" $?
+sh tests/package.sh
+verdict "the package" $?
 
 summary examples

@@ -62,6 +62,10 @@ class Fields:
                 item["final"] = True
         return item
 
+    def terms(self):
+        call = self.named("rate_bp:h every:b")
+        return call | {"principals": self.list(self.d)}
+
 
 def adopt(f):
     call = f.named("fund:h year:h")
@@ -91,8 +95,11 @@ def asset(f):
 
 
 def issue(f):
-    call = f.named("fund:h amount:d rate_bp:h every:b")
-    return call | {"principals": f.list(f.d), "drawn": {"bond": f.w()}}
+    return f.named("fund:h amount:d") | f.terms() | {"drawn": {"bond": f.w()}}
+
+
+def lease(f):
+    return f.named("vendor:w") | f.account() | f.terms() | {"drawn": f.named("asset:w bond:w")}
 
 
 def leave(f):
@@ -138,11 +145,15 @@ KINDS = [
     ("leave", leave),
     ("interfund", interfund),
     ("close", close),
+    ("lease", lease),
 ]
+MOST = {1: 21, 2: 22}  # the last kind of each version
 
 
-def entry(f):
+def entry(f, version):
     kind, desk = f.b(), f.h()
+    if not 1 <= kind <= MOST[version]:
+        raise SystemExit(f"no entry of kind {kind} in version {version}")
     key = f.take(f.b()).decode()
     on = datetime.date(1970, 1, 1) + datetime.timedelta(days=f.w())
     word, read = KINDS[kind - 1]
@@ -151,13 +162,14 @@ def entry(f):
 
 def entries(journal):
     f = Fields(journal, 0)
-    if (f.b(), f.b()) != (1, 1):
-        raise SystemExit("no founded journal of version 1")
+    if f.b() != 1:
+        raise SystemExit("no founded journal")
+    version = 1 if f.b() == 1 else 2
     f.take(f.w())
     found = []
     while f.b() == 1:
         end = f.w() + f.at
-        found.append(entry(f))
+        found.append(entry(f, version))
         if f.at != end:
             raise SystemExit(f"entry {len(found)} ends at {f.at}, not at {end}")
     return found

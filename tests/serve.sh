@@ -41,10 +41,10 @@ expect "no journal" 7 "cityfund: not founded" serve --port 8100 --doors 1 --link
 verdict "no journal is made" $?
 cp examples/rivertown/chart.toml "$scratch/chart.toml"
 (cd "$scratch" && "$program" found > /dev/null)
-# The version of the journal.
-printf '\002' | dd of="$scratch/fund.journal" bs=1 seek=1 conv=notrunc 2> /dev/null
-cp "$scratch/fund.journal" "$scratch/before"
-expect "another version" 9 "cityfund: damaged at 1" serve --doors=1 --links=1 --port=8100
+# A head that is cut short behind the version.
+head -c 5 "$scratch/fund.journal" > "$scratch/before"
+cp "$scratch/before" "$scratch/fund.journal"
+expect "a head cut short" 9 "cityfund: damaged at 1" serve --doors=1 --links=1 --port=8100
 cmp -s "$scratch/fund.journal" "$scratch/before"
 verdict "the journal stays" $?
 

@@ -1,11 +1,12 @@
 """What each call is answered: the least broken rule, or what the call makes.
 
-It takes calls in form only. tests/agree.sh compares it with the program over random talks, and with the stored replies of
-examples/.
+It takes calls in form only, and of issues and leases also those that break a rule of form of their own (forms.py). tests/agree.sh
+compares it with the program over random talks, and with the stored replies of examples/.
 """
 import datetime
 import json
 
+from forms import fault_of
 from rules import same
 from state import Refused, unknown
 from statements import TITLES, Statements
@@ -14,7 +15,7 @@ ROLES = dict(
     adopt="council", amend="council", transfer="council", requisition="dept", withdraw="dept", order="purchasing",
     change_order="purchasing", cancel_order="purchasing", voucher="payables", void_voucher="payables", pay="treasury",
     bill="revenue", collect="treasury", receive="treasury", write_off="revenue", asset="assets", issue="treasury",
-    pay_due="treasury", leave="payroll", interfund="treasury", close="controller",
+    pay_due="treasury", leave="payroll", interfund="treasury", close="controller", lease="treasury",
 )
 
 
@@ -22,6 +23,8 @@ class Office(Statements):
     """What each call is answered: the least broken rule, or what the call makes."""
 
     def answer(self, call):
+        if fault := fault_of(call):
+            return dict(form="fields", name=fault)
         try:
             if "desk" not in call:
                 return dict(at=len(self.entries), **{"is": self.look(call)})
@@ -55,12 +58,15 @@ class Office(Statements):
         self.keys[call["desk"], call["key"]] = len(self.entries)
         return None, made
 
+    def year_of_call(self, call):
+        return self.year_of(datetime.date.fromisoformat(call["on"]))
+
     # ---- the council
 
     def name_adopt(self, call):
         self.known_fund(call["fund"])
         for row in call["lines"]:
-            self.known_line(call["fund"], row["line"])
+            self.known_line(call["fund"], row["line"], call["year"])
         for row in call["estimates"]:
             source = self.row("source", row["source"])
             if not source or source["fund"] != call["fund"]:
@@ -81,7 +87,7 @@ class Office(Statements):
 
     def name_amend(self, call):
         self.known_fund(call["fund"])
-        self.known_line(call["fund"], call["line"])
+        self.known_line(call["fund"], call["line"], call["year"])
 
     def make_amend(self, call, day, year, named):
         self.test_not_closed(call["year"])
@@ -92,8 +98,8 @@ class Office(Statements):
 
     def name_transfer(self, call):
         self.known_fund(call["fund"])
-        self.known_line(call["fund"], call["from"])
-        self.known_line(call["fund"], call["to"])
+        self.known_line(call["fund"], call["from"], call["year"])
+        self.known_line(call["fund"], call["to"], call["year"])
 
     def make_transfer(self, call, day, year, named):
         self.test_not_closed(call["year"])
@@ -106,7 +112,8 @@ class Office(Statements):
     # ---- purchasing
 
     def name_requisition(self, call):
-        return [self.account(i["fund"], i["dept"], i["object"], ("current", "capital")) for i in call["items"]]
+        year = self.year_of_call(call)
+        return [self.account(i["fund"], i["dept"], i["object"], year, ("current", "capital")) for i in call["items"]]
 
     def make_requisition(self, call, day, year, lines):
         for item in call["items"]:
@@ -170,8 +177,9 @@ class Office(Statements):
 
     def name_change_order(self, call):
         self.document("order", call["order"])
-        self.account(call["fund"], call["dept"], call["object"])
-        return self.item_of(call["order"], call["item"])
+        item = self.item_of(call["order"], call["item"])
+        self.account(call["fund"], call["dept"], call["object"], item["year"] if item else self.year_of_call(call))
+        return item
 
     def make_change_order(self, call, day, year, item):
         if item:
@@ -198,9 +206,9 @@ class Office(Statements):
     # ---- payables
 
     def name_voucher(self, call):
-        lines = []
+        lines, year = [], self.year_of_call(call) - call.get("back", False)
         for item in call["items"]:
-            lines.append(self.account(item["fund"], item["dept"], item["object"], ("current", "capital")))
+            lines.append(self.account(item["fund"], item["dept"], item["object"], year, ("current", "capital")))
             if "order" in item:
                 self.document("order", item["order"])
         return lines
@@ -226,7 +234,7 @@ class Office(Statements):
         self.vouchers.append(dict(state="open", year=year, desk=call["desk"], day=day, items=items))
         for ordered, amount, final in uses:
             ordered["uses"].append(dict(voucher=len(self.vouchers), amount=amount, final=final))
-        bought = [self.acquire(item, day, year, len(self.vouchers)) for item in items if self.is_capital(item)]
+        bought = [self.acquire(item, day, year, voucher=len(self.vouchers)) for item in items if self.is_capital(item)]
         self.post_voucher(year, items, 1)
         return dict(assets=bought, voucher=len(self.vouchers))
 
@@ -238,12 +246,15 @@ class Office(Statements):
     def is_capital(self, item):
         return self.row("object", item["object"])["kind"] == "capital"
 
-    def acquire(self, item, day, year, voucher=None):
-        """Adds an asset, and gives its number."""
+    def acquire(self, item, day, year, voucher=None, term=None):
+        """Adds an asset, and gives its number. One with a term, in months, is leased."""
+        life = self.row("object", item["object"])["life"]
+        if term:
+            life = min(term, life) if life else term
         self.assets.append(
             dict(
                 voucher=voucher, function=self.function(item["dept"]), cost=item["amount"], state="held", day=day, year=year,
-                life=self.row("object", item["object"])["life"], service=self.number_of(day.year, day.month),
+                leased=term is not None, life=life, service=self.number_of(day.year, day.month),
             )
         )
         return len(self.assets)
@@ -366,6 +377,8 @@ class Office(Statements):
             return dict(asset=self.acquire(call, day, year))
         if asset["state"] != "held":
             raise Refused("AssetState", asset=call["asset"], state=asset["state"])
+        if asset["leased"]:
+            raise Refused("AssetState", asset=call["asset"], state="leased")
         if asset["day"] > day:
             raise Refused("AssetState", asset=call["asset"], state="later")
         charged, proceeds, cost = self.depreciation(asset, self.closed), call["proceeds"], asset["cost"]
@@ -382,16 +395,36 @@ class Office(Statements):
         self.known_fund(call["fund"])
 
     def make_issue(self, call, day, year, named):
-        terms = {k: call[k] for k in ("amount", "rate_bp", "every", "principals")}
-        self.bonds.append(dict(terms, month=self.number_of(day.year, day.month), day=day.day, year=year, paid=0))
         self.post("fund", year, call["fund"], (100000, call["amount"]), (600002, -call["amount"]))
         self.post("gov", year, 0, (100000, call["amount"]), (250000, -call["amount"]))
-        return dict(bond=len(self.bonds))
+        return dict(bond=self.borrow(call, day, year, 250000))
+
+    def borrow(self, call, day, year, payable):
+        """Adds a bond, or a lease's schedule as one, which is owed on an account of the city; and gives its number."""
+        terms = {k: call[k] for k in ("amount", "rate_bp", "every", "principals")}
+        month = self.number_of(day.year, day.month)
+        self.bonds.append(dict(terms, payable=payable, month=month, day=day.day, year=year, paid=0))
+        return len(self.bonds)
+
+    def name_lease(self, call):
+        return self.account(call["fund"], call["dept"], call["object"], self.year_of_call(call), ("capital",))
+
+    def make_lease(self, call, day, year, line):
+        amount = call["amount"]
+        self.test_adopted(call["fund"], year)
+        self.test_room((line, year, amount))
+        self.spendings.append((line, year, amount))
+        self.post("fund", year, call["fund"], (510000, amount), (600004, -amount))
+        self.post("gov", year, 0, (151000, amount), (251000, -amount))
+        asset = self.acquire(call, day, year, term=call["every"] * len(call["principals"]))
+        return dict(asset=asset, bond=self.borrow(call, day, year, 251000))
 
     def name_pay_due(self, call):
         bond = self.document("bond", call["bond"])
-        principal = self.account(call["fund"], call["dept"], call["principal"], ("principal",))
-        return bond, principal, self.account(call["fund"], call["dept"], call["interest"], ("interest",))
+        left = bond["paid"] < len(bond["principals"])
+        year = self.year_at(self.due(bond, bond["paid"] + 1)[0]) if left else self.year_of_call(call)
+        principal = self.account(call["fund"], call["dept"], call["principal"], year, ("principal",))
+        return bond, principal, self.account(call["fund"], call["dept"], call["interest"], year, ("interest",))
 
     def make_pay_due(self, call, day, year, named):
         bond, principal_line, interest_line = named
@@ -410,7 +443,7 @@ class Office(Statements):
         bond["paid"] = payment
         self.spendings += spendings
         self.post("fund", due_year, fund, (520000, principal), (530000, interest), (210000, -principal - interest))
-        self.post("gov", due_year, fund, (250000, principal), (260000, interest), (210000, -principal - interest))
+        self.post("gov", due_year, fund, (bond["payable"], principal), (260000, interest), (210000, -principal - interest))
         self.post_both(year, fund, (210000, principal + interest), (100000, -principal - interest))
         return dict(principal=str(principal), interest=str(interest))
 
@@ -418,7 +451,7 @@ class Office(Statements):
 
     def name_leave(self, call):
         if call["what"] == "mature":
-            return self.account(call["fund"], call["dept"], call["object"], ("current",))
+            return self.account(call["fund"], call["dept"], call["object"], self.year_of_call(call), ("current",))
         self.known_fund(call["fund"])
         self.known_dept(call["dept"])
 
@@ -489,7 +522,7 @@ class Office(Statements):
         year = self.fiscal_year(*month)
         for asset in self.assets:
             charge = self.depreciation(asset, self.closed + 1) - self.depreciation(asset, self.closed)
-            self.post("gov", year, 0, (500000 + asset["function"], charge), (159000, -charge))
+            self.post("gov", year, 0, (500000 + asset["function"], charge), (159100 if asset["leased"] else 159000, -charge))
         interest = sum(self.earned(bond, self.closed + 1) - self.earned(bond, self.closed) for bond in self.bonds)
         self.post("gov", year, 0, (530000, interest), (260000, -interest))
         self.closed += 1
@@ -504,7 +537,7 @@ class Office(Statements):
         return getattr(self, "look_" + call["call"])(call)
 
     def look_line(self, call):
-        if not call["line"] < len(self.chart["line"]):
+        if not self.is_line_of_year(call["line"], call["year"]):
             raise unknown("line", call["line"])
         return {name: str(cents) for name, cents in self.numbers(call["line"], call["year"]).items()}
 

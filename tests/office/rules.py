@@ -18,7 +18,7 @@ def amounts(call):
         return [(1, item["amount"]) for item in call["items"]]
     if kind == "asset" and call["what"] == "dispose":
         return [(0, call["proceeds"])]
-    if kind == "issue":
+    if kind in ("issue", "lease"):
         return [(1, call["amount"])] + [(0, part) for part in call["principals"]]
     return [(1, call["amount"])] if "amount" in call else []
 
@@ -94,8 +94,12 @@ class Rules(Books):
         if not self.row("department", dept):
             raise unknown("dept", dept)
 
-    def known_line(self, fund, line):
-        if not line < len(self.chart["line"]) or self.chart["line"][line]["fund"] != fund:
+    def is_line_of_year(self, line, year):
+        rows = self.chart["line"]
+        return line < len(rows) and rows[line].get("later", False) == self.is_later(rows[line]["fund"], year)
+
+    def known_line(self, fund, line, year):
+        if not self.is_line_of_year(line, year) or self.chart["line"][line]["fund"] != fund:
             raise unknown("line", line)
 
     def known_source(self, call):

@@ -39,7 +39,7 @@ class Books:
         self.adopted, self.original, self.appropriated, self.estimates = {}, {}, {}, {}
         self.requisitions, self.orders, self.vouchers, self.bills = [], [], [], []
         self.assets, self.bonds, self.leave, self.loans = [], [], [], {}
-        self.spendings = []  # (line, year, amount): debt payments and matured leave
+        self.spendings = []  # (line, year, amount): debt payments, matured leave and leases
         self.posts = {"fund": [], "gov": []}  # (year, fund, account, amount)
 
     # ---- the calendar
@@ -83,16 +83,22 @@ class Books:
     def row(self, table, number):
         return next((row for row in self.chart[table] if row["id"] == number), None)
 
-    def line_of(self, fund, dept, number):
-        level, wanted = self.row("fund", fund)["level"], self.row("object", number)
+    def is_later(self, fund, year):
+        """Whether the fund is controlled at its later level in a fiscal year."""
+        row = self.row("fund", fund)
+        return "later_level" in row and row["later_year"] <= year
+
+    def line_of(self, fund, dept, number, year):
+        later, wanted = self.is_later(fund, year), self.row("object", number)
+        level = self.row("fund", fund)["later_level" if later else "level"]
         for line, row in enumerate(self.chart["line"]):
-            if (row["fund"], row["dept"]) == (fund, dept):
+            if (row["fund"], row["dept"], row.get("later", False)) == (fund, dept, later):
                 if level == "department" or row.get(level) == wanted["class" if level == "class" else "id"]:
                     return line
         return None
 
-    def account(self, fund, dept, number, kinds=None):
-        """The control line of an account, whose object is of one of these kinds."""
+    def account(self, fund, dept, number, year, kinds=None):
+        """The line that controls an account in a fiscal year, whose object is of one of these kinds."""
         if not self.row("fund", fund):
             raise unknown("fund", fund)
         if not self.row("department", dept):
@@ -100,7 +106,7 @@ class Books:
         wanted = self.row("object", number)
         if not wanted or kinds and wanted["kind"] not in kinds:
             raise unknown("object", number)
-        line = self.line_of(fund, dept, number)
+        line = self.line_of(fund, dept, number, year)
         if line is None:
             raise unknown("line", number)
         return line
@@ -150,12 +156,12 @@ class Books:
                 requisition["state"] = "lapsed"
         for item in [item for order in self.orders for item in order["items"] if item["year"] == year]:
             if self.item_state(item) == "live":
-                left = self.open_of(item)
-                if left == 0 or self.row("fund", item["account"][0])["policy"] == "lapse":
+                left, line = self.open_of(item), self.line_of(*item["account"], year + 1)
+                if left == 0 or line is None or self.row("fund", item["account"][0])["policy"] == "lapse":
                     item["state"] = "lapsed"
                 else:
-                    item.update(year=year + 1, base=left, changes=0, uses=[])
-                    self.appropriate(item["line"], year + 1, left)
+                    item.update(year=year + 1, line=line, base=left, changes=0, uses=[])
+                    self.appropriate(line, year + 1, left)
 
     def appropriate(self, line, year, amount):
         self.appropriated[line, year] = self.appropriated.get((line, year), 0) + amount
@@ -228,22 +234,23 @@ class Books:
     def reconciliation(self, year):
         """The items that join fund balances and net position, from the registers."""
         closed = self.closed_to(year)
-        capital = sum(
-            asset["cost"] - self.depreciation(asset, closed) for asset in self.assets
-            if asset["year"] <= year and asset["state"] != "void" and not asset.get("gone", 9999) <= year
-        )
+        net = {False: 0, True: 0}  # of assets that the city owns, and of leased ones
+        for asset in self.assets:
+            if asset["year"] <= year and asset["state"] != "void" and not asset.get("gone", 9999) <= year:
+                net[asset["leased"]] += asset["cost"] - self.depreciation(asset, closed)
         unavailable = sum(
             bill["amount"] - sum(a for y, a in bill["settled"] if y <= year) for bill in self.bills if bill["levy_year"] <= year
         )
-        bonds = sum(bond["amount"] for bond in self.bonds if bond["year"] <= year)
+        owed = {250000: 0, 251000: 0}  # on bonds, and on leases
         accrued = sum(self.earned(bond, closed) for bond in self.bonds)
         for bond in self.bonds:
+            owed[bond["payable"]] += bond["amount"] if bond["year"] <= year else 0
             for k in self.paid(bond):
                 if self.year_at(self.due(bond, k)[0]) <= year:
-                    bonds -= bond["principals"][k - 1]
+                    owed[bond["payable"]] -= bond["principals"][k - 1]
                     accrued -= self.coupon(bond, k)
         return dict(
-            fund_balances=self.total("fund", year), capital_assets=capital, unavailable=unavailable, bonds=-bonds,
-            accrued_interest=-accrued, leave=-sum(a for y, _, _, a in self.leave if y <= year),
-            net_position=self.total("gov", year),
+            fund_balances=self.total("fund", year), capital_assets=net[False], right_to_use=net[True], unavailable=unavailable,
+            bonds=-owed[250000], leases=-owed[251000], accrued_interest=-accrued,
+            leave=-sum(a for y, _, _, a in self.leave if y <= year), net_position=self.total("gov", year),
         )

@@ -54,10 +54,11 @@ class Statements(Rules):
         spent += [("Capital outlay", posted(510000)), ("Debt principal", posted(520000)), ("Debt interest", posted(530000))]
         earned, cost = sum(amount for _, amount in revenues), sum(amount for _, amount in spent)
         given, lent, sold, taken = -posted(600001), -posted(600002), -posted(600003), posted(610001)
+        leased = -posted(600004)
         return [
             (fund["name"],), *revenues, ("Total revenues", earned), *spent, ("Total expenditures", cost),
-            ("Transfers in", given), ("Transfers out", taken), ("Debt proceeds", lent), ("Sale of capital assets", sold),
-            ("Net change in fund balance", earned - cost + given - taken + lent + sold),
+            ("Transfers in", given), ("Transfers out", taken), ("Debt proceeds", lent), ("Leases issued", leased),
+            ("Sale of capital assets", sold), ("Net change in fund balance", earned - cost + given - taken + lent + leased + sold),
         ]
 
     def rows_of_budget(self, year):
@@ -69,7 +70,7 @@ class Statements(Rules):
                 actual = -self.of_year("fund", year, fund["id"], 400000 + source["id"])
                 rows.append((source["name"], estimate, estimate, actual, 0, estimate - actual))
             for number, line in enumerate(self.chart["line"]):
-                if line["fund"] == fund["id"]:
+                if line["fund"] == fund["id"] and self.is_line_of_year(number, year):
                     its = self.numbers(number, year)
                     shown = (its[name] for name in ("original", "appropriated", "expended", "encumbered", "room"))
                     rows.append(("Line %d" % number, *shown))
@@ -82,9 +83,11 @@ class Statements(Rules):
             return self.balance("gov", year, 0, account)
         return [
             ("Cash", through(100000)), ("Receivables", through(110000)), ("Capital assets", through(150000)),
-            ("Accumulated depreciation", through(159000)), ("Vouchers payable", -through(200000)),
-            ("Debt due", -through(210000)), ("Bonds payable", -through(250000)), ("Accrued interest", -through(260000)),
-            ("Compensated absences", -through(270000)), ("Net position", self.total("gov", year)),
+            ("Accumulated depreciation", through(159000)), ("Right-to-use assets", through(151000)),
+            ("Accumulated amortization", through(159100)), ("Vouchers payable", -through(200000)),
+            ("Debt due", -through(210000)), ("Bonds payable", -through(250000)), ("Leases payable", -through(251000)),
+            ("Accrued interest", -through(260000)), ("Compensated absences", -through(270000)),
+            ("Net position", self.total("gov", year)),
         ]
 
     def activity(self, year, function):
@@ -113,7 +116,8 @@ class Statements(Rules):
         items = self.reconciliation(year)
         return [
             ("Total fund balances", items["fund_balances"]), ("Capital assets, net", items["capital_assets"]),
-            ("Unavailable revenue", items["unavailable"]), ("Bonds payable", items["bonds"]),
+            ("Right-to-use assets, net", items["right_to_use"]), ("Unavailable revenue", items["unavailable"]),
+            ("Bonds payable", items["bonds"]), ("Leases payable", items["leases"]),
             ("Accrued interest", items["accrued_interest"]), ("Compensated absences", items["leave"]),
             ("Net position", items["net_position"]),
         ]
@@ -121,14 +125,19 @@ class Statements(Rules):
     def rows_of_changes(self, year):
         kept = [asset for asset in self.assets if asset["state"] != "void"]
         bought = sum(asset["cost"] for asset in kept if asset["year"] == year and asset["voucher"])
-        given = sum(asset["cost"] for asset in kept if asset["year"] == year and not asset["voucher"])
-        worn = sum(
-            self.depreciation(asset, self.closed_to(year)) - self.depreciation(asset, self.closed_to(year - 1)) for asset in kept
-        )
+        came = [asset for asset in kept if asset["year"] == year and not asset["voucher"]]
+        given = sum(asset["cost"] for asset in came if not asset["leased"])
+        leased = sum(asset["cost"] for asset in came if asset["leased"])
+        worn = {False: 0, True: 0}  # of assets that the city owns, and of leased ones
+        for asset in kept:
+            worn[asset["leased"]] += self.depreciation(asset, self.closed_to(year)) - self.depreciation(asset, self.closed_to(year - 1))
         sold = sum(asset["cost"] - self.depreciation(asset, self.closed) for asset in kept if asset.get("gone") == year)
         billed = sum(bill["amount"] for bill in self.bills if bill["levy_year"] == year)
         settled = sum(amount for bill in self.bills for at, amount in bill["settled"] if at == year)
-        issued = sum(bond["amount"] for bond in self.bonds if bond["year"] == year)
+        issued = {
+            account: sum(bond["amount"] for bond in self.bonds if (bond["year"], bond["payable"]) == (year, account))
+            for account in (250000, 251000)
+        }
         paid = sum(
             bond["principals"][k - 1] for bond in self.bonds for k in self.paid(bond)
             if self.year_at(self.due(bond, k)[0]) == year
@@ -136,9 +145,10 @@ class Statements(Rules):
         now, before = self.reconciliation(year), self.reconciliation(year - 1)
         return [
             ("Net change in fund balances", now["fund_balances"] - before["fund_balances"]),
-            ("Capital outlay", bought), ("Donated capital assets", given), ("Depreciation", -worn),
-            ("Book value of disposals", -sold), ("Change in unavailable revenue", billed - settled),
-            ("Debt proceeds", -issued), ("Principal paid", paid),
+            ("Capital outlay", bought), ("Donated capital assets", given), ("Right-to-use assets", leased),
+            ("Depreciation", -worn[False]), ("Amortization", -worn[True]), ("Book value of disposals", -sold),
+            ("Change in unavailable revenue", billed - settled), ("Debt proceeds", -issued[250000]),
+            ("Leases issued", -issued[251000]), ("Principal paid", paid),
             ("Change in accrued interest", now["accrued_interest"] - before["accrued_interest"]),
             ("Change in compensated absences", -sum(amount for at, _, _, amount in self.leave if at == year)),
             ("Change in net position", now["net_position"] - before["net_position"]),

@@ -12,13 +12,17 @@ from statements import GRANTS, TITLES
 
 WEIGHTS = dict(
     adopt=4, amend=2, transfer=2, requisition=5, withdraw=2, order=6, change_order=4, cancel_order=1, voucher=14, void_voucher=4,
-    pay=5, bill=3, collect=3, receive=5, write_off=1, asset=6, issue=2, pay_due=6, leave=5, interfund=3, close=3,
+    pay=5, bill=3, collect=3, receive=5, write_off=1, asset=6, issue=2, pay_due=6, leave=5, interfund=3, close=3, lease=2,
 )
-# How fast a talk closes months: those without bonds get through several fiscal years.
-PACES = ({}, dict(close=4, issue=0, adopt=6), dict(close=7, issue=0, adopt=9, order=9), dict(close=8, issue=1, pay_due=14, adopt=6))
+# How fast a talk closes months: those without debt get through several fiscal years.
+PACES = (
+    {}, dict(close=4, issue=0, lease=0, adopt=6), dict(close=7, issue=0, lease=0, adopt=9, order=9),
+    dict(close=8, issue=1, pay_due=14, adopt=6), dict(close=8, issue=0, lease=1, pay_due=14, adopt=9),
+)
 DOCUMENTS = ("requisition", "order", "voucher", "bill", "asset", "bond")
 LOOKS = DOCUMENTS + ("line", "leave", "account", "reconcile", "report")
 SPENT = (510, 520, 710, 715, 720)
+CAPITAL = (710, 715, 720)
 
 
 def random_chart(rng):
@@ -46,21 +50,27 @@ def random_chart(rng):
     ]
     desks = [dict(id=k, name="Desk %d" % k, roles=sorted(set(ROLES.values()))) for k in (1, 2)]
     desks.append(dict(id=3, name="Desk 3", roles=rng.sample(desks[0]["roles"], 3)))
-    lines = [line for fund in funds for dept in departments for line in random_lines(rng, fund, dept["id"], objects)]
+    lines = [line for fund in funds for dept in departments for line in random_lines(rng, fund["id"], fund["level"], dept["id"], objects)]
+    first_year = rng.choice([2026, 2026, 2030, 1972, 2150])
+    for fund in funds:
+        if rng.random() < 0.7:
+            fund.update(later_level=rng.choice(["department", "class", "object"]), later_year=first_year + rng.choice([1, 1, 1, 2, 3]))
+            for dept in departments:
+                lines += [dict(line, later=True) for line in random_lines(rng, fund["id"], fund["later_level"], dept["id"], objects)]
     rng.shuffle(lines)
     return dict(
-        city="Town", first_year=rng.choice([2026, 2026, 2030, 1972, 2150]), first_month=rng.choice([1, 7, 10, 2, 12]),
+        city="Town", first_year=first_year, first_month=rng.choice([1, 7, 10, 2, 12]),
         function=functions, fund=funds, department=departments, object=objects, source=random_sources(rng, funds, functions),
         line=lines or [dict(fund=1, dept=10)], desk=desks,
     )
 
 
-def random_lines(rng, fund, dept, objects):
-    if fund["level"] == "department":
-        return [dict(fund=fund["id"], dept=dept)]
-    if fund["level"] == "class":
-        return [{"fund": fund["id"], "dept": dept, "class": number} for number in (5, 7, 8) if rng.random() < 0.85]
-    return [dict(fund=fund["id"], dept=dept, object=row["id"]) for row in objects if rng.random() < 0.8]
+def random_lines(rng, fund, level, dept, objects):
+    if level == "department":
+        return [dict(fund=fund, dept=dept)]
+    if level == "class":
+        return [{"fund": fund, "dept": dept, "class": number} for number in (5, 7, 8) if rng.random() < 0.85]
+    return [dict(fund=fund, dept=dept, object=row["id"]) for row in objects if rng.random() < 0.8]
 
 
 def random_sources(rng, funds, functions):
@@ -125,7 +135,7 @@ class Talk:
             account = dict(fund=self.pick("fund"), dept=self.pick("department"))
             account["object"] = self.rng.choice(objects) if self.chance(0.97) else self.pick("object")
             try:
-                self.office.account(account["fund"], account["dept"], account["object"])
+                self.office.account(account["fund"], account["dept"], account["object"], self.office.year_of(self.today))
                 break
             except Refused:
                 pass
@@ -149,22 +159,29 @@ class Talk:
     # ---- what each call says, or None where there is nothing to say yet
 
     def adopt(self):
-        fund = self.pick("fund")
-        lines = [k for k, row in enumerate(self.chart["line"]) if row["fund"] == fund]
+        fund, year = self.pick("fund"), self.year()
+        lines = self.lines_of(fund, year)
         named = self.rng.sample(lines, self.rng.randint(0, len(lines))) if self.chance(0.4) else lines
         most = max(10**6, self.most)
         estimates = [dict(source=row["id"], amount=self.amount()) for row in self.chart["source"] if row["fund"] == fund]
         lines = [dict(line=line, amount=self.rng.randint(most // 4, most)) for line in named]
-        return dict(fund=fund, year=self.year(), lines=lines, estimates=estimates)
+        return dict(fund=fund, year=year, lines=lines, estimates=estimates)
+
+    def lines_of(self, fund, year):
+        """The lines of a fund and year; now and then those of other years too."""
+        near = self.chance(0.03)
+        rows = enumerate(self.chart["line"])
+        return [k for k, row in rows if row["fund"] == fund and (near or self.office.is_line_of_year(k, year))]
 
     def amend(self):
-        line = self.rng.randrange(len(self.chart["line"]))
+        line, year = self.rng.randrange(len(self.chart["line"])), self.year()
         fund = self.chart["line"][line]["fund"] if self.chance(0.95) else self.pick("fund")
-        return dict(fund=fund, year=self.year(), line=line, by=self.rng.choice([1, 1, 1, -1]) * self.amount())
+        line = self.rng.choice(self.lines_of(fund, year) or [line])
+        return dict(fund=fund, year=year, line=line, by=self.rng.choice([1, 1, 1, -1]) * self.amount())
 
     def transfer(self):
         said = self.amend()
-        others = [k for k, row in enumerate(self.chart["line"]) if row["fund"] == said["fund"] and k != said["line"]]
+        others = [k for k in self.lines_of(said["fund"], said["year"]) if k != said["line"]]
         if others:
             to = self.rng.choice(others)
             return dict(fund=said["fund"], year=said["year"], to=to, amount=abs(said["by"]), **{"from": said["line"]})
@@ -234,22 +251,37 @@ class Talk:
 
     def asset(self):
         if self.chance(0.5):
-            kind = self.rng.choice([710, 715, 720, 720, 510])
+            kind = self.rng.choice([*CAPITAL, 720, 510])
             return dict(what="donate", dept=self.pick("department"), object=kind, amount=self.amount())
         proceeds = self.rng.choice([0, self.amount(), self.amount(1000)])
         return dict(what="dispose", asset=self.number("asset"), fund=self.pick("fund"), proceeds=proceeds)
 
     def issue(self):
+        terms = self.terms(self.rng.choice([1, 1, 2, 3, 4, 6, 12]), self.rng.choice([1, 2, 5, 120, self.rng.randint(1, 20)]))
+        return terms and dict(terms, fund=self.pick("fund"))
+
+    def lease(self):
+        every = self.rng.choice([1, 2, 3, 4, 6, 12, 12])
+        shortest = 12 // every + 1
+        count = shortest + self.rng.choice([-1, 0, 0, 1, 2, 11]) if self.chance(0.8) else self.rng.randint(1, 120)
+        terms = self.terms(every, count)
+        return terms and dict(terms, vendor=self.rng.randint(0, 99), **self.account(CAPITAL if self.chance(0.97) else SPENT))
+
+    def terms(self, every, count):
+        """The day, the amount, the rate and the payments of a debt; now and then with one fault against the rules of form."""
         day = self.day()
         day = day.replace(day=self.rng.choice([1, 28, min(day.day, 28)]))
-        every, count = self.rng.choice([1, 1, 2, 3, 4, 6, 12]), self.rng.choice([1, 2, 5, 120, self.rng.randint(1, 20)])
         count = min(count, (12 * 2199 + 12 - 12 * day.year - day.month) // every)
-        if count:
-            amount = self.rng.randint(1, self.most) if self.chance(0.6) else self.rng.choice([count, 1, 100000])
-            cuts = [0] + sorted(self.rng.randint(0, amount) for _ in range(count - 1)) + [amount]
-            rate = self.rng.choice([0, 1, 300, 475, 10000, self.rng.randint(0, 10000)])
-            principals = [b - a for a, b in zip(cuts, cuts[1:])]
-            return dict(on=str(day), fund=self.pick("fund"), amount=amount, rate_bp=rate, every=every, principals=principals)
+        if count < 1:
+            return None
+        amount = self.rng.randint(1, self.most) if self.chance(0.6) else self.rng.choice([count, 1, 100000])
+        cuts = [0] + sorted(self.rng.randint(0, amount) for _ in range(count - 1)) + [amount]
+        rate = self.rng.choice([0, 1, 300, 475, 10000, self.rng.randint(0, 10000)])
+        said = dict(on=str(day), amount=amount, rate_bp=rate, every=every, principals=[b - a for a, b in zip(cuts, cuts[1:])])
+        if self.chance(0.05):
+            wrong = dict(on=str(day.replace(day=29, month=1)), rate_bp=10001, every=5, amount=amount + 1, principals=[])
+            said.update([self.rng.choice(list(wrong.items()))])
+        return said
 
     def pay_due(self):
         account, number = self.account((810,)), self.number("bond")
@@ -301,7 +333,7 @@ class Talk:
 
     def again(self):
         call = dict(self.rng.choice(self.said))
-        if self.chance(0.4) and "amount" in call and call["call"] != "issue":
+        if self.chance(0.4) and "amount" in call:
             call["amount"] += 1
         return call
 

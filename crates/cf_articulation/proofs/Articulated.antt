@@ -10,7 +10,7 @@ use Rattle.cf_chart.specs.Plan.{Plan}
 use Rattle.cf_chart.specs.Reading.{chart_of}
 use Rattle.cf_ledger.specs.Posts.{is_in_total}
 use Rattle.cf_model.specs.Changes.{ChangesAddUp, changes_of}
-use Rattle.cf_model.specs.Items.{Reconciles, absences, accrued, bonds, capital, deferred, fund_balances, net_position}
+use Rattle.cf_model.specs.Items.{Reconciles, absences, accrued, bonds, capital, deferred, fund_balances, leases, net_position, right_to_use}
 use Rattle.cf_model.specs.Postings.{balance_of, posts_in}
 use Rattle.cf_model.specs.Registers.{registers_of}
 use Rattle.cf_model.specs.Report.{fund_balance, report_rows, sums_of}
@@ -96,34 +96,35 @@ city_sheet : (plan : Plan) (h : List Entry) (year : ℕ) → HasOwnAccounts plan
     rows_sum (city_assets plan h year) ≡ rows_sum (city_liabilities plan h year) +ℤ net_position plan year h
 city_sheet plan h year own legal =
     let of : ℕ → ℤ = λ a. balance_of GovBasis plan year 0 a h in
-    adds (of 100000) (of 110000) (of 150000) (of 159000) (of 200000) (of 210000) (of 250000) (of 260000) (of 270000) (net_position plan year h)
+    adds (of 100000) (of 110000) (of 150000) (of 159000) (of 151000) (of 159100) (of 200000) (of 210000) (of 250000) (of 251000) (of 260000) (of 270000) (net_position plan year h)
     (balances_sum position_accounts is_in_total year 0 (posts_in GovBasis plan h)
     (all_so (IsGovPost plan) (IsCounted position_accounts is_in_total 0) (λ p is same. is.balance) (posts_in GovBasis plan h) (gov_posts plan h own legal))
     ∙ of_no_fund is_in_total year (posts_in GovBasis plan h) (no_fund_posts plan h own legal))
   where
-    adds : (a b c d e f g i j t : ℤ) → a +ℤ (b +ℤ (c +ℤ (d +ℤ (e +ℤ (f +ℤ (g +ℤ (i +ℤ (j +ℤ pos 0)))))))) ≡ t →
-        a +ℤ (b +ℤ (c +ℤ (d +ℤ pos 0))) ≡ (neg_ℤ e +ℤ (neg_ℤ f +ℤ (neg_ℤ g +ℤ (neg_ℤ i +ℤ (neg_ℤ j +ℤ pos 0))))) +ℤ t
-    adds a b c d e f g i j t is = omega (arith, ints, is)
+    adds : (a b c d u v e f g k i j t : ℤ) → a +ℤ (b +ℤ (c +ℤ (d +ℤ (u +ℤ (v +ℤ (e +ℤ (f +ℤ (g +ℤ (k +ℤ (i +ℤ (j +ℤ pos 0))))))))))) ≡ t →
+        a +ℤ (b +ℤ (c +ℤ (d +ℤ (u +ℤ (v +ℤ pos 0))))) ≡ (neg_ℤ e +ℤ (neg_ℤ f +ℤ (neg_ℤ g +ℤ (neg_ℤ k +ℤ (neg_ℤ i +ℤ (neg_ℤ j +ℤ pos 0)))))) +ℤ t
+    adds a b c d u v e f g k i j t is = omega (arith, ints, is)
 
 -- ---- the two reconciliations
 
 reconcile_rows : (plan : Plan) (h : List Entry) (year : ℕ) → Reconciles plan h → AddUp (report_rows plan h year kind.Reconcile)
 reconcile_rows plan h year is =
     let s = registers_of plan h in
-    adds (fund_balances plan year h) (capital plan year s) (deferred year s) (bonds plan year s) (accrued plan year s) (absences year s) (net_position plan year h) (is year)
+    adds (fund_balances plan year h) (capital plan year s) (right_to_use plan year s) (deferred year s) (bonds plan year s) (leases plan year s) (accrued plan year s) (absences year s) (net_position plan year h) (is year)
   where
-    adds : (f c d b a l n : ℤ) → n ≡ f +ℤ (((c +ℤ d) -ℤ (b +ℤ a)) -ℤ l) → f +ℤ (c +ℤ (d +ℤ ((pos 0 -ℤ b) +ℤ ((pos 0 -ℤ a) +ℤ ((pos 0 -ℤ l) +ℤ pos 0))))) ≡ n
-    adds f c d b a l n is = omega (arith, ints, is)
+    adds : (f c u d b k a l n : ℤ) → n ≡ f +ℤ ((((c +ℤ u) +ℤ d) -ℤ ((b +ℤ k) +ℤ a)) -ℤ l) →
+        f +ℤ (c +ℤ (u +ℤ (d +ℤ ((pos 0 -ℤ b) +ℤ ((pos 0 -ℤ k) +ℤ ((pos 0 -ℤ a) +ℤ ((pos 0 -ℤ l) +ℤ pos 0))))))) ≡ n
+    adds f c u d b k a l n is = omega (arith, ints, is)
 
 change_rows : (plan : Plan) (h : List Entry) (year : ℕ) → 1 ≤ year → ChangesAddUp plan h → AddUp (report_rows plan h year kind.Changes)
 change_rows plan h year from is =
     let c = changes_of plan year (registers_of plan h) in
-    adds (fund_balances plan year h -ℤ fund_balances plan (year - 1) h) c.outlay c.donated c.depreciation c.disposals c.deferred c.proceeds c.principal c.accrued c.absences
+    adds (fund_balances plan year h -ℤ fund_balances plan (year - 1) h) c.outlay c.donated c.right_to_use c.depreciation c.amortization c.disposals c.deferred c.proceeds c.leases_issued c.principal c.accrued c.absences
     (net_position plan year h -ℤ net_position plan (year - 1) h) (is year from)
   where
-    adds : (f o d w b u p q a l n : ℤ) → n ≡ f +ℤ ((((((((o +ℤ d) +ℤ w) +ℤ b) +ℤ u) +ℤ p) +ℤ q) +ℤ a) +ℤ l) →
-        f +ℤ (o +ℤ (d +ℤ (w +ℤ (b +ℤ (u +ℤ (p +ℤ (q +ℤ (a +ℤ (l +ℤ pos 0))))))))) ≡ n
-    adds f o d w b u p q a l n is = omega (arith, ints, is)
+    adds : (f o d r w m b u p k q a l n : ℤ) → n ≡ f +ℤ (((((((((((o +ℤ d) +ℤ r) +ℤ w) +ℤ m) +ℤ b) +ℤ u) +ℤ p) +ℤ k) +ℤ q) +ℤ a) +ℤ l) →
+        f +ℤ (o +ℤ (d +ℤ (r +ℤ (w +ℤ (m +ℤ (b +ℤ (u +ℤ (p +ℤ (k +ℤ (q +ℤ (a +ℤ (l +ℤ pos 0)))))))))))) ≡ n
+    adds f o d r w m b u p k q a l n is = omega (arith, ints, is)
 
 -- ---- the theorem
 

@@ -24,7 +24,7 @@ use Rattle.cf_post.specs.declared.deed.Deed.{Deed}
 use Rattle.cf_post.specs.declared.deed.Deed.TheVariants as deed
 use Rattle.cf_post.specs.declared.deed.Spent.{Spent}
 use Rattle.cf_post.specs.declared.deed.Spent.TheVariants as spent
-use Rattle.cf_post.specs.Accounts.{asset_sales, capital_outlay, cash, debt_due, due_from_funds, due_to_funds, interest, payables, principal, proceeds, receivables, revenue_of, transfers_in, transfers_out, unavailable}
+use Rattle.cf_post.specs.Accounts.{asset_sales, capital_outlay, cash, debt_due, due_from_funds, due_to_funds, interest, leases_issued, payables, principal, proceeds, receivables, revenue_of, transfers_in, transfers_out, unavailable}
 use Rattle.cf_post.specs.Rows.{debit, double, post}
 use Rattle.cf_post.specs.Table.{expenditure, fund_rows}
 use Rattle.cf_articulation.specs.OwnAccounts.{HasOwnAccounts, is_of_fund}
@@ -41,7 +41,7 @@ source_accounts plan fund = map (λ s. 400000 + s.id) (filter (λ s. s.fund == f
 
 -- outlay and debt service, and other financing sources and uses
 abbrev pub other_accounts : List ℕ
-other_accounts = 510000 ∷ 520000 ∷ 530000 ∷ 600001 ∷ 610001 ∷ 600002 ∷ 600003 ∷ []
+other_accounts = 510000 ∷ 520000 ∷ 530000 ∷ 600001 ∷ 610001 ∷ 600002 ∷ 600003 ∷ 600004 ∷ []
 
 abbrev pub operating_accounts : Plan → ℕ → List ℕ
 operating_accounts plan fund = source_accounts plan fund ++ (function_accounts plan ++ other_accounts)
@@ -165,6 +165,9 @@ deed_posts plan own (deed.Repay t) is =
     (two plan _ t.to _ _ _ _ (one_fund plan own t.to is.1) (balance_row plan own t.to cash refl) (balance_row plan own t.to due_from_funds refl))
 deed_posts plan own (deed.Depreciate a) is = tt
 deed_posts plan own (deed.AccrueInterest a) is = tt
+deed_posts plan own (deed.Lease a) is =
+    two plan _ a.fund _ _ _ _ (one_fund plan own a.fund is) (other_row plan own a.fund capital_outlay refl refl) (other_row plan own a.fund leases_issued refl refl)
+deed_posts plan own (deed.Amortize a) is = tt
 
 -- ---- legal histories
 

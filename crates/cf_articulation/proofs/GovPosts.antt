@@ -1,5 +1,5 @@
 -- What a legal history posts in the government as a whole is of no fund, on the accounts of net position's rows and on those of the activities'.
-use Rattle.std.proofs.Common.{◌≡◌, ◌⊎◌, inl, inr, ℕ, ◌+◌, ◌<◌, ◌≤◌, true, not, if◌then◌else◌, ◌==◌, nat_lt, List, [], ◌∷◌, ◌++◌, map, ℤ, refl, sym, ap, subst, ◌∙◌, arith}
+use Rattle.std.proofs.Common.{◌≡◌, ◌⊎◌, inl, inr, ℕ, ◌+◌, ◌<◌, ◌≤◌, Bool, true, false, not, if◌then◌else◌, ◌==◌, nat_lt, List, [], ◌∷◌, ◌++◌, map, ℤ, refl, sym, ap, subst, ◌∙◌, arith}
 use Rattle.std.specs.List.{AllByRecursion}
 use Rattle.cf_calls.specs.declared.entry.Entry.{Entry}
 use Rattle.cf_calls.specs.declared.read.Basis.TheVariants.{Gov as GovBasis}
@@ -21,9 +21,9 @@ use Rattle.cf_post.specs.declared.deed.Deed.{Deed}
 use Rattle.cf_post.specs.declared.deed.Deed.TheVariants as deed
 use Rattle.cf_post.specs.declared.deed.Spent.{Spent}
 use Rattle.cf_post.specs.declared.deed.Spent.TheVariants as spent
-use Rattle.cf_post.specs.Accounts.{accrued_interest, bonds, capital_assets, cash, debt_due, depreciation, gain, interest, leave, payables, receivables}
+use Rattle.cf_post.specs.Accounts.{accrued_interest, bonds, capital_assets, amortization, cash, debt_due, depreciation, gain, interest, leases, leave, payables, receivables, right_to_use}
 use Rattle.cf_post.specs.Rows.{credit, debit, post}
-use Rattle.cf_post.specs.Table.{expense, gov_rows}
+use Rattle.cf_post.specs.Table.{debt_of, expense, gov_rows}
 use Rattle.cf_articulation.specs.OwnAccounts.{HasOwnAccounts}
 use Rattle.cf_articulation.proofs.Closing.{is_change}
 use Rattle.cf_articulation.proofs.Counts.{less_is, none_passes, other_numbers, passing_append}
@@ -47,7 +47,7 @@ abbrev pub activity_accounts : Plan → List ℕ
 activity_accounts plan = revenue_accounts plan ++ (function_accounts plan ++ (donation_accounts plan ++ city_accounts))
 
 abbrev pub position_accounts : List ℕ
-position_accounts = 100000 ∷ 110000 ∷ 150000 ∷ 159000 ∷ 200000 ∷ 210000 ∷ 250000 ∷ 260000 ∷ 270000 ∷ []
+position_accounts = 100000 ∷ 110000 ∷ 150000 ∷ 159000 ∷ 151000 ∷ 159100 ∷ 200000 ∷ 210000 ∷ 250000 ∷ 251000 ∷ 260000 ∷ 270000 ∷ []
 
 -- an account from 300000 on has one row of the activities, and one below has one of net position
 record HasRow (plan : Plan) (n : ℕ) : Type 0 where
@@ -132,6 +132,10 @@ spent_row : (plan : Plan) → HasOwnAccounts plan → (s : Spent) → IsSpent pl
 spent_row plan own (spent.Current f) is = current_row plan own f is
 spent_row plan own spent.Capital is = balance_row plan own capital_assets refl refl
 
+debt_row : (plan : Plan) → HasOwnAccounts plan → (is_lease : Bool) → HasRow plan (debt_of is_lease)
+debt_row plan own true = balance_row plan own leases refl refl
+debt_row plan own false = balance_row plan own bonds refl refl
+
 deed_posts : (plan : Plan) → HasOwnAccounts plan → (d : Deed) → IsNamed plan d → AllByRecursion (IsGovPost plan) (gov_rows d)
 deed_posts plan own (deed.Voucher i) is = two plan _ _ _ _ _ (spent_row plan own i.spent is.1) (balance_row plan own payables refl refl)
 deed_posts plan own (deed.VoidVoucher i) is = two plan _ _ _ _ _ (spent_row plan own i.spent is.1) (balance_row plan own payables refl refl)
@@ -148,7 +152,7 @@ deed_posts plan own (deed.Dispose d) is =
     (received, (worn, (gone, two plan _ _ _ _ _ (city_row plan own gain (inl (omega arith)) (omega arith) refl) (current_row plan own d.function is.1))))
 deed_posts plan own (deed.Issue a) is = two plan _ _ _ _ _ (balance_row plan own cash refl refl) (balance_row plan own bonds refl refl)
 deed_posts plan own (deed.PayDue p) is =
-    let on_principal : IsGovPost plan (debit p.due_year 0 bonds p.principal) = one plan _ _ _ (balance_row plan own bonds refl refl) in
+    let on_principal : IsGovPost plan (debit p.due_year 0 (debt_of p.is_lease) p.principal) = one plan _ _ _ (debt_row plan own p.is_lease) in
     let on_interest : IsGovPost plan (debit p.due_year 0 accrued_interest p.interest) = one plan _ _ _ (balance_row plan own accrued_interest refl refl) in
     let due : HasRow plan debt_due = balance_row plan own debt_due refl refl in
     (on_principal, (on_interest, (one plan _ _ _ due, two plan _ _ _ _ _ due (balance_row plan own cash refl refl))))
@@ -159,6 +163,8 @@ deed_posts plan own (deed.Transfer t) is = tt
 deed_posts plan own (deed.Loan t) is = tt
 deed_posts plan own (deed.Repay t) is = tt
 deed_posts plan own (deed.Depreciate a) is = two plan _ _ _ _ _ (current_row plan own a.function is) (balance_row plan own depreciation refl refl)
+deed_posts plan own (deed.Lease a) is = two plan _ _ _ _ _ (balance_row plan own right_to_use refl refl) (balance_row plan own leases refl refl)
+deed_posts plan own (deed.Amortize a) is = two plan _ _ _ _ _ (current_row plan own a.function is) (balance_row plan own amortization refl refl)
 deed_posts plan own (deed.AccrueInterest a) is = two plan _ _ _ _ _ (city_row plan own interest (inr (omega arith)) (omega arith) refl) (balance_row plan own accrued_interest refl refl)
 
 -- ---- legal histories

@@ -18,7 +18,7 @@ use Rattle.cf_chart.specs.declared.rows.Function.{Function}
 use Rattle.cf_chart.specs.declared.rows.Object.{Object}
 use Rattle.cf_chart.specs.Levels.{has_function}
 use Rattle.cf_chart.specs.Plan.{Plan, department_at, fund_at, object_at, source_at}
-use Rattle.cf_model.specs.Assets.{Asset, asset_step, assets_by, bought, disposed, new_asset, void}
+use Rattle.cf_model.specs.Assets.{Asset, asset_step, assets_by, bought, disposed, life_of, new_asset, purchase, void, voucher_of}
 use Rattle.cf_model.specs.Calendar.{document_year, year_of_day}
 use Rattle.cf_model.specs.Charted.{function_if, function_of, is_capital}
 use Rattle.cf_model.specs.Documents.{Documents, Expenditure, documents_of, expenditure_of, expenditure_step, is_number}
@@ -63,22 +63,22 @@ turned false e = cc
 pub known_if : (b : Bool) (r : Refusal) → refuse_if (not b) r ≡ None → b ≡ true
 known_if b r none = turned b (refuse_none (not b) r none)
 
-pub known_account : (plan : Plan) (is_fit : Option Object → Bool) (fund dept object : ℕ) → unknown_account plan is_fit fund dept object ≡ None → IsFund plan fund × IsDept plan dept
-known_account plan is_fit fund dept object none =
+pub known_account : (plan : Plan) (is_fit : Option Object → Bool) (year fund dept object : ℕ) → unknown_account plan is_fit year fund dept object ≡ None → IsFund plan fund × IsDept plan dept
+known_account plan is_fit year fund dept object none =
     let first = or_else_none (unknown_if (not (is_some (fund_at plan fund))) kind.Fund fund) _ none in
     let second = or_else_none (unknown_if (not (is_some (department_at plan dept))) kind.Dept dept) _ first.1 in
     (known_if (is_some (fund_at plan fund)) (refusal.UnknownName kind.Fund fund) first.0, known_if (is_some (department_at plan dept)) (refusal.UnknownName kind.Dept dept) second.0)
 
-item_account : (plan : Plan) (s : Documents) (a : AccountItem) → unknown plan s (account_name a) ≡ None → IsAccount plan a
-item_account plan s a none = let both = known_account plan is_spending a.fund a.dept a.object none in record { fund = both.0; dept = both.1 }
+item_account : (plan : Plan) (s : Documents) (year : ℕ) (a : AccountItem) → unknown plan s (account_name year a) ≡ None → IsAccount plan a
+item_account plan s year a none = let both = known_account plan is_spending year a.fund a.dept a.object none in record { fund = both.0; dept = both.1 }
 
-pub items_named : (plan : Plan) (s : Documents) (items : List VoucherItem) → first_refusal (unknown plan s) (voucher_names items) ≡ None → AllByRecursion (λ (i : VoucherItem). IsAccount plan i.account) items
-items_named plan s [] none = tt
-items_named plan s (i ∷ items) none =
-    let here = or_else_none (unknown plan s (account_name i.account)) (first_refusal (unknown plan s) (charge_names i.charge ++ voucher_names items)) none in
-    let rest = or_else_none (first_refusal (unknown plan s) (charge_names i.charge)) (first_refusal (unknown plan s) (voucher_names items))
-    (sym (first_refusal-append (unknown plan s) (charge_names i.charge) (voucher_names items)) ∙ here.1) in
-    (item_account plan s i.account here.0, items_named plan s items rest.1)
+pub items_named : (plan : Plan) (s : Documents) (year : ℕ) (items : List VoucherItem) → first_refusal (unknown plan s) (voucher_names year items) ≡ None → AllByRecursion (λ (i : VoucherItem). IsAccount plan i.account) items
+items_named plan s year [] none = tt
+items_named plan s year (i ∷ items) none =
+    let here = or_else_none (unknown plan s (account_name year i.account)) (first_refusal (unknown plan s) (charge_names i.charge ++ voucher_names year items)) none in
+    let rest = or_else_none (first_refusal (unknown plan s) (charge_names i.charge)) (first_refusal (unknown plan s) (voucher_names year items))
+    (sym (first_refusal-append (unknown plan s) (charge_names i.charge) (voucher_names year items)) ∙ here.1) in
+    (item_account plan s year i.account here.0, items_named plan s year items rest.1)
 
 pub source_named : (plan : Plan) (s : Documents) (source : ℕ) → first_refusal (unknown plan s) (any_source_name source ∷ []) ≡ None → IsSource plan source
 source_named plan s source none =
@@ -104,22 +104,22 @@ still plan (act.VoidVoucher n) x known = still_if (x.voucher == n) plan x _ refl
 still plan (act.Pay p) x known = still_if (list_any (λ n. n == x.voucher) p.vouchers) plan x _ refl known
 still plan _ x known = known
 
-new_items : (plan : Plan) (s : Documents) (number desk : ℕ) (on : Day) (year : ℕ) (a : Act) → name_refusal plan s a ≡ None →
-    AllByRecursion (λ (x : Expenditure). IsAccount plan x.account) (map (expenditure_of number desk on year) (voucher_items a))
-new_items plan s number desk on year (act.Voucher v) none =
-    all_map (λ (i : VoucherItem). IsAccount plan i.account) (λ (x : Expenditure). IsAccount plan x.account) (expenditure_of number desk on year) (λ i known. known) v.items (items_named plan s v.items none)
-new_items plan s number desk on year _ none = tt
+new_items : (plan : Plan) (s : Documents) (number desk : ℕ) (on : Day) (a : Act) → name_refusal plan s on a ≡ None →
+    AllByRecursion (λ (x : Expenditure). IsAccount plan x.account) (map (expenditure_of number desk on (document_year plan on a)) (voucher_items a))
+new_items plan s number desk on (act.Voucher v) none =
+    all_map (λ (i : VoucherItem). IsAccount plan i.account) (λ (x : Expenditure). IsAccount plan x.account) (expenditure_of number desk on (document_year plan on (act.Voucher v))) (λ i known. known) v.items (items_named plan s (document_year plan on (act.Voucher v)) v.items none)
+new_items plan s number desk on _ none = tt
 
 -- ---- bills
 
-new_bills : (plan : Plan) (s : Documents) (number : ℕ) (a : Act) → name_refusal plan s a ≡ None → AllByRecursion (λ (b : Bill). IsSource plan b.source) (bills_by number a)
-new_bills plan s number (act.Bill l) none = (source_named plan s l.source none, tt)
-new_bills plan s number _ none = tt
+new_bills : (plan : Plan) (s : Documents) (number : ℕ) (on : Day) (a : Act) → name_refusal plan s on a ≡ None → AllByRecursion (λ (b : Bill). IsSource plan b.source) (bills_by number a)
+new_bills plan s number on (act.Bill l) none = (source_named plan s l.source none, tt)
+new_bills plan s number on _ none = tt
 
 -- ---- assets
 
 same_function : (plan : Plan) (closed : ℕ) (on : Day) (a : Act) (x : Asset) → IsFunction plan x.function → IsFunction plan (asset_step plan closed on a x).function
-same_function plan closed on (act.VoidVoucher n) x known = by_test (is_number x.voucher n)
+same_function plan closed on (act.VoidVoucher n) x known = by_test (is_number (voucher_of x.origin) n)
   where
     by_test : (b : Bool) → IsFunction plan (if b then record x { stage = void } else x).function
     by_test true = known
@@ -140,17 +140,19 @@ bought_functions plan voucher on year number (i ∷ items) own known =
     by_test : (b : Bool) → AllByRecursion (λ (a : Asset). IsFunction plan a.function) (bought plan voucher on year (number + 1) items) →
         AllByRecursion (λ (a : Asset). IsFunction plan a.function) (bought plan voucher on year number items) →
         AllByRecursion (λ (a : Asset). IsFunction plan a.function)
-        (if b then new_asset plan (Some voucher) on year number i.account.dept i.account.object i.account.amount ∷ bought plan voucher on year (number + 1) items else bought plan voucher on year number items)
+        (if b then new_asset plan (purchase voucher) on year number i.account.dept (life_of plan i.account.object) i.account.amount ∷ bought plan voucher on year (number + 1) items else bought plan voucher on year number items)
     by_test true next stay = (dept_function plan i.account.dept own known.0.dept, next)
     by_test false next stay = stay
 
-new_assets : (plan : Plan) (s : Documents) (r : Registers) (on : Day) (drawn : Drawn) (a : Act) → HasOwnAccounts plan → name_refusal plan s a ≡ None → register_name_refusal plan r a ≡ None →
+new_assets : (plan : Plan) (s : Documents) (r : Registers) (on : Day) (drawn : Drawn) (a : Act) → HasOwnAccounts plan → name_refusal plan s on a ≡ None → register_name_refusal plan r on a ≡ None →
     AllByRecursion (λ (x : Asset). IsFunction plan x.function) (assets_by plan on a drawn)
 new_assets plan s r on drawn (act.Voucher v) own names others =
-    bought_functions plan drawn.number on (document_year plan on (act.Voucher v)) drawn.second v.items own (items_named plan s v.items names)
+    bought_functions plan drawn.number on (document_year plan on (act.Voucher v)) drawn.second v.items own (items_named plan s (document_year plan on (act.Voucher v)) v.items names)
 new_assets plan s r on drawn (act.Asset (Donate d)) own names others =
     (dept_function plan d.dept own (known_if (is_some (department_at plan d.dept)) (refusal.UnknownName kind.Dept d.dept) (or_else_none (unknown_dept plan d.dept) _ others).0), tt)
 new_assets plan s r on drawn (act.Asset (Dispose d)) own names others = tt
+new_assets plan s r on drawn (act.Lease l) own names others =
+    (dept_function plan l.account.dept own (known_account plan is_capital (year_of_day plan on) l.account.fund l.account.dept l.account.object others).1, tt)
 new_assets plan s r on drawn _ own names others = tt
 
 -- ---- legal histories
@@ -165,8 +167,8 @@ named_step plan own h e named adds =
       expenditures =
           all_append (λ (x : Expenditure). IsAccount plan x.account) (map (expenditure_step act) s.documents.expenditures) _
           (all_map (λ (x : Expenditure). IsAccount plan x.account) (λ (x : Expenditure). IsAccount plan x.account) (expenditure_step act) (still plan act) s.documents.expenditures named.expenditures)
-          (new_items plan d e.drawn.number e.change.desk e.change.on (document_year plan e.change.on act) act a.names);
-      bills = all_append (λ (b : Bill). IsSource plan b.source) s.receivables.bills (bills_by e.drawn.number act) named.bills (new_bills plan d e.drawn.number act a.names);
+          (new_items plan d e.drawn.number e.change.desk e.change.on act a.names);
+      bills = all_append (λ (b : Bill). IsSource plan b.source) s.receivables.bills (bills_by e.drawn.number act) named.bills (new_bills plan d e.drawn.number e.change.on act a.names);
       assets =
           all_append (λ (x : Asset). IsFunction plan x.function) (map (asset_step plan s.closed e.change.on act) s.assets) (assets_by plan e.change.on act e.drawn)
           (all_map (λ (x : Asset). IsFunction plan x.function) (λ (x : Asset). IsFunction plan x.function) (asset_step plan s.closed e.change.on act) (same_function plan s.closed e.change.on act)

@@ -15,7 +15,7 @@ use Rattle.cf_calls.specs.declared.names.NameKind.TheVariants as kind
 use Rattle.cf_calls.specs.declared.refusal.Refusal.TheVariants as refusal
 use Rattle.cf_chart.specs.declared.rows.Function.{Function}
 use Rattle.cf_chart.specs.Plan.{Plan, department_at, fund_at, object_at}
-use Rattle.cf_model.specs.Assets.{Asset}
+use Rattle.cf_model.specs.Assets.{Asset, leased, owned}
 use Rattle.cf_model.specs.Bonds.{Bond, Due, next_due}
 use Rattle.cf_model.specs.Calendar.{document_year, year_of_day}
 use Rattle.cf_model.specs.Charted.{fund_of, function_of, is_capital, is_current, is_interest, is_principal}
@@ -24,8 +24,9 @@ use Rattle.cf_model.specs.Documents.{Documents, Expenditure}
 use Rattle.cf_model.specs.Months.{year_at}
 use Rattle.cf_model.specs.Moves.{spent_by}
 use Rattle.cf_model.specs.Receivables.{Bill, bill_at}
-use Rattle.cf_model.specs.RegisterRules.{register_name_refusal, unknown_asset, unknown_bond, unknown_dept, unknown_fund, unknown_payment}
+use Rattle.cf_model.specs.RegisterRules.{payment_year, register_name_refusal, unknown_asset, unknown_bond, unknown_dept, unknown_fund, unknown_payment}
 use Rattle.cf_model.specs.Registers.{Registers}
+use Rattle.cf_model.specs.Results.{bond_at}
 use Rattle.cf_model.specs.Rules.{fund_name, name_refusal, unknown, unknown_account}
 use Rattle.cf_model.proofs.First.{or_else_none}
 use Rattle.cf_model.proofs.Funded.{IsFund}
@@ -70,6 +71,8 @@ IsNamed plan (deed.Loan t) = IsFund plan t.from × IsFund plan t.to
 IsNamed plan (deed.Repay t) = IsFund plan t.from × IsFund plan t.to
 IsNamed plan (deed.Depreciate a) = IsFunction plan a.function
 IsNamed plan (deed.AccrueInterest a) = Unit {0}
+IsNamed plan (deed.Lease a) = IsFund plan a.fund
+IsNamed plan (deed.Amortize a) = IsFunction plan a.function
 
 -- ---- vouchers
 
@@ -115,11 +118,11 @@ each_there (f ∷ fs) = (
 
 -- ---- each act
 
-pub deeds_named : (plan : Plan) (s : Registers) (d : Documents) (on : Day) (a : Act) → HasOwnAccounts plan → AreNamed plan s → name_refusal plan d a ≡ None → register_name_refusal plan s a ≡ None →
+pub deeds_named : (plan : Plan) (s : Registers) (d : Documents) (on : Day) (a : Act) → HasOwnAccounts plan → AreNamed plan s → name_refusal plan d on a ≡ None → register_name_refusal plan s on a ≡ None →
     AllByRecursion (IsNamed plan) (deeds_of plan s on a)
 deeds_named plan s d on (act.Voucher v) own named names others =
     all_map (λ (i : VoucherItem). IsAccount plan i.account) (IsNamed plan) (λ i. deed.Voucher (spent_item plan (document_year plan on (act.Voucher v)) i.account)) (λ i k. item_spent plan i.account own k)
-    v.items (items_named plan d v.items names)
+    v.items (items_named plan d (document_year plan on (act.Voucher v)) v.items names)
 deeds_named plan s d on (act.VoidVoucher n) own named names others =
     all_map (λ (x : Expenditure). IsAccount plan x.account) (IsNamed plan) (λ x. deed.VoidVoucher (spent_item plan x.year x.account)) (λ x k. item_spent plan x.account own k)
     (spent_by n s.documents.expenditures) (all_filter (λ (x : Expenditure). IsAccount plan x.account) _ s.documents.expenditures named.expenditures)
@@ -144,22 +147,27 @@ deeds_named plan s d on (act.Asset (Dispose g)) own named names others =
     (all_filter (λ (x : Asset). IsFunction plan x.function) _ s.assets named.assets)
 deeds_named plan s d on (act.Issue i) own named names others = (known_if (is_some (fund_at plan i.fund)) (refusal.UnknownName kind.Fund i.fund) others, tt)
 deeds_named plan s d on (act.PayDue p) own named names others =
-    let accounts = or_else_none (unknown_bond s.bonds p.bond) (unknown_payment plan p) others in
-    let first = or_else_none (unknown_account plan is_principal p.fund p.dept p.principal) (unknown_account plan is_interest p.fund p.dept p.interest) accounts.1 in
-    dues_named plan on p.fund (filter (λ b. b.number == p.bond) s.bonds) (known_account plan is_principal p.fund p.dept p.principal first.0).0
+    let year = payment_year plan (year_of_day plan on) (bond_at p.bond s.bonds) in
+    let accounts = or_else_none (unknown_bond s.bonds p.bond) (unknown_payment plan year p) others in
+    let first = or_else_none (unknown_account plan is_principal year p.fund p.dept p.principal) (unknown_account plan is_interest year p.fund p.dept p.interest) accounts.1 in
+    dues_named plan on p.fund (filter (λ b. b.number == p.bond) s.bonds) (known_account plan is_principal year p.fund p.dept p.principal first.0).0
 deeds_named plan s d on (act.Leave (Earn l)) own named names others =
     (dept_function plan l.dept own (known_if (is_some (department_at plan l.dept)) (refusal.UnknownName kind.Dept l.dept) (or_else_none (unknown_fund plan l.fund) (unknown_dept plan l.dept) others).1), tt)
 deeds_named plan s d on (act.Leave (Use l)) own named names others =
     (dept_function plan l.dept own (known_if (is_some (department_at plan l.dept)) (refusal.UnknownName kind.Dept l.dept) (or_else_none (unknown_fund plan l.fund) (unknown_dept plan l.dept) others).1), tt)
 deeds_named plan s d on (act.Leave (Mature l)) own named names others =
-    let both = known_account plan is_current l.fund l.dept l.object others in ((both.0, dept_function plan l.dept own both.1), tt)
+    let both = known_account plan is_current (year_of_day plan on) l.fund l.dept l.object others in ((both.0, dept_function plan l.dept own both.1), tt)
 deeds_named plan s d on (act.Interfund m) own named names others =
     let first = or_else_none (unknown plan d (fund_name m.from)) _ names in
     let second = or_else_none (unknown plan d (fund_name m.to)) None first.1 in
     (between plan m.what _ (known_if (is_some (fund_at plan m.from)) (refusal.UnknownName kind.Fund m.from) first.0, known_if (is_some (fund_at plan m.to)) (refusal.UnknownName kind.Fund m.to) second.0), tt)
 deeds_named plan s d on (act.Close (period.Month m)) own named names others =
-    all_append (IsNamed plan) (map (λ (f : Function). deed.Depreciate (record { year = year_at plan s.closed; function = f.id; amount = function_charge s.closed s.assets f.id })) plan.functions) _
-    (all_map (λ (f : Function). IsFunction plan f.id) (IsNamed plan) (λ (f : Function). deed.Depreciate (record { year = year_at plan s.closed; function = f.id; amount = function_charge s.closed s.assets f.id }))
-    (λ f k. k) plan.functions (each_there plan.functions)) (tt, tt)
+    let depreciate = λ (f : Function). deed.Depreciate (record { year = year_at plan s.closed; function = f.id; amount = function_charge s.closed (owned s.assets) f.id }) in
+    let amortize = λ (f : Function). deed.Amortize (record { year = year_at plan s.closed; function = f.id; amount = function_charge s.closed (leased s.assets) f.id }) in
+    all_append (IsNamed plan) (map depreciate plan.functions) _
+    (all_map (λ (f : Function). IsFunction plan f.id) (IsNamed plan) depreciate (λ f k. k) plan.functions (each_there plan.functions))
+    (all_append (IsNamed plan) (map amortize plan.functions) _
+    (all_map (λ (f : Function). IsFunction plan f.id) (IsNamed plan) amortize (λ f k. k) plan.functions (each_there plan.functions)) (tt, tt))
+deeds_named plan s d on (act.Lease l) own named names others = ((known_account plan is_capital (year_of_day plan on) l.account.fund l.account.dept l.account.object others).0, tt)
 deeds_named plan s d on (act.Close (period.Year y)) own named names others = tt
 deeds_named plan s d on _ own named names others = tt

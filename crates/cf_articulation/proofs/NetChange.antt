@@ -78,14 +78,14 @@ rows_change plan year fund h =
     (statement.sum_where (λ f. true) (λ f. a fund (500000 + f.id) -ℤ b fund (500000 + f.id)) plan.functions)
     (int_sum (a fund) (source_accounts plan fund)) (int_sum (b fund) (source_accounts plan fund)) (int_sum (a fund) (function_accounts plan)) (int_sum (b fund) (function_accounts plan))
     (a fund 510000) (b fund 510000) (a fund 520000) (b fund 520000) (a fund 530000) (b fund 530000) (a fund 600001) (b fund 600001) (a fund 610001) (b fund 610001) (a fund 600002) (b fund 600002)
-    (a fund 600003) (b fund 600003) (through plan year fund h) (through plan (year - 1) fund h) (revenue_change a b plan fund) (function_change (a fund) (b fund) plan)
+    (a fund 600003) (b fund 600003) (a fund 600004) (b fund 600004) (through plan year fund h) (through plan (year - 1) fund h) (revenue_change a b plan fund) (function_change (a fund) (b fund) plan)
     (three (a fund) (source_accounts plan fund) (function_accounts plan) other_accounts) (three (b fund) (source_accounts plan fund) (function_accounts plan) other_accounts)
   where
-    adds : (r f s1 s0 f1 f0 o1 o0 p1 p0 i1 i0 t1 t0 u1 u0 d1 d0 g1 g0 w1 w0 : ℤ) → r ≡ s0 -ℤ s1 → f ≡ f1 -ℤ f0 →
-        w1 ≡ s1 +ℤ (f1 +ℤ (o1 +ℤ (p1 +ℤ (i1 +ℤ (t1 +ℤ (u1 +ℤ (d1 +ℤ (g1 +ℤ pos 0)))))))) →
-        w0 ≡ s0 +ℤ (f0 +ℤ (o0 +ℤ (p0 +ℤ (i0 +ℤ (t0 +ℤ (u0 +ℤ (d0 +ℤ (g0 +ℤ pos 0)))))))) →
-        (r -ℤ (f +ℤ ((o1 -ℤ o0) +ℤ ((p1 -ℤ p0) +ℤ (i1 -ℤ i0))))) +ℤ ((neg_ℤ (t1 -ℤ t0) -ℤ (u1 -ℤ u0)) +ℤ (neg_ℤ (d1 -ℤ d0) +ℤ neg_ℤ (g1 -ℤ g0))) ≡ w0 -ℤ w1
-    adds r f s1 s0 f1 f0 o1 o0 p1 p0 i1 i0 t1 t0 u1 u0 d1 d0 g1 g0 w1 w0 e1 e2 e3 e4 = omega (arith, ints, e1, e2, e3, e4)
+    adds : (r f s1 s0 f1 f0 o1 o0 p1 p0 i1 i0 t1 t0 u1 u0 d1 d0 g1 g0 l1 l0 w1 w0 : ℤ) → r ≡ s0 -ℤ s1 → f ≡ f1 -ℤ f0 →
+        w1 ≡ s1 +ℤ (f1 +ℤ (o1 +ℤ (p1 +ℤ (i1 +ℤ (t1 +ℤ (u1 +ℤ (d1 +ℤ (g1 +ℤ (l1 +ℤ pos 0))))))))) →
+        w0 ≡ s0 +ℤ (f0 +ℤ (o0 +ℤ (p0 +ℤ (i0 +ℤ (t0 +ℤ (u0 +ℤ (d0 +ℤ (g0 +ℤ (l0 +ℤ pos 0))))))))) →
+        (r -ℤ (f +ℤ ((o1 -ℤ o0) +ℤ ((p1 -ℤ p0) +ℤ (i1 -ℤ i0))))) +ℤ ((neg_ℤ (t1 -ℤ t0) -ℤ (u1 -ℤ u0)) +ℤ ((neg_ℤ (d1 -ℤ d0) +ℤ neg_ℤ (g1 -ℤ g0)) +ℤ neg_ℤ (l1 -ℤ l0))) ≡ w0 -ℤ w1
+    adds r f s1 s0 f1 f0 o1 o0 p1 p0 i1 i0 t1 t0 u1 u0 d1 d0 g1 g0 l1 l0 w1 w0 e1 e2 e3 e4 = omega (arith, ints, e1, e2, e3, e4)
 
 pub net_change_is : (plan : Plan) (year fund : ℕ) (h : List Entry) → HasOwnAccounts plan → IsLegal plan h →
     net_change plan (sums_of plan h) year fund ≡ fund_balance plan year fund h -ℤ fund_balance plan (year - 1) fund h

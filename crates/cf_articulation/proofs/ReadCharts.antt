@@ -116,11 +116,11 @@ each_source functions funds d sources q so read =
     table_all q table_name.Source key.Source (λ s. s.id) (source_row functions funds) d sources
     (λ p v s e. so s (was_read (IsReadSource functions funds) (source_row functions funds p v) s (source_is functions funds p v) e)) read
 
-tables_read : (plan : Plan) (d : Data) → functions_of d ≡ Ok plan.functions → funds_of d ≡ Ok plan.funds → departments_of plan.functions d ≡ Ok plan.departments →
+tables_read : (plan : Plan) (d : Data) → functions_of d ≡ Ok plan.functions → funds_of plan.first_year d ≡ Ok plan.funds → departments_of plan.functions d ≡ Ok plan.departments →
     sources_of plan.functions plan.funds d ≡ Ok plan.sources → HasOwnAccounts plan
 tables_read plan d functions funds departments sources = record {
   functions = table_rises table_name.Function key.Function (λ r. r.id) function_row d plan.functions functions;
-  funds = table_rises table_name.Fund key.Fund (λ r. r.id) fund_row d plan.funds funds;
+  funds = table_rises table_name.Fund key.Fund (λ r. r.id) (fund_row plan.first_year) d plan.funds funds;
   sources = table_rises table_name.Source key.Source (λ r. r.id) (source_row plan.functions plan.funds) d plan.sources sources;
   function_ids =
       table_all (λ f. nat_le f.id 999) table_name.Function key.Function (λ r. r.id) function_row d plan.functions
@@ -144,7 +144,7 @@ plan_read d fit =
     then_read P (need (within 1971 2150) top key.FirstYear d) _ (λ first_year year_read.
     then_read P (need (within 1 12) top key.FirstMonth d) _ (λ first_month month_read.
     then_read P (functions_of d) _ (λ functions functions_read.
-    then_read P (funds_of d) _ (λ funds funds_read.
+    then_read P (funds_of first_year d) _ (λ funds funds_read.
     then_read P (departments_of functions d) _ (λ departments departments_read.
     then_read P (objects_of d) _ (λ objects _.
     then_read P (sources_of functions funds d) _ (λ sources sources_read.

@@ -12,6 +12,7 @@ use Rattle.cf_calls.specs.declared.acts.AssetAct.{AssetAct}
 use Rattle.cf_calls.specs.declared.acts.AssetAct.TheVariants.{Donate, Dispose}
 use Rattle.cf_calls.specs.declared.acts.Disposal.{Disposal}
 use Rattle.cf_calls.specs.declared.acts.Donation.{Donation}
+use Rattle.cf_calls.specs.declared.acts.NewLease.{NewLease}
 use Rattle.cf_calls.specs.declared.acts.NewVoucher.{NewVoucher}
 use Rattle.cf_calls.specs.declared.acts.Period.{Period}
 use Rattle.cf_calls.specs.declared.entry.Drawn.{Drawn}
@@ -19,17 +20,17 @@ use Rattle.cf_calls.specs.declared.items.VoucherItem.{VoucherItem}
 use Rattle.cf_calls.specs.declared.refusal.Refusal.{Refusal}
 use Rattle.cf_calls.specs.declared.refusal.Refusal.TheVariants as refusal
 use Rattle.cf_chart.specs.Plan.{Plan}
-use Rattle.cf_model.specs.Assets.{Asset, asset_step, assets_by}
+use Rattle.cf_model.specs.Assets.{Asset, asset_step, assets_by, voucher_of}
 use Rattle.cf_model.specs.Documents.{is_number}
 use Rattle.cf_model.specs.RegisterRules.{voided_asset, disposed_asset, asset_refusal}
 use Rattle.cf_model.specs.Registers.{Registers, no_registers}
-use Rattle.cf_model.specs.Rules.{amount, bad_amount, first_refusal, refuse_if, or_else}
+use Rattle.cf_model.specs.Rules.{Amount, amount, bad_amount, first_refusal, refuse_if, or_else}
 
 -- registers with these assets
 with_assets : Register → Registers
 with_assets r = record no_registers { assets = r.assets; closed = r.closed }
 
-pub void_allowed : (r : Register) (on : Day) (a : Act) (n : ℕ) → a ≡ act.VoidVoucher n → ((s : Registers) → IsOf s r → asset_refusal s on a ≡ None) → first_refusal (voided_asset r.closed) (filter (λ x. is_number x.voucher n) r.assets) ≡ None
+pub void_allowed : (r : Register) (on : Day) (a : Act) (n : ℕ) → a ≡ act.VoidVoucher n → ((s : Registers) → IsOf s r → asset_refusal s on a ≡ None) → first_refusal (voided_asset r.closed) (filter (λ x. is_number (voucher_of x.origin) n) r.assets) ≡ None
 unfolding with_assets
 void_allowed r on a n is none = subst (λ b. asset_refusal (with_assets r) on b ≡ None) is (none (with_assets r) (record { assets = refl; closed = refl }))
 
@@ -48,13 +49,17 @@ voucher_step plan closed on a v assets is = ap (λ b. map (asset_step plan close
 pub gift_step : (plan : Plan) (closed : ℕ) (on : Day) (a : AssetAct) (d : Donation) (assets : List Asset) → a ≡ Donate d → map (asset_step plan closed on (act.Asset a)) assets ≡ assets
 gift_step plan closed on a d assets is = ap (λ b. map (asset_step plan closed on (act.Asset b)) assets) is ∙ map-id assets
 
+pub lease_step : (plan : Plan) (closed : ℕ) (on : Day) (a : Act) (l : NewLease) (assets : List Asset) → a ≡ act.Lease l → map (asset_step plan closed on a) assets ≡ assets
+lease_step plan closed on a l assets is = ap (λ b. map (asset_step plan closed on b) assets) is ∙ map-id assets
+
 -- an act of another register
-pub quiet : (plan : Plan) (closed : ℕ) (on : Day) (a : Act) (drawn : Drawn) (assets : List Asset) → ((x : NewVoucher) → a ≡ act.Voucher x → ⊥) → ((n : ℕ) → a ≡ act.VoidVoucher n → ⊥) → ((x : AssetAct) → a ≡ act.Asset x → ⊥) →
+pub quiet : (plan : Plan) (closed : ℕ) (on : Day) (a : Act) (drawn : Drawn) (assets : List Asset) → ((x : NewVoucher) → a ≡ act.Voucher x → ⊥) → ((n : ℕ) → a ≡ act.VoidVoucher n → ⊥) → ((x : AssetAct) → a ≡ act.Asset x → ⊥) → ((l : NewLease) → a ≡ act.Lease l → ⊥) →
     assets ≡ map (asset_step plan closed on a) assets ++ assets_by plan on a drawn
-quiet plan closed on (act.Voucher v) drawn assets voucher void asset = absurd (voucher v refl)
-quiet plan closed on (act.VoidVoucher n) drawn assets voucher void asset = absurd (void n refl)
-quiet plan closed on (act.Asset x) drawn assets voucher void asset = absurd (asset x refl)
-quiet plan closed on _ drawn assets voucher void asset = sym (append-nil (map (λ x. x) assets) ∙ map-id assets)
+quiet plan closed on (act.Voucher v) drawn assets voucher void asset lease = absurd (voucher v refl)
+quiet plan closed on (act.VoidVoucher n) drawn assets voucher void asset lease = absurd (void n refl)
+quiet plan closed on (act.Asset x) drawn assets voucher void asset lease = absurd (asset x refl)
+quiet plan closed on (act.Lease l) drawn assets voucher void asset lease = absurd (lease l refl)
+quiet plan closed on _ drawn assets voucher void asset lease = sym (append-nil (map (λ x. x) assets) ∙ map-id assets)
 
 pub close_step : (plan : Plan) (closed : ℕ) (on : Day) (a : Act) (p : Period) (drawn : Drawn) (assets : List Asset) → a ≡ act.Close p → assets ≡ map (asset_step plan closed on a) assets ++ assets_by plan on a drawn
 close_step plan closed on a p drawn assets is = sym (ap (λ b. map (asset_step plan closed on b) assets ++ assets_by plan on b drawn) is ∙ append-nil (map (λ x. x) assets) ∙ map-id assets)
@@ -74,6 +79,9 @@ in_range n e = most n (refused (nat_le 1 n && nat_le n 10000000000000) e)
 first_two : (r other : Option Refusal) → or_else r other ≡ None → (r ≡ None) × (other ≡ None)
 first_two None other e = (refl, e)
 first_two (Some r) other e = cc
+
+pub amount_most : (n : ℕ) (rest : List Amount) → first_refusal bad_amount (amount n ∷ rest) ≡ None → n ≤ 10000000000000
+amount_most n rest e = in_range n ((first_two (bad_amount (amount n)) (first_refusal bad_amount rest) e).0)
 
 pub items_most : (items : List VoucherItem) → first_refusal bad_amount (map (λ i. amount i.account.amount) items) ≡ None → AreMost items
 items_most [] e k d l = absurd (omega arith)

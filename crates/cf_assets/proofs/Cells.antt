@@ -86,7 +86,7 @@ enough_there f xs k d cells at amount l are from to is = omega (arith, sum_set (
     within g (y ∷ ys) (suc k) d l = omega (arith, sum_by-cons g y ys, within g ys k d (omega arith))
 
 -- a cell has room for one amount more
-pub cell_small : (f : ℕ → Asset → ℕ) (xs : List Asset) (cells : List ℕ) (at amount : ℕ) → AreYears (λ y. sum_by (f y) xs) cells → 1970 ≤ at → at ≤ 2200 → length xs ≤ 33554432 → amount ≤ 10000000000000 →
+pub cell_small : (f : ℕ → Asset → ℕ) (xs : List Asset) (cells : List ℕ) (at amount : ℕ) → AreYears (λ y. sum_by (f y) xs) cells → 1970 ≤ at → at ≤ 2200 → length xs ≤ 48000000 → amount ≤ 10000000000000 →
     ((k : ℕ) (d : Asset) → k < length xs → f at (get_or xs k d) ≤ 10000000000000) → cell_of cells at + amount < 340282366920938463463374607431768211456
 cell_small f xs cells at amount are from to few most all = omega (arith, year_is (λ y. sum_by (f y) xs) cells at are from to, sum_small (f at) xs all)
 

@@ -9,10 +9,11 @@ use Rattle.cf_model.specs.Deeds.{function_charge}
 use Rattle.std.proofs.lemmas.List.{take_all, get_or_default, get_or-set_same, get_or-set_other}
 use Rattle.std.proofs.lemmas.List.Sums.{sum_by-cons, sum_by_more}
 use Rattle.cf_assets.specs.declared.rows.AssetRow.{AssetRow}
-use Rattle.cf_assets.specs.Charges.{StandsAt}
+use Rattle.cf_assets.specs.Charges.{StandsAt, charge_in, is_kind, of_kind}
 use Rattle.cf_assets.specs.Rows.{view_asset, IsRow, AreRows, no_row}
 use Rattle.cf_assets.specs.Serving.{ServeFrom}
 use Rattle.cf_assets.proofs.InService.{not_charged, sum_serving}
+use Rattle.cf_assets.proofs.Leases.{part_sum}
 use Rattle.cf_model.specs.Assets.{Asset, charge}
 
 -- what the asset at a place adds
@@ -42,19 +43,47 @@ all_charged closed rows serving i total are serve l is =
 
 -- ---- function by function
 
--- what a month charges to a function for an asset
-abbrev pub part_of : ℕ → ℕ → AssetRow → ℕ
-part_of closed function r = if r.function == function then charge closed (view_asset r) else 0
+-- what a month charges to a function for an asset of a kind
+abbrev pub part_of : Bool → ℕ → ℕ → AssetRow → ℕ
+part_of is_lease closed function r = if r.function == function then charge_in is_lease closed (view_asset r) else 0
 
-pub all_of_function : (closed function : ℕ) (rows : List AssetRow) (serving : List ℕ) (i total : ℕ) → AreRows closed rows → ServeFrom closed 0 rows serving → length serving ≤ i →
-    total ≡ sum_by (at_place (part_of closed function) rows) (take i serving) → total ≡ function_charge closed (map view_asset rows) function
-all_of_function closed function rows serving i total are serve l is =
-    all_places (part_of closed function) closed rows serving i total (λ r k row e. none (r.function == function) (charge closed (view_asset r)) e) are serve l is
-    ∙ sym (sum-map (λ a. if a.function == function then charge closed a else 0) rows)
+-- a charge for the assets of a kind, as one over all
+kind_charge : (is_lease : Bool) (closed function : ℕ) (assets : List Asset) →
+    function_charge closed (of_kind is_lease assets) function ≡ sum_by (λ a. if a.function == function then charge_in is_lease closed a else 0) assets
+kind_charge is_lease closed function assets = part_sum (λ a. if a.function == function then charge closed a else 0) (is_kind is_lease) assets ∙ swapped assets
   where
-    none : (b : Bool) (n : ℕ) → n ≡ 0 → (if b then n else 0) ≡ 0
-    none true n e = e
-    none false n e = refl
+    one : (k f : Bool) (n : ℕ) → (if k then (if f then n else 0) else 0) ≡ (if f then (if k then n else 0) else 0)
+    one true true n = refl
+    one true false n = refl
+    one false true n = refl
+    one false false n = refl
+
+    swapped : (xs : List Asset) → sum_by (λ a. if is_kind is_lease a then (if a.function == function then charge closed a else 0) else 0) xs
+        ≡ sum_by (λ a. if a.function == function then charge_in is_lease closed a else 0) xs
+    swapped [] = refl
+    swapped (a ∷ xs) =
+        sum_by-cons (λ x. if is_kind is_lease x then (if x.function == function then charge closed x else 0) else 0) a xs
+        ∙ (λ i. one (is_kind is_lease a) (a.function == function) (charge closed a) i + swapped xs i)
+        ∙ sym (sum_by-cons (λ (x : Asset). if x.function == function then charge_in is_lease closed x else 0) a xs)
+
+none_in : (b : Bool) (n : ℕ) → n ≡ 0 → (if b then n else 0) ≡ 0
+none_in true n e = e
+none_in false n e = refl
+
+pub all_of_function : (is_lease : Bool) (closed function : ℕ) (rows : List AssetRow) (serving : List ℕ) (i total : ℕ) → AreRows closed rows → ServeFrom closed 0 rows serving → length serving ≤ i →
+    total ≡ sum_by (at_place (part_of is_lease closed function) rows) (take i serving) → total ≡ function_charge closed (of_kind is_lease (map view_asset rows)) function
+all_of_function is_lease closed function rows serving i total are serve l is =
+    all_places (part_of is_lease closed function) closed rows serving i total
+    (λ r k row e. none_in (r.function == function) _ (none_in (is_kind is_lease (view_asset r)) (charge closed (view_asset r)) e)) are serve l is
+    ∙ sym (sum-map (λ a. if a.function == function then charge_in is_lease closed a else 0) rows)
+    ∙ sym (kind_charge is_lease closed function (map view_asset rows))
+
+-- .. and for all leased assets
+pub all_leased : (closed : ℕ) (rows : List AssetRow) (serving : List ℕ) (i total : ℕ) → AreRows closed rows → ServeFrom closed 0 rows serving → length serving ≤ i →
+    total ≡ sum_by (at_place (λ r. charge_in true closed (view_asset r)) rows) (take i serving) → total ≡ sum_by (charge_in true closed) (map view_asset rows)
+all_leased closed rows serving i total are serve l is =
+    all_places (λ r. charge_in true closed (view_asset r)) closed rows serving i total (λ r k row e. none_in (is_kind true (view_asset r)) (charge closed (view_asset r)) e) are serve l is
+    ∙ sym (sum-map (charge_in true closed) rows)
 
 both : (a b : Bool) → (a && b) ≡ true → (a ≡ true) × (b ≡ true)
 both true b e = (refl, e)
@@ -137,9 +166,9 @@ zeros (suc n) zero = refl
 zeros (suc n) (suc k) = zeros n k
 
 -- the charge of an asset, added where the asset is the function's
-pub one_function : (closed function : ℕ) (rows : List AssetRow) (serving : List ℕ) (i amount old new : ℕ) (d : AssetRow) → i < length serving → get_or serving i 0 < length rows →
-    amount ≡ charge closed (view_asset (get_or rows (get_or serving i 0) d)) → new ≡ old + (if (get_or rows (get_or serving i 0) d).function == function then amount else 0) →
-    old ≡ sum_by (at_place (part_of closed function) rows) (take i serving) → new ≡ sum_by (at_place (part_of closed function) rows) (take (i + 1) serving)
-one_function closed function rows serving i amount old new d l at is added so =
+pub one_function : (is_lease : Bool) (closed function : ℕ) (rows : List AssetRow) (serving : List ℕ) (i amount old new : ℕ) (d : AssetRow) → i < length serving → get_or serving i 0 < length rows →
+    amount ≡ charge_in is_lease closed (view_asset (get_or rows (get_or serving i 0) d)) → new ≡ old + (if (get_or rows (get_or serving i 0) d).function == function then amount else 0) →
+    old ≡ sum_by (at_place (part_of is_lease closed function) rows) (take i serving) → new ≡ sum_by (at_place (part_of is_lease closed function) rows) (take (i + 1) serving)
+one_function is_lease closed function rows serving i amount old new d l at is added so =
     let r = get_or rows (get_or serving i 0) d in
-    added ∙ one_more (part_of closed function) rows serving i (if r.function == function then amount else 0) old d l at (ap (λ n. if r.function == function then n else 0) is) so
+    added ∙ one_more (part_of is_lease closed function) rows serving i (if r.function == function then amount else 0) old d l at (ap (λ n. if r.function == function then n else 0) is) so

@@ -1,5 +1,7 @@
 -- What the assets by number keep of their rows.
 use Rattle.std.proofs.Common.{◌≡◌, ◌≢◌, ◌⊎◌, inl, inr, ℕ, zero, suc, ◌+◌, ◌-◌, ◌<◌, ◌≤◌, min, Bool, true, false, not, if◌then◌else◌, ◌==◌, ◌&&◌, List, [], ◌∷◌, ◌++◌, length, map, set, get_or, sum_by, Option, Some, None, is_some, is_none, refl, sym, subst, ap, ◌∙◌, arith}
+use Rattle.cf_assets.specs.declared.rows.Acquired.TheVariants.{Given, Leased}
+use Rattle.cf_assets.specs.declared.rows.Acquired.{Acquired}
 use Rattle.std.proofs.lemmas.Grind.{common_steps}
 use Rattle.std.proofs.lemmas.List.{length-set, length-append, length-map, map-append, map-set, get_or_append_left, get_or_push, get_or-map, get_or-set_same, get_or-set_other}
 use Rattle.std.proofs.lemmas.List.Sums.{sum_by-cons}
@@ -8,11 +10,11 @@ use Rattle.cf_assets.specs.declared.rows.StageNow.{StageNow}
 use Rattle.cf_assets.specs.declared.rows.StageNow.TheVariants.{Held, Void, Disposed}
 use Rattle.cf_assets.specs.Inventory.{AreKept, accumulated_at}
 use Rattle.cf_assets.specs.InventoryView.{AreAccumulated}
-use Rattle.cf_assets.specs.Rows.{view_asset, view_stage, IsRow, IsStage, AreRows, no_row}
+use Rattle.cf_assets.specs.Rows.{view_asset, view_stage, IsRow, IsStage, AreRows, no_row, view_origin}
 use Rattle.cf_assets.specs.Years.{AreYears, cell_of, with_cell, bought_in, given_in, book_in}
 use Rattle.cf_assets.proofs.Cells.{sum_push, sum_set, sum_small, push_adds, push_same, set_same, set_adds, set_takes, years_same, enough_there}
 use Rattle.cf_assets.proofs.Charging.{not_yet, never_falls, total_next, total_first, total_most}
-use Rattle.cf_model.specs.Assets.{Asset, held, counted, depreciated, depreciation, charge}
+use Rattle.cf_model.specs.Assets.{Asset, held, counted, depreciated, depreciation, charge, Origin, purchase, gift, lease, voucher_of, is_given}
 use Rattle.cf_model.specs.Changes.{is_void, is_disposed_in}
 
 pub less_or_not : (a b : ℕ) → (a < b) ⊎ (b ≤ a)
@@ -72,14 +74,14 @@ costs closed rows all k d l =
     omega (arith, ap (λ (a : Asset). a.cost) is, (all k no_row m).cost)
 
 pub bought_most : (year : ℕ) (a : Asset) → bought_in year a ≤ a.cost
-bought_most year a = by_test (is_some a.voucher && (a.year == year) && not (is_void a.stage))
+bought_most year a = by_test (is_some (voucher_of a.origin) && (a.year == year) && not (is_void a.stage))
   where
     by_test : (b : Bool) → (if b then a.cost else 0) ≤ a.cost
     by_test true = omega arith
     by_test false = omega arith
 
 pub given_most : (year : ℕ) (a : Asset) → given_in year a ≤ a.cost
-given_most year a = by_test (is_none a.voucher && (a.year == year))
+given_most year a = by_test (is_given a.origin && (a.year == year))
   where
     by_test : (b : Bool) → (if b then a.cost else 0) ≤ a.cost
     by_test true = omega arith
@@ -93,7 +95,7 @@ book_most closed year a = by_test (is_disposed_in year a.stage)
     by_test false = omega arith
 
 -- what all assets add to a year is small
-pub year_most : (f : ℕ → Asset → ℕ) → ((year : ℕ) (a : Asset) → f year a ≤ a.cost) → (closed : ℕ) (rows : List AssetRow) → AreRows closed rows → length rows ≤ 33554432 → (year : ℕ) → sum_by (f year) (map view_asset rows) ≤ 335544320000000000000
+pub year_most : (f : ℕ → Asset → ℕ) → ((year : ℕ) (a : Asset) → f year a ≤ a.cost) → (closed : ℕ) (rows : List AssetRow) → AreRows closed rows → length rows ≤ 48000000 → (year : ℕ) → sum_by (f year) (map view_asset rows) ≤ 480000000000000000000
 year_most f most closed rows are few year =
     omega (
       arith,
@@ -121,10 +123,10 @@ other_year : (a b : ℕ) → (b ≡ a → ⊥) → (a == b) ≡ false
 other_year a b n = grind (arith, common_steps)
 
 -- an asset that a voucher bought
-pub buy_bought : (rows : List AssetRow) (r : AssetRow) (cells : List ℕ) → is_some r.voucher ≡ true → r.stage ≡ Held → 1970 ≤ r.year → r.year ≤ 2200 → AreYears (λ y. sum_by (bought_in y) (map view_asset rows)) cells →
+pub buy_bought : (rows : List AssetRow) (r : AssetRow) (cells : List ℕ) → is_some (voucher_of (view_origin r.acquired)) ≡ true → r.stage ≡ Held → 1970 ≤ r.year → r.year ≤ 2200 → AreYears (λ y. sum_by (bought_in y) (map view_asset rows)) cells →
     AreYears (λ y. sum_by (bought_in y) (map view_asset (rows ++ r ∷ []))) (with_cell cells r.year (cell_of cells r.year + r.cost))
 buy_bought rows r cells some is from to are =
-    rw (view_push rows r) (push_adds bought_in (map view_asset rows) (view_asset r) cells r.year r.cost are from to (whole (is_some r.voucher) (r.year == r.year) r.stage some (same_year r.year) is) (λ y apart. none (is_some r.voucher) (not (is_void (view_stage r.stage))) (r.year == y) (other_year r.year y apart)))
+    rw (view_push rows r) (push_adds bought_in (map view_asset rows) (view_asset r) cells r.year r.cost are from to (whole (is_some (voucher_of (view_origin r.acquired))) (r.year == r.year) r.stage some (same_year r.year) is) (λ y apart. none (is_some (voucher_of (view_origin r.acquired))) (not (is_void (view_stage r.stage))) (r.year == y) (other_year r.year y apart)))
   where
     whole : (b t : Bool) (s : StageNow) → b ≡ true → t ≡ true → s ≡ Held → (if b && t && not (is_void (view_stage s)) then r.cost else 0) ≡ r.cost
     whole b t s e f h = rw (e, f, h) refl
@@ -133,12 +135,13 @@ buy_bought rows r cells some is from to are =
     none true k t e = rw e refl
     none false k t e = refl
 
-pub buy_given : (rows : List AssetRow) (r : AssetRow) (cells : List ℕ) → is_some r.voucher ≡ true → AreYears (λ y. sum_by (given_in y) (map view_asset rows)) cells → AreYears (λ y. sum_by (given_in y) (map view_asset (rows ++ r ∷ []))) cells
-buy_given rows r cells some are = rw (view_push rows r) (push_same given_in (map view_asset rows) (view_asset r) cells are (λ y. none r.voucher (r.year == y) some))
+pub buy_given : (rows : List AssetRow) (r : AssetRow) (cells : List ℕ) → is_some (voucher_of (view_origin r.acquired)) ≡ true → AreYears (λ y. sum_by (given_in y) (map view_asset rows)) cells → AreYears (λ y. sum_by (given_in y) (map view_asset (rows ++ r ∷ []))) cells
+buy_given rows r cells some are = rw (view_push rows r) (push_same given_in (map view_asset rows) (view_asset r) cells are (λ y. none (view_origin r.acquired) (r.year == y) some))
   where
-    none : (o : Option ℕ) (t : Bool) → is_some o ≡ true → (if is_none o && t then r.cost else 0) ≡ 0
-    none None t e = cc
-    none (Some n) t e = refl
+    none : (o : Origin) (t : Bool) → is_some (voucher_of o) ≡ true → (if is_given o && t then r.cost else 0) ≡ 0
+    none (purchase n) t e = refl
+    none gift t e = cc
+    none lease t e = cc
 
 pub new_book : (closed : ℕ) (rows : List AssetRow) (r : AssetRow) (cells : List ℕ) → r.stage ≡ Held → AreYears (λ y. sum_by (book_in closed y) (map view_asset rows)) cells →
     AreYears (λ y. sum_by (book_in closed y) (map view_asset (rows ++ r ∷ []))) cells
@@ -148,23 +151,36 @@ new_book closed rows r cells is are = rw (view_push rows r) (push_same (book_in 
     none y s e = rw e refl
 
 -- one that was given
-pub gift_bought : (rows : List AssetRow) (r : AssetRow) (cells : List ℕ) → r.voucher ≡ None → AreYears (λ y. sum_by (bought_in y) (map view_asset rows)) cells → AreYears (λ y. sum_by (bought_in y) (map view_asset (rows ++ r ∷ []))) cells
-gift_bought rows r cells none are = rw (view_push rows r) (push_same bought_in (map view_asset rows) (view_asset r) cells are (λ y. nothing r.voucher (r.year == y) none))
+pub gift_bought : (rows : List AssetRow) (r : AssetRow) (cells : List ℕ) → r.acquired ≡ Given → AreYears (λ y. sum_by (bought_in y) (map view_asset rows)) cells → AreYears (λ y. sum_by (bought_in y) (map view_asset (rows ++ r ∷ []))) cells
+gift_bought rows r cells none are = rw (view_push rows r) (push_same bought_in (map view_asset rows) (view_asset r) cells are (λ y. nothing r.acquired (r.year == y) none))
   where
-    nothing : (o : Option ℕ) (t : Bool) → o ≡ None → (if is_some o && t && not (is_void (view_stage r.stage)) then r.cost else 0) ≡ 0
+    nothing : (o : Acquired) (t : Bool) → o ≡ Given → (if is_some (voucher_of (view_origin o)) && t && not (is_void (view_stage r.stage)) then r.cost else 0) ≡ 0
     nothing o t e = rw e refl
 
-pub gift_given : (rows : List AssetRow) (r : AssetRow) (cells : List ℕ) → r.voucher ≡ None → 1970 ≤ r.year → r.year ≤ 2200 → AreYears (λ y. sum_by (given_in y) (map view_asset rows)) cells →
+pub gift_given : (rows : List AssetRow) (r : AssetRow) (cells : List ℕ) → r.acquired ≡ Given → 1970 ≤ r.year → r.year ≤ 2200 → AreYears (λ y. sum_by (given_in y) (map view_asset rows)) cells →
     AreYears (λ y. sum_by (given_in y) (map view_asset (rows ++ r ∷ []))) (with_cell cells r.year (cell_of cells r.year + r.cost))
 gift_given rows r cells none from to are =
-    rw (view_push rows r) (push_adds given_in (map view_asset rows) (view_asset r) cells r.year r.cost are from to (whole r.voucher (r.year == r.year) none (same_year r.year)) (λ y apart. nothing (is_none r.voucher) (r.year == y) (other_year r.year y apart)))
+    rw (view_push rows r) (push_adds given_in (map view_asset rows) (view_asset r) cells r.year r.cost are from to (whole r.acquired (r.year == r.year) none (same_year r.year)) (λ y apart. nothing (is_given (view_origin r.acquired)) (r.year == y) (other_year r.year y apart)))
   where
-    whole : (o : Option ℕ) (t : Bool) → o ≡ None → t ≡ true → (if is_none o && t then r.cost else 0) ≡ r.cost
+    whole : (o : Acquired) (t : Bool) → o ≡ Given → t ≡ true → (if is_given (view_origin o) && t then r.cost else 0) ≡ r.cost
     whole o t e f = rw (e, f) refl
 
     nothing : (b t : Bool) → t ≡ false → (if b && t then r.cost else 0) ≡ 0
     nothing true t e = rw e refl
     nothing false t e = refl
+
+-- one that is leased
+pub lease_bought : (rows : List AssetRow) (r : AssetRow) (cells : List ℕ) → r.acquired ≡ Leased → AreYears (λ y. sum_by (bought_in y) (map view_asset rows)) cells → AreYears (λ y. sum_by (bought_in y) (map view_asset (rows ++ r ∷ []))) cells
+lease_bought rows r cells none are = rw (view_push rows r) (push_same bought_in (map view_asset rows) (view_asset r) cells are (λ y. nothing r.acquired (r.year == y) none))
+  where
+    nothing : (o : Acquired) (t : Bool) → o ≡ Leased → (if is_some (voucher_of (view_origin o)) && t && not (is_void (view_stage r.stage)) then r.cost else 0) ≡ 0
+    nothing o t e = rw e refl
+
+pub lease_given : (rows : List AssetRow) (r : AssetRow) (cells : List ℕ) → r.acquired ≡ Leased → AreYears (λ y. sum_by (given_in y) (map view_asset rows)) cells → AreYears (λ y. sum_by (given_in y) (map view_asset (rows ++ r ∷ []))) cells
+lease_given rows r cells none are = rw (view_push rows r) (push_same given_in (map view_asset rows) (view_asset r) cells are (λ y. nothing r.acquired (r.year == y) none))
+  where
+    nothing : (o : Acquired) (t : Bool) → o ≡ Leased → (if is_given (view_origin o) && t then r.cost else 0) ≡ 0
+    nothing o t e = rw e refl
 
 -- ---- an asset in another stage
 
@@ -213,8 +229,8 @@ restage_same f k rows r s cells at are same =
 pub fresh_row : (closed k : ℕ) (rows : List AssetRow) (r : AssetRow) → IsAt k rows r → ((d : Asset) → depreciation closed (get_or (map view_asset rows) k d) ≡ 0) → depreciation closed (view_asset r) ≡ 0
 fresh_row closed k rows r at none = sym (ap (depreciation closed) (viewed k rows r (view_asset r) at)) ∙ none (view_asset r)
 
-pub bought_row : (k : ℕ) (rows : List AssetRow) (r : AssetRow) → IsAt k rows r → ((d : Asset) → is_some (get_or (map view_asset rows) k d).voucher ≡ true) → is_some r.voucher ≡ true
-bought_row k rows r at some = sym (ap (λ (a : Asset). is_some a.voucher) (viewed k rows r (view_asset r) at)) ∙ some (view_asset r)
+pub bought_row : (k : ℕ) (rows : List AssetRow) (r : AssetRow) → IsAt k rows r → ((d : Asset) → is_some (voucher_of (get_or (map view_asset rows) k d).origin) ≡ true) → is_some (voucher_of (view_origin r.acquired)) ≡ true
+bought_row k rows r at some = sym (ap (λ (a : Asset). is_some (voucher_of a.origin)) (viewed k rows r (view_asset r) at)) ∙ some (view_asset r)
 
 and_none : (b k : Bool) (n : ℕ) → k ≡ false → (if b && k then n else 0) ≡ 0
 and_none true k n e = rw e refl
@@ -233,7 +249,7 @@ void_accumulated k rows r accumulated at none are =
     restage_accumulated k rows r Void accumulated at are (λ n l.
     omega (arith, none, never_falls (n + 1) (length accumulated) (view_asset r) (omega (arith, l)), not_yet (n + 1) (view_asset (restaged Void r)) (omega arith)))
 
-pub void_bought : (k : ℕ) (rows : List AssetRow) (r : AssetRow) (cells : List ℕ) → IsAt k rows r → r.stage ≡ Held → is_some r.voucher ≡ true → 1970 ≤ r.year → r.year ≤ 2200 →
+pub void_bought : (k : ℕ) (rows : List AssetRow) (r : AssetRow) (cells : List ℕ) → IsAt k rows r → r.stage ≡ Held → is_some (voucher_of (view_origin r.acquired)) ≡ true → 1970 ≤ r.year → r.year ≤ 2200 →
     AreYears (λ y. sum_by (bought_in y) (map view_asset rows)) cells → AreYears (λ y. sum_by (bought_in y) (map view_asset (set rows k (restaged Void r)))) (with_cell cells r.year (cell_of cells r.year - r.cost))
 void_bought k rows r cells at is some from to are =
     rw (view_set rows k (restaged Void r))
@@ -242,27 +258,27 @@ void_bought k rows r cells at is some from to are =
     (λ y apart. gone y ∙ sym (other y apart) ∙ sym (ap (bought_in y) (viewed k rows r (view_asset r) at))))
   where
     gone : (y : ℕ) → bought_in y (view_asset (restaged Void r)) ≡ 0
-    gone y = and_none (is_some r.voucher && (r.year == y)) false r.cost refl
+    gone y = and_none (is_some (voucher_of (view_origin r.acquired)) && (r.year == y)) false r.cost refl
 
     value : (b t : Bool) (s : StageNow) → b ≡ true → t ≡ true → s ≡ Held → (if b && t && not (is_void (view_stage s)) then r.cost else 0) ≡ r.cost
     value b t s e f h = rw (e, f, h) refl
 
     whole : bought_in r.year (view_asset r) ≡ r.cost
-    whole = value (is_some r.voucher) (r.year == r.year) r.stage some (same_year r.year) is
+    whole = value (is_some (voucher_of (view_origin r.acquired))) (r.year == r.year) r.stage some (same_year r.year) is
 
     nothing : (b t k : Bool) → t ≡ false → (if b && t && k then r.cost else 0) ≡ 0
     nothing true t k e = rw e refl
     nothing false t k e = refl
 
     other : (y : ℕ) → (y ≡ r.year → ⊥) → bought_in y (view_asset r) ≡ 0
-    other y apart = nothing (is_some r.voucher) (r.year == y) (not (is_void (view_stage r.stage))) (other_year r.year y apart)
+    other y apart = nothing (is_some (voucher_of (view_origin r.acquired))) (r.year == y) (not (is_void (view_stage r.stage))) (other_year r.year y apart)
 
 -- the cost of a voucher's asset is in its year
-pub void_enough : (k : ℕ) (rows : List AssetRow) (r : AssetRow) (cells : List ℕ) → IsAt k rows r → r.stage ≡ Held → is_some r.voucher ≡ true → 1970 ≤ r.year → r.year ≤ 2200 →
+pub void_enough : (k : ℕ) (rows : List AssetRow) (r : AssetRow) (cells : List ℕ) → IsAt k rows r → r.stage ≡ Held → is_some (voucher_of (view_origin r.acquired)) ≡ true → 1970 ≤ r.year → r.year ≤ 2200 →
     AreYears (λ y. sum_by (bought_in y) (map view_asset rows)) cells → r.cost ≤ cell_of cells r.year
 void_enough k rows r cells at is some from to are =
     enough_there bought_in (map view_asset rows) k (view_asset r) cells r.year r.cost (seen k rows at.within) are from to
-    (ap (bought_in r.year) (viewed k rows r (view_asset r) at) ∙ value (is_some r.voucher) (r.year == r.year) r.stage some (same_year r.year) is)
+    (ap (bought_in r.year) (viewed k rows r (view_asset r) at) ∙ value (is_some (voucher_of (view_origin r.acquired))) (r.year == r.year) r.stage some (same_year r.year) is)
   where
     value : (b t : Bool) (s : StageNow) → b ≡ true → t ≡ true → s ≡ Held → (if b && t && not (is_void (view_stage s)) then r.cost else 0) ≡ r.cost
     value b t s e f h = rw (e, f, h) refl
@@ -282,7 +298,7 @@ gone_accumulated k at rows r accumulated here is are =
     ap (depreciated r.cost r.life) (same ∙ sym (ap (λ s. counted (view_stage s) (n + 1) - r.service) is)))
 
 pub gone_bought : (y at closed : ℕ) (r : AssetRow) → r.stage ≡ Held → bought_in y (view_asset (restaged (Disposed at closed) r)) ≡ bought_in y (view_asset r)
-gone_bought y at closed r is = ap (λ s. if is_some r.voucher && (r.year == y) && not (is_void (view_stage s)) then r.cost else 0) (sym is)
+gone_bought y at closed r is = ap (λ s. if is_some (voucher_of (view_origin r.acquired)) && (r.year == y) && not (is_void (view_stage s)) then r.cost else 0) (sym is)
 
 pub gone_book : (k at closed : ℕ) (rows : List AssetRow) (r : AssetRow) (cells : List ℕ) (amount : ℕ) → IsAt k rows r → r.stage ≡ Held → 1970 ≤ at → at ≤ 2200 → amount ≡ r.cost - depreciation closed (view_asset r) →
     AreYears (λ y. sum_by (book_in closed y) (map view_asset rows)) cells →
@@ -349,7 +365,7 @@ close_accumulated assets accumulated before charged are was is n l = by_place (l
         ∙ ap (λ m. sum_by (depreciation (m + 1)) assets) at
 
 -- what all assets are depreciated by after the month fits
-pub close_fits : (rows : List AssetRow) (accumulated : List ℕ) (before charged : ℕ) → length rows ≤ 33554432 → AreRows (length accumulated) rows → AreAccumulated (map view_asset rows) accumulated → before ≡ accumulated_at accumulated (length accumulated) →
+pub close_fits : (rows : List AssetRow) (accumulated : List ℕ) (before charged : ℕ) → length rows ≤ 48000000 → AreRows (length accumulated) rows → AreAccumulated (map view_asset rows) accumulated → before ≡ accumulated_at accumulated (length accumulated) →
     charged ≡ sum_by (charge (length accumulated)) (map view_asset rows) → before + charged < 340282366920938463463374607431768211456
 close_fits rows accumulated before charged few are is was so =
     omega (

@@ -7,3 +7,4 @@ pub mod Keeping
 pub mod Netting
 pub mod Standing
 pub mod Applying
+pub mod Leases

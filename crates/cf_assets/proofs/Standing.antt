@@ -17,7 +17,7 @@ use Rattle.cf_calls.specs.declared.refusal.Refusal.TheVariants as refusal
 use Rattle.cf_calls.specs.declared.items.VoucherItem.{VoucherItem}
 use Rattle.cf_chart.specs.Plan.{Plan, object_at}
 use Rattle.cf_model.specs.Charted.{is_capital}
-use Rattle.cf_model.specs.Assets.{Asset, Stage, held, void, disposed, bought, new_asset}
+use Rattle.cf_model.specs.Assets.{Asset, Stage, held, void, disposed, bought, new_asset, voucher_of, purchase, life_of, is_leased}
 use Rattle.cf_model.specs.Calendar.{is_before}
 use Rattle.cf_model.specs.RegisterRules.{voided_asset, not_held, disposed_asset}
 use Rattle.cf_model.specs.Documents.{is_number}
@@ -63,12 +63,12 @@ after_it e k l = high (nat_le e.first k) (nat_lt k e.end) (most k e.end l)
 -- ---- the assets of a voucher, one after another
 
 abbrev pub of_voucher : ℕ → Asset → Bool
-of_voucher n a = is_number a.voucher n
+of_voucher n a = is_number (voucher_of a.origin) n
 
 pub scan_first : (f : Asset → Option Refusal) (n : ℕ) (assets : List Asset) (e : Extent) → IsExtent n assets e → first_refusal f (filter (of_voucher n) assets) ≡ first_refusal f (rest (of_voucher n) e.first assets)
 scan_first f n assets e is = ap (first_refusal f) (rest_first (of_voucher n) assets e.first (λ j d l m. is.are j d l ∙ before_it e j m))
 
-pub is_its : (n : ℕ) (assets : List Asset) (e : Extent) (k : ℕ) (d : Asset) → IsExtent n assets e → e.first ≤ k → k < e.end → is_number (get_or assets k d).voucher n ≡ true
+pub is_its : (n : ℕ) (assets : List Asset) (e : Extent) (k : ℕ) (d : Asset) → IsExtent n assets e → e.first ≤ k → k < e.end → is_number (voucher_of (get_or assets k d).origin) n ≡ true
 is_its n assets e k d is a b = is.are k d (omega (arith, b, is.within)) ∙ in_it e k a b
 
 pub scan_more : (f : Asset → Option Refusal) (n : ℕ) (assets : List Asset) (e : Extent) (k : ℕ) (d : Asset) → IsExtent n assets e → e.first ≤ k → k < e.end →
@@ -122,10 +122,10 @@ set_step k f xs d l same =
 
 -- ---- the void of a voucher
 
-others_stay : (n : ℕ) (a : Asset) → is_number a.voucher n ≡ false → voids n a ≡ a
+others_stay : (n : ℕ) (a : Asset) → is_number (voucher_of a.origin) n ≡ false → voids n a ≡ a
 others_stay n a e = rw e refl
 
-its_void : (n : ℕ) (a : Asset) → is_number a.voucher n ≡ true → voids n a ≡ staged void a
+its_void : (n : ℕ) (a : Asset) → is_number (voucher_of a.origin) n ≡ true → voids n a ≡ staged void a
 its_void n a e = rw e refl
 
 pub void_first : (n : ℕ) (assets : List Asset) (e : Extent) → IsExtent n assets e → step_first e.first (voids n) assets ≡ assets
@@ -152,7 +152,7 @@ number_some (Some m) n e = refl
 pub can_void : (n k : ℕ) (assets : List Asset) (i : Inventory) (closed : ℕ) (e : Extent) → IsExtent n assets e → e.first ≤ k → k < e.end → first_refusal (voided_asset closed) (filter (of_voucher n) assets) ≡ None →
     i.assets ≡ step_first k (voids n) assets → i.closed ≡ closed → CanVoid k i
 can_void n k assets i closed e is a b none at same = record {
-  bought = λ d. ap (λ (x : Asset). is_some x.voucher) (here d) ∙ number_some (get_or assets k d).voucher n (is_its n assets e k d is a b);
+  bought = λ d. ap (λ (x : Asset). is_some (voucher_of x.origin)) (here d) ∙ number_some (voucher_of (get_or assets k d).origin) n (is_its n assets e k d is a b);
   allowed = λ d. (λ j. voided_asset (same j) (here d j)) ∙ none_refused (voided_asset closed) (of_voucher n) assets k d none (omega (arith, b, is.within)) (is_its n assets e k d is a b);
 }
   where
@@ -181,7 +181,8 @@ pub held_number : (on : Day) (number k : ℕ) (assets : List Asset) → AreNumbe
 held_number on number k assets numbered l is none d =
     let a = get_or assets k d in
     held_of a.number a.stage
-    (first_of_two (not_held a.number a.stage) (refuse_if (is_before on a.on) (refusal.AssetState a.number fault.Later))
+    (first_of_two (not_held a.number a.stage)
+    (or_else (refuse_if (is_leased a.origin) (refusal.AssetState a.number fault.Leased)) (refuse_if (is_before on a.on) (refusal.AssetState a.number fault.Later)))
     (none_refused (disposed_asset on) (λ (x : Asset). x.number == number) assets k d none l (same_number a.number number (omega (arith, numbered k d l, is)))))
 
 pub disposed_one : (number k year closed : ℕ) (assets new : List Asset) → AreNumbered assets → k < length assets → number ≡ k + 1 → StagesOne k (disposed year closed) assets new → new ≡ map (disposes number year closed) assets
@@ -233,29 +234,29 @@ extents_none n = subst (IsExtent n []) (sym (at n)) (record { ordered = omega ar
     at (suc n) = refl
 
 -- assets of another voucher, or of none
-extent_more : (n : ℕ) (old added : List Asset) (e : Extent) → IsExtent n old e → ((k : ℕ) (d : Asset) → k < length added → is_number (get_or added k d).voucher n ≡ false) → IsExtent n (old ++ added) e
+extent_more : (n : ℕ) (old added : List Asset) (e : Extent) → IsExtent n old e → ((k : ℕ) (d : Asset) → k < length added → is_number (voucher_of (get_or added k d).origin) n ≡ false) → IsExtent n (old ++ added) e
 extent_more n old added e is others = record {
   ordered = is.ordered;
   within = omega (arith, is.within, length-append old added);
   are = λ k d l. at k d l (less_or_not k (length old));
 }
   where
-    at : (k : ℕ) (d : Asset) → k < length (old ++ added) → (k < length old) ⊎ (length old ≤ k) → is_number (get_or (old ++ added) k d).voucher n ≡ is_within e k
-    at k d l (inl a) = ap (λ (x : Asset). is_number x.voucher n) (get_or_append_left old added d k a) ∙ is.are k d a
+    at : (k : ℕ) (d : Asset) → k < length (old ++ added) → (k < length old) ⊎ (length old ≤ k) → is_number (voucher_of (get_or (old ++ added) k d).origin) n ≡ is_within e k
+    at k d l (inl a) = ap (λ (x : Asset). is_number (voucher_of x.origin) n) (get_or_append_left old added d k a) ∙ is.are k d a
     at k d l (inr a) =
-        ap (λ (x : Asset). is_number x.voucher n) (get_or-append_right old added (length old) k d refl a)
+        ap (λ (x : Asset). is_number (voucher_of x.origin) n) (get_or-append_right old added (length old) k d refl a)
         ∙ others (k - length old) d (omega (arith, a, l, length-append old added))
         ∙ sym (after_it e k (omega (arith, a, is.within)))
 
-pub extents_gift : (extents : List Extent) (assets : List Asset) (a : Asset) → a.voucher ≡ None → AreExtents extents assets → AreExtents extents (assets ++ a ∷ [])
+pub extents_gift : (extents : List Extent) (assets : List Asset) (a : Asset) → voucher_of a.origin ≡ None → AreExtents extents assets → AreExtents extents (assets ++ a ∷ [])
 extents_gift extents assets a none are n = extent_more n assets (a ∷ []) (extent_at extents n) (are n) (λ k d l. other k d l)
   where
-    other : (k : ℕ) (d : Asset) → k < 1 → is_number (get_or (a ∷ []) k d).voucher n ≡ false
+    other : (k : ℕ) (d : Asset) → k < 1 → is_number (voucher_of (get_or (a ∷ []) k d).origin) n ≡ false
     other zero d l = ap (λ o. is_number o n) none
     other (suc k) d l = absurd (omega arith)
 
 -- a voucher more, and its assets
-pub extents_push : (extents : List Extent) (old added : List Asset) → AreExtents extents old → ((k : ℕ) (d : Asset) → k < length added → (get_or added k d).voucher ≡ Some (length extents + 1)) →
+pub extents_push : (extents : List Extent) (old added : List Asset) → AreExtents extents old → ((k : ℕ) (d : Asset) → k < length added → voucher_of (get_or added k d).origin ≡ Some (length extents + 1)) →
     AreExtents (extents ++ record { first = length old; end = length (old ++ added) } ∷ []) (old ++ added)
 extents_push extents old added are its n = by_number (same_or_not n (length extents + 1))
   where
@@ -271,15 +272,15 @@ extents_push extents old added are its n = by_number (same_or_not n (length exte
     long : length (old ++ added) ≡ length old + length added
     long = length-append old added
 
-    at : (k : ℕ) (d : Asset) → k < length (old ++ added) → (k < length old) ⊎ (length old ≤ k) → is_number (get_or (old ++ added) k d).voucher (length extents + 1) ≡ is_within (record { first = length old; end = length (old ++ added) }) k
+    at : (k : ℕ) (d : Asset) → k < length (old ++ added) → (k < length old) ⊎ (length old ≤ k) → is_number (voucher_of (get_or (old ++ added) k d).origin) (length extents + 1) ≡ is_within (record { first = length old; end = length (old ++ added) }) k
     at k d l (inl a) =
-        ap (λ (x : Asset). is_number x.voucher (length extents + 1)) (get_or_append_left old added d k a)
+        ap (λ (x : Asset). is_number (voucher_of x.origin) (length extents + 1)) (get_or_append_left old added d k a)
         ∙ (are (length extents + 1)).are k d a
         ∙ ap (λ (x : Extent). is_within x k) (no_voucher (length extents + 1) extents (omega arith))
         ∙ after_it (record { first = 0; end = 0 }) k (omega arith)
         ∙ sym (before_it (record { first = length old; end = length (old ++ added) }) k a)
     at k d l (inr a) =
-        ap (λ (x : Asset). is_number x.voucher (length extents + 1)) (get_or-append_right old added (length old) k d refl a)
+        ap (λ (x : Asset). is_number (voucher_of x.origin) (length extents + 1)) (get_or-append_right old added (length old) k d refl a)
         ∙ ap (λ o. is_number o (length extents + 1)) (its (k - length old) d (omega (arith, a, l, long)))
         ∙ agree (length extents + 1)
         ∙ sym (in_it (record { first = length old; end = length (old ++ added) }) k a l)
@@ -296,41 +297,41 @@ extents_push extents old added are its n = by_number (same_or_not n (length exte
         (extent_more n old added (extent_at extents n) (are n) (λ k d l. ap (λ o. is_number o n) (its k d l) ∙ differ (length extents + 1) n apart))
 
 -- a step that leaves each asset's voucher
-pub extents_map : (f : Asset → Asset) (extents : List Extent) (assets : List Asset) → ((a : Asset) → (f a).voucher ≡ a.voucher) → AreExtents extents assets → AreExtents extents (map f assets)
+pub extents_map : (f : Asset → Asset) (extents : List Extent) (assets : List Asset) → ((a : Asset) → voucher_of (f a).origin ≡ voucher_of a.origin) → AreExtents extents assets → AreExtents extents (map f assets)
 extents_map f extents assets keeps are n =
     let was = are n in record {
       ordered = was.ordered;
       within = rw (length-map assets f) was.within;
       are = λ k d l. let m : k < length assets = rw (length-map assets f) at l in
-          ap (λ (a : Asset). is_number a.voucher n) (get_or-map f assets k d d m) ∙ ap (λ o. is_number o n) (keeps (get_or assets k d)) ∙ was.are k d m;
+          ap (λ (a : Asset). is_number (voucher_of a.origin) n) (get_or-map f assets k d d m) ∙ ap (λ o. is_number o n) (keeps (get_or assets k d)) ∙ was.are k d m;
     }
 
 -- ---- what the register's steps keep
 
-pub voids_keep : (n : ℕ) (a : Asset) → (voids n a).voucher ≡ a.voucher
-voids_keep n a = by_test (is_number a.voucher n)
+pub voids_keep : (n : ℕ) (a : Asset) → voucher_of (voids n a).origin ≡ voucher_of a.origin
+voids_keep n a = by_test (is_number (voucher_of a.origin) n)
   where
-    by_test : (b : Bool) → (if b then staged void a else a).voucher ≡ a.voucher
+    by_test : (b : Bool) → voucher_of (if b then staged void a else a).origin ≡ voucher_of a.origin
     by_test true = refl
     by_test false = refl
 
-pub disposes_keep : (number year closed : ℕ) (a : Asset) → (disposes number year closed a).voucher ≡ a.voucher
+pub disposes_keep : (number year closed : ℕ) (a : Asset) → voucher_of (disposes number year closed a).origin ≡ voucher_of a.origin
 disposes_keep number year closed a = by_test (a.number == number)
   where
-    by_test : (b : Bool) → (if b then staged (disposed year closed) a else a).voucher ≡ a.voucher
+    by_test : (b : Bool) → voucher_of (if b then staged (disposed year closed) a else a).origin ≡ voucher_of a.origin
     by_test true = refl
     by_test false = refl
 
 -- what a voucher buys is its own
-pub bought_its : (plan : Plan) (voucher : ℕ) (on : Day) (year number : ℕ) (items : List VoucherItem) (k : ℕ) (d : Asset) → k < length (bought plan voucher on year number items) → (get_or (bought plan voucher on year number items) k d).voucher ≡ Some voucher
+pub bought_its : (plan : Plan) (voucher : ℕ) (on : Day) (year number : ℕ) (items : List VoucherItem) (k : ℕ) (d : Asset) → k < length (bought plan voucher on year number items) → voucher_of (get_or (bought plan voucher on year number items) k d).origin ≡ Some voucher
 bought_its plan voucher on year number [] k d l = absurd (omega arith)
 bought_its plan voucher on year number (i ∷ items) k d l =
     by_test (is_capital (object_at plan i.account.object)) k l (λ j m. bought_its plan voucher on year (number + 1) items j d m) (λ j m. bought_its plan voucher on year number items j d m)
   where
-    by_test : (b : Bool) (k : ℕ) → k < length (if b then new_asset plan (Some voucher) on year number i.account.dept i.account.object i.account.amount ∷ bought plan voucher on year (number + 1) items else bought plan voucher on year number items) →
-        ((j : ℕ) → j < length (bought plan voucher on year (number + 1) items) → (get_or (bought plan voucher on year (number + 1) items) j d).voucher ≡ Some voucher) →
-        ((j : ℕ) → j < length (bought plan voucher on year number items) → (get_or (bought plan voucher on year number items) j d).voucher ≡ Some voucher) →
-        (get_or (if b then new_asset plan (Some voucher) on year number i.account.dept i.account.object i.account.amount ∷ bought plan voucher on year (number + 1) items else bought plan voucher on year number items) k d).voucher ≡ Some voucher
+    by_test : (b : Bool) (k : ℕ) → k < length (if b then new_asset plan (purchase voucher) on year number i.account.dept (life_of plan i.account.object) i.account.amount ∷ bought plan voucher on year (number + 1) items else bought plan voucher on year number items) →
+        ((j : ℕ) → j < length (bought plan voucher on year (number + 1) items) → voucher_of (get_or (bought plan voucher on year (number + 1) items) j d).origin ≡ Some voucher) →
+        ((j : ℕ) → j < length (bought plan voucher on year number items) → voucher_of (get_or (bought plan voucher on year number items) j d).origin ≡ Some voucher) →
+        voucher_of (get_or (if b then new_asset plan (purchase voucher) on year number i.account.dept (life_of plan i.account.object) i.account.amount ∷ bought plan voucher on year (number + 1) items else bought plan voucher on year number items) k d).origin ≡ Some voucher
     by_test true zero l more same = refl
     by_test true (suc k) l more same = more k (omega arith)
     by_test false k l more same = same k l

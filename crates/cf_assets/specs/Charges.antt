@@ -1,8 +1,21 @@
 -- What the close of a month charges, function by function.
-use Rattle.std.specs.Prelude.{◌≡◌, ◌≢◌, ℕ, ◌<◌, List, length, slice_index_or}
+use Rattle.std.specs.Prelude.{◌≡◌, ◌≢◌, ℕ, ◌<◌, Bool, true, false, not, if◌then◌else◌, List, length, slice_index_or}
+use Rattle.std.specs.List.{filter}
 use Rattle.cf_chart.specs.declared.rows.Function.{Function}
-use Rattle.cf_model.specs.Assets.{Asset}
+use Rattle.cf_model.specs.Assets.{Asset, charge, is_leased}
 use Rattle.cf_model.specs.Deeds.{function_charge}
+
+-- the assets that are leased, or those that aren't
+abbrev pub is_kind : Bool → Asset → Bool
+is_kind true a = is_leased a.origin
+is_kind false a = not (is_leased a.origin)
+
+abbrev pub of_kind : Bool → List Asset → List Asset
+of_kind is_lease assets = filter (is_kind is_lease) assets
+
+-- what the close of the next month charges for an asset of the kind
+abbrev pub charge_in : Bool → ℕ → Asset → ℕ
+charge_in is_lease closed a = if is_kind is_lease a then charge closed a else 0
 
 -- each sum is what is charged to the function of its place in the chart's table (GASB Statement 34: depreciation by function)
 abbrev pub AreCharges : ℕ → List Asset → List Function → List ℕ → Type 0

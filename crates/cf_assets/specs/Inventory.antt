@@ -3,7 +3,7 @@ use Rattle.std.specs.Prelude.{◌≡◌, ℕ, ◌+◌, ◌<◌, ◌≤◌, true,
 use Rattle.cf_base.specs.Limits.{last_fiscal_year}
 use Rattle.cf_assets.specs.declared.rows.AssetRow.{AssetRow}
 use Rattle.cf_assets.specs.declared.rows.StageNow.TheVariants.{Held}
-use Rattle.cf_model.specs.Assets.{Asset, Stage, held, depreciation}
+use Rattle.cf_model.specs.Assets.{Asset, Stage, held, depreciation, voucher_of}
 
 pub record Inventory : Type 0 where
   pub assets : List Asset
@@ -16,6 +16,10 @@ pub record Inventory : Type 0 where
 -- assets have the numbers 1, 2, 3 ..
 abbrev pub AreNumbered : List Asset → Type 0
 AreNumbered assets = (k : ℕ) (d : Asset) → k < length assets → (slice_index_or assets k d).number ≡ k + 1
+
+-- no cost is above the largest amount
+abbrev pub AreCheap : List Asset → Type 0
+AreCheap assets = (k : ℕ) (d : Asset) → k < length assets → (slice_index_or assets k d).cost ≤ 10000000000000
 
 -- each is of a fiscal year that is kept
 abbrev pub AreKept : List Asset → Type 0
@@ -45,7 +49,7 @@ IsHeldAt at i = (d : Asset) → (slice_index_or i.assets at d).stage ≡ held
 -- .. was bought by a voucher, and nothing was charged for it
 pub record IsFreshAt (at : ℕ) (i : Inventory) : Type 0 where
   pub held : IsHeldAt at i
-  pub bought : (d : Asset) → is_some (slice_index_or i.assets at d).voucher ≡ true
+  pub bought : (d : Asset) → is_some (voucher_of (slice_index_or i.assets at d).origin) ≡ true
   pub none : (d : Asset) → depreciation i.closed (slice_index_or i.assets at d) ≡ 0
 
 -- what stands for so many closed months; for none, nothing

@@ -22,7 +22,7 @@ abbrev pub AreAccumulated : List Asset → List ℕ → Type 0
 AreAccumulated assets accumulated = (n : ℕ) → n < length accumulated → slice_index_or accumulated n 0 ≡ sum_by (depreciation (n + 1)) assets
 
 pub record IsSound (a : Inside) : Type 0 where
-  pub few : length a.rows.items ≤ 33554432
+  pub few : length a.rows.items ≤ 48000000
   pub months : length a.accumulated.items ≤ most_entries
   pub rows : AreRows (length a.accumulated.items) a.rows.items
   pub serving : ServeAll (length a.accumulated.items) a.rows.items a.serving.items

@@ -3,6 +3,7 @@ pub mod Charges
 pub mod Extents
 pub mod Inventory
 pub mod InventoryView
+pub mod Leases
 pub mod Readers
 pub mod Register
 pub mod RegisterView

@@ -52,6 +52,7 @@ abbrev pub HasRoomFor : Act → Room → Type 0
 HasRoomFor (act.Voucher v) room = HasRoomForVoucher (length v.items) room
 HasRoomFor (act.Asset what) room = HasRoomForAsset what room
 HasRoomFor (act.Close p) room = HasRoomForClose p room
+HasRoomFor (act.Lease l) room = 1 ≤ room.assets
 HasRoomFor _ room = Unit {0}
 
 -- ---- numbers
@@ -64,20 +65,22 @@ abbrev pub IsNextAsset : AssetAct → Drawn → Register → Type 0
 IsNextAsset (Donate d) drawn r = drawn.number ≡ length r.assets + 1
 IsNextAsset (Dispose d) drawn r = Unit {0}
 
--- a voucher has the next voucher's number and the next asset's, and a gift the next asset's
+-- a voucher has the next voucher's number and the next asset's, and a gift and a lease the next asset's
 abbrev pub IsNext : Act → Drawn → Register → Type 0
 IsNext (act.Voucher v) drawn r = IsNextVoucher drawn r
 IsNext (act.Asset what) drawn r = IsNextAsset what drawn r
+IsNext (act.Lease l) drawn r = drawn.number ≡ length r.assets + 1
 IsNext _ drawn r = Unit {0}
 
 abbrev pub asset_number : AssetAct → ℕ → ℕ
 asset_number (Donate d) next = next
 asset_number (Dispose d) next = 0
 
--- the numbers that an act draws of assets: a gift its own, and a voucher that of its first asset, or of the next one where it has none
+-- the numbers that an act draws of assets: a gift and a lease their own, and a voucher that of its first asset, or of the next one where it has none
 abbrev pub asset_draws : List Asset → Act → Drawn
 asset_draws assets (act.Voucher v) = record { number = 0; second = length assets + 1 }
 asset_draws assets (act.Asset what) = record { number = asset_number what (length assets + 1); second = 0 }
+asset_draws assets (act.Lease l) = record { number = length assets + 1; second = 0 }
 asset_draws assets _ = record { number = 0; second = 0 }
 
 -- ---- days

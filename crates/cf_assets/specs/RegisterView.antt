@@ -1,10 +1,12 @@
 -- What the register's fields stand for.
-use Rattle.std.specs.Prelude.{◌-◌, ◌*◌, ◌≤◌, length}
+use Rattle.std.specs.Prelude.{◌-◌, ◌*◌, ◌≤◌, min, length, sum_by}
 use Rattle.std.specs.Vec.{vec_capacity}
 use Rattle.cf_base.specs.Limits.{most_entries}
 use Rattle.cf_assets.specs.declared.assets.Assets.TheInside.{Inside}
 use Rattle.cf_assets.specs.Extents.{AreExtents}
+use Rattle.cf_assets.specs.Leases.{AreAmortized}
 use Rattle.cf_assets.specs.Register.{Register}
+use Rattle.cf_assets.specs.Years.{AreYears, let_in}
 
 abbrev pub register_of : Inside → Register
 register_of a = record {
@@ -15,7 +17,7 @@ register_of a = record {
   room = record {
     assets = a.inventory.room;
     vouchers = vec_capacity a.vouchers - length a.vouchers.items;
-    months = a.inventory.months;
+    months = min a.inventory.months (vec_capacity a.amortized - length a.amortized.items);
   };
 }
 
@@ -26,3 +28,5 @@ pub record IsSound (a : Inside) : Type 0 where
   pub closed : a.inventory.closed ≤ a.acts
   pub vouchers : length a.vouchers.items ≤ a.acts
   pub extents : AreExtents a.vouchers.items a.inventory.assets
+  pub leased : AreYears (λ year. sum_by (let_in year) a.inventory.assets) a.leased
+  pub amortized : AreAmortized a.inventory.assets a.inventory.closed a.amortized.items

@@ -1,20 +1,27 @@
 -- What the register's rows stand for.
-use Rattle.std.specs.Prelude.{◌≡◌, ℕ, ◌+◌, ◌<◌, ◌≤◌, List, length, slice_index_or, None}
+use Rattle.std.specs.Prelude.{◌≡◌, ℕ, ◌+◌, ◌<◌, ◌≤◌, List, length, slice_index_or}
 use Rattle.cf_base.specs.Limits.{last_fiscal_year}
 use Rattle.cf_assets.specs.declared.rows.AssetRow.{AssetRow}
+use Rattle.cf_assets.specs.declared.rows.Acquired.{Acquired}
+use Rattle.cf_assets.specs.declared.rows.Acquired.TheVariants.{Bought, Given, Leased}
 use Rattle.cf_assets.specs.declared.rows.StageNow.{StageNow}
 use Rattle.cf_assets.specs.declared.rows.StageNow.TheVariants.{Held, Void, Disposed}
-use Rattle.cf_model.specs.Assets.{Asset, Stage, held, void, disposed}
+use Rattle.cf_model.specs.Assets.{Asset, Origin, purchase, gift, lease, Stage, held, void, disposed}
 
 abbrev pub view_stage : StageNow → Stage
 view_stage Held = held
 view_stage Void = void
 view_stage (Disposed year closed) = disposed year closed
 
+abbrev pub view_origin : Acquired → Origin
+view_origin (Bought voucher) = purchase voucher
+view_origin Given = gift
+view_origin Leased = lease
+
 abbrev pub view_asset : AssetRow → Asset
 view_asset r = record {
   number = r.number;
-  voucher = r.voucher;
+  origin = view_origin r.acquired;
   function = r.function;
   cost = r.cost;
   life = r.life;
@@ -46,4 +53,4 @@ AreSmall rows = (k : ℕ) (d : AssetRow) → k < length rows → (slice_index_or
 
 -- a row of nothing
 abbrev pub no_row : AssetRow
-no_row = record { cost = 0; number = 0; voucher = None; function = 0; life = 0; on = record { year = 0; month = 0; day = 0 }; year = 0; service = 0; stage = Held }
+no_row = record { cost = 0; number = 0; acquired = Given; function = 0; life = 0; on = record { year = 0; month = 0; day = 0 }; year = 0; service = 0; stage = Held }

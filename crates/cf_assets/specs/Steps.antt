@@ -4,7 +4,7 @@ use Rattle.cf_assets.specs.Inventory.{Inventory, staged}
 use Rattle.cf_assets.specs.declared.steps.Title.{Title}
 use Rattle.cf_calls.specs.declared.items.VoucherItem.{VoucherItem}
 use Rattle.cf_chart.specs.Plan.{Plan}
-use Rattle.cf_model.specs.Assets.{Asset, void, disposed}
+use Rattle.cf_model.specs.Assets.{Asset, void, disposed, voucher_of}
 use Rattle.cf_model.specs.Documents.{is_number}
 use Rattle.cf_model.specs.Months.{number_of_day}
 use Rattle.cf_model.specs.RegisterRules.{voided_asset}
@@ -19,12 +19,12 @@ IsTitled plan title = title.service ≡ number_of_day plan title.on
 
 -- the asset at a place is a voucher's, and the rules let it be voided
 pub record CanVoid (at : ℕ) (i : Inventory) : Type 0 where
-  pub bought : (d : Asset) → is_some (slice_index_or i.assets at d).voucher ≡ true
+  pub bought : (d : Asset) → is_some (voucher_of (slice_index_or i.assets at d).origin) ≡ true
   pub allowed : (d : Asset) → voided_asset i.closed (slice_index_or i.assets at d) ≡ None
 
 -- what a void of a voucher makes of an asset, and a disposal in a year, when so many months are closed
 abbrev pub voids : ℕ → Asset → Asset
-voids voucher a = if is_number a.voucher voucher then staged void a else a
+voids voucher a = if is_number (voucher_of a.origin) voucher then staged void a else a
 
 abbrev pub disposes : ℕ → ℕ → ℕ → Asset → Asset
 disposes number year closed a = if a.number == number then staged (disposed year closed) a else a

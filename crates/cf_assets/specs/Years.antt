@@ -1,6 +1,6 @@
 -- Amounts of the fiscal years from 1970 to 2200, one after another, and what each asset adds to them.
-use Rattle.std.specs.Prelude.{◌≡◌, ℕ, zero, suc, ◌+◌, ◌-◌, ◌<◌, not, if◌then◌else◌, ◌==◌, ◌&&◌, List, length, take, set, slice_index_or, sum, replicate, is_some, is_none}
-use Rattle.cf_model.specs.Assets.{Asset, depreciation}
+use Rattle.std.specs.Prelude.{◌≡◌, ℕ, zero, suc, ◌+◌, ◌-◌, ◌<◌, not, if◌then◌else◌, ◌==◌, ◌&&◌, List, length, take, set, slice_index_or, sum, replicate, is_some}
+use Rattle.cf_model.specs.Assets.{Asset, depreciation, voucher_of, is_given, is_leased}
 use Rattle.cf_model.specs.Changes.{is_void, is_disposed_in}
 
 -- nothing in each year
@@ -32,11 +32,15 @@ pub record AreYears (of : ℕ → ℕ) (cells : List ℕ) : Type 0 where
 
 -- what a voucher bought in a year, if it isn't void
 abbrev pub bought_in : ℕ → Asset → ℕ
-bought_in year a = if is_some a.voucher && (a.year == year) && not (is_void a.stage) then a.cost else 0
+bought_in year a = if is_some (voucher_of a.origin) && (a.year == year) && not (is_void a.stage) then a.cost else 0
 
 -- what was given in a year
 abbrev pub given_in : ℕ → Asset → ℕ
-given_in year a = if is_none a.voucher && (a.year == year) then a.cost else 0
+given_in year a = if is_given a.origin && (a.year == year) then a.cost else 0
+
+-- what was leased in a year
+abbrev pub let_in : ℕ → Asset → ℕ
+let_in year a = if is_leased a.origin && (a.year == year) then a.cost else 0
 
 -- the book value of what was disposed of in a year
 abbrev pub book_in : ℕ → ℕ → Asset → ℕ

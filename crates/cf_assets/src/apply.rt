@@ -35,7 +35,11 @@ impl Assets {
                 self.inventory.reserve(invoice.items.as_slice().len())
             }
             Act::Asset(AssetAct::Donate(_)) => self.inventory.reserve(1),
-            Act::Close(Period::Month(_)) => self.inventory.reserve_month(),
+            Act::Lease(_) => self.inventory.reserve(1),
+            Act::Close(Period::Month(_)) => {
+                self.amortized.reserve(1)?;
+                self.inventory.reserve_month()
+            }
             _ => Ok(()),
         }
     }
@@ -61,6 +65,7 @@ impl Assets {
             Act::VoidVoucher(voucher) => self.void_voucher(*voucher),
             Act::Asset(what) => self.take_asset(chart, on, what, drawn),
             Act::Close(period) => self.close(period),
+            Act::Lease(lease) => self.accept_lease(chart, on, lease, drawn.number),
             _ => self.count_act(),
         }
     }

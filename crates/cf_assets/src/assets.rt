@@ -6,7 +6,7 @@ ghost use Rattle.cf_base.specs.Limits.{most_entries};
 ghost use Rattle.cf_assets.specs.Readers.{asset_now_at, look_shown};
 ghost use Rattle.cf_assets.specs.Rows.{view_stage};
 ghost use Rattle.cf_model.specs.AssetsShown as shown;
-ghost use Rattle.cf_assets.specs.Charges.{AreCharges};
+ghost use Rattle.cf_assets.specs.Charges.{AreCharges, of_kind};
 ghost use Rattle.cf_assets.specs.Extents.{extent_at};
 ghost use Rattle.cf_assets.specs.Register.{asset_draws};
 ghost use Rattle.cf_model.specs.RegisterRules.{asset_at};
@@ -14,6 +14,7 @@ ghost use Rattle.cf_model.specs.RegisterRules.{asset_at};
 use crate::charges::{MOST_FUNCTIONS, depreciation_of};
 use crate::inventory::Inventory;
 use crate::rows::{Extent, StageNow};
+use crate::years::{YEARS, no_years};
 use cf_calls::acts::AssetAct;
 use cf_calls::shown::AssetState;
 use cf_calls::{Act, Drawn, Read, Shown};
@@ -21,13 +22,17 @@ use cf_chart::Chart;
 use std::alloc::Global;
 use std::marker::Model;
 
-/// Capital assets with their depreciation. Assets have the numbers 1, 2, 3 ..; the assets of each voucher stand one
+/// Capital assets with their depreciation, and right-to-use assets with their amortization. Assets have the numbers 1, 2, 3 ..; the assets of each voucher stand one
 /// after another, and the sums by fiscal year are kept as they run.
 #[derive(Drop)]
 pub struct Assets {
     pub(crate) inventory: Inventory,
     /// The assets of each voucher, by its number from 1.
     pub(crate) vouchers: Vec<Extent>,
+    /// The cost of what was leased, in cents, by fiscal year.
+    pub(crate) leased: [u128; YEARS],
+    /// The amortization of all leased assets after one closed month, after two, and so on, in cents.
+    pub(crate) amortized: Vec<u128>,
     pub(crate) acts: u32,
 }
 
@@ -65,6 +70,8 @@ impl Assets {
         Assets {
             inventory: Inventory::new(alloc),
             vouchers: Vec::new(alloc),
+            leased: no_years(),
+            amortized: Vec::new(alloc),
             acts: 0,
         }
     }
@@ -88,12 +95,12 @@ impl Assets {
     /// The number of the next asset, from 1.
     pub fn next_asset(&self) -> u32
         ensures value { result ≡ length self.now.assets + 1 }
-        ensures most { result ≤ 33554433 }
+        ensures most { result ≤ 48000001 }
     {
         self.inventory.count() + 1
     }
 
-    /// The numbers that an act draws of assets: a gift its own, and a voucher that of its first asset, or of the next
+    /// The numbers that an act draws of assets: a gift and a lease their own, and a voucher that of its first asset, or of the next
     /// one where it has none.
     pub fn draws(&self, act: &Act) -> Drawn
         ensures { result ≡ asset_draws self.now.assets act.now }
@@ -104,7 +111,7 @@ impl Assets {
                 number: 0,
                 second: next,
             },
-            Act::Asset(AssetAct::Donate(_)) => Drawn {
+            Act::Asset(AssetAct::Donate(_)) | Act::Lease(_) => Drawn {
                 number: next,
                 second: 0,
             },
@@ -153,13 +160,13 @@ impl Assets {
         }
     }
 
-    /// The depreciation that the close of the next month charges to each function, in cents, by the function's place
-    /// in the chart's table.
-    pub fn month_charges(&self, chart: &Chart) -> [u128; MOST_FUNCTIONS]
-        ensures charges { AreCharges self.now.closed self.now.assets chart.now.functions result }
-        ensures most { (k : ℕ) → slice_index_or result k 0 ≤ 335544320000000000000 }
+    /// What the close of the next month charges to each function, in cents, by the function's place in the chart's
+    /// table: the depreciation of what the city owns, or the amortization of what it leases.
+    pub fn month_charges(&self, chart: &Chart, is_lease: bool) -> [u128; MOST_FUNCTIONS]
+        ensures charges { AreCharges self.now.closed (of_kind is_lease self.now.assets) chart.now.functions result }
+        ensures most { (k : ℕ) → slice_index_or result k 0 ≤ 480000000000000000000 }
     {
-        self.inventory.month_charges(chart.functions())
+        self.inventory.month_charges(chart.functions(), is_lease)
     }
 }
 

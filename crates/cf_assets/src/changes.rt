@@ -1,24 +1,32 @@
-//! Capital assets in the reconciliation of fund balances and net position (GASB Statement 34).
+//! Capital assets and right-to-use assets in the reconciliation of fund balances and net position (GASB Statements 34 and
+//! 87).
 
-ghost use Rattle.std.specs.Prelude.{◌≡◌, ◌≤◌, ◌<◌, ◌^◌, ◌-ℤ◌, pos};
+ghost use Rattle.std.specs.Prelude.{◌≡◌, ◌≤◌, ◌<◌, ◌-◌, ◌^◌, ◌-ℤ◌, pos, sum_by};
 ghost use Rattle.std.specs.List.{AllByRecursion};
 ghost use Rattle.cf_base.specs.Limits.{last_fiscal_year};
 ghost use Rattle.cf_assets.specs.Changes.{asset_changes};
 ghost use Rattle.cf_calls.specs.Form.{IsYear};
+ghost use Rattle.cf_assets.specs.Inventory.{AreKept};
+ghost use Rattle.cf_assets.specs.Years.{let_in, sum_to};
 ghost use Rattle.cf_model.specs.Assets as spec;
+ghost use Rattle.cf_model.specs.Assets.{depreciation};
 ghost use Rattle.cf_model.specs.Months.{closed_to};
 ghost use Rattle.cf_model.specs.Sums.{int_sum};
 ghost use Rattle.cf_model.proofs.Depreciated.{IsSoundAsset};
 
 use crate::assets::Assets;
+use crate::inventory::accumulated_after;
+use crate::years::{amount_in, total_through};
 use cf_chart::Chart;
 
-/// The rows of capital assets in the change of a fiscal year, in cents, each as it is added.
+/// The rows of assets in the change of a fiscal year, in cents, each as it is added.
 #[derive(Clone, Copy)]
 pub struct AssetChanges {
     pub outlay: i128,
     pub donated: i128,
+    pub right_to_use: i128,
     pub depreciation: i128,
+    pub amortization: i128,
     /// The book value of what was disposed of.
     pub disposals: i128,
 }
@@ -29,12 +37,66 @@ impl Assets {
     pub fn net(&self, chart: &Chart, year: u16) -> i128
         requires year { IsYear year }
         requires sound { AllByRecursion (IsSoundAsset chart.now self.now.closed) self.now.assets }
-        ensures { result ≡ int_sum (spec.net chart.now self.now.closed year) self.now.assets }
+        ensures { result ≡ int_sum (spec.net chart.now self.now.closed year) (spec.owned self.now.assets) }
     {
         let months = closed_through(chart, self.closed(), year);
         let acquired = self.inventory.acquired_through(year);
         let gone = self.inventory.gone_through(year);
-        difference(acquired, gone + self.inventory.accumulated_to(months))
+        difference(acquired, gone + self.depreciated_to(months))
+    }
+
+    /// Right-to-use assets, net, through a fiscal year: what was leased in years up to it, at cost less the amortization of
+    /// closed months of years up to it, in cents.
+    pub fn right_to_use(&self, chart: &Chart, year: u16) -> i128
+        requires year { IsYear year }
+        requires sound { AllByRecursion (IsSoundAsset chart.now self.now.closed) self.now.assets }
+        ensures { result ≡ int_sum (spec.net chart.now self.now.closed year) (spec.leased self.now.assets) }
+    {
+        let months = closed_through(chart, self.closed(), year);
+        difference(self.leased_through(year), self.amortized_to(months))
+    }
+
+    /// The depreciation of what the city owns over the first so many months, which are closed, in cents.
+    fn depreciated_to(&self, months: u32) -> u128
+        requires { months ≤ self.now.closed }
+        ensures value { result ≡ sum_by (depreciation months) (spec.owned self.now.assets) }
+        ensures most { result ≤ 480000000000000000000 }
+    {
+        self.inventory.accumulated_to(months) - self.amortized_to(months)
+    }
+
+    /// The amortization of what it leases over the first so many months, which are closed, in cents.
+    fn amortized_to(&self, months: u32) -> u128
+        requires { months ≤ self.now.closed }
+        ensures value { result ≡ sum_by (depreciation months) (spec.leased self.now.assets) }
+        ensures least { result ≤ sum_by (depreciation months) self.now.assets }
+        ensures most { result ≤ 480000000000000000000 }
+    {
+        let _all = self.inventory.accumulated_to(months);
+        accumulated_after(&self.amortized, months)
+    }
+
+    /// The cost of what was leased in the fiscal years up to a year, in cents.
+    fn leased_through(&self, year: u16) -> u128
+        requires { year ≤ last_fiscal_year }
+        ensures value { result ≡ sum_to (λ y. sum_by (let_in y) self.now.assets) (year - 1969) }
+        ensures most { result ≤ 110880000000000000000000 }
+        ensures first { AreKept self.now.assets }
+    {
+        let _cost = self.inventory.acquired_through(year);
+        let _count = self.inventory.count();
+        total_through(&self.leased, year)
+    }
+
+    /// The cost of what was leased in a fiscal year, in cents.
+    fn leased_in(&self, year: u16) -> u128
+        requires from { 1970 ≤ year }
+        requires to { year ≤ last_fiscal_year }
+        ensures value { result ≡ sum_by (let_in year) self.now.assets }
+        ensures most { result ≤ 480000000000000000000 }
+    {
+        let _count = self.inventory.count();
+        amount_in(&self.leased, year)
     }
 
     /// What a fiscal year changes.
@@ -44,16 +106,16 @@ impl Assets {
     {
         let closed = self.closed();
         let sums = self.inventory.year_sums(year);
-        let accumulated = self
-            .inventory
-            .accumulated_to(closed_through(chart, closed, year));
-        let before = self
-            .inventory
-            .accumulated_to(closed_through(chart, closed, year - 1));
+        let months = closed_through(chart, closed, year);
+        let months_before = closed_through(chart, closed, year - 1);
+        let depreciated = self.depreciated_to(months);
+        let amortized = self.amortized_to(months);
         AssetChanges {
             outlay: difference(sums.bought, 0),
             donated: difference(sums.given, 0),
-            depreciation: difference(before, accumulated),
+            right_to_use: difference(self.leased_in(year), 0),
+            depreciation: difference(self.depreciated_to(months_before), depreciated),
+            amortization: difference(self.amortized_to(months_before), amortized),
             disposals: difference(0, sums.gone),
         }
     }

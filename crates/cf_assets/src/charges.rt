@@ -6,11 +6,12 @@ ghost use Rattle.cf_chart.specs.Rising.{is_rising};
 ghost use Rattle.cf_chart.specs.declared.rows.Function.{Function as FunctionRow};
 ghost use Rattle.cf_model.specs.Assets as spec;
 ghost use Rattle.cf_model.specs.Assets.{depreciation, charge};
+ghost use Rattle.cf_assets.specs.Charges.{charge_in, of_kind};
 ghost use Rattle.cf_assets.specs.Rows.{view_asset, AreRows};
 ghost use Rattle.cf_assets.specs.Serving.{ServeAll};
 ghost use Rattle.cf_assets.specs.Charges.{AreCharges, HasNot, StandsAt};
 
-use crate::rows::{AssetRow, StageNow};
+use crate::rows::{Acquired, AssetRow, StageNow};
 use cf_chart::Function;
 
 /// How many functions a chart may have.
@@ -57,11 +58,52 @@ pub fn charge_of(row: &AssetRow, closed: u32) -> u64
     depreciation_of(row, closed + 1) - depreciation_of(row, closed)
 }
 
+/// Whether an asset is leased.
+pub fn is_leased(row: &AssetRow) -> bool
+    ensures { result ≡ spec.is_leased (view_asset row.now).origin }
+{
+    match row.acquired {
+        Acquired::Leased => true,
+        Acquired::Bought(_) | Acquired::Given => false,
+    }
+}
+
+/// What the close of the next month charges for an asset that is leased, or for one that isn't; nothing for another.
+fn charge_if(row: &AssetRow, closed: u32, is_lease: bool) -> u64
+    requires cost { row.now.cost ≤ 10000000000000 }
+    requires few { closed ≤ most_entries }
+    ensures value { result ≡ charge_in is_lease closed (view_asset row.now) }
+    ensures small { result ≤ 10000000000000 }
+{
+    let is_kind = if is_lease {
+        is_leased(row)
+    } else {
+        !is_leased(row)
+    };
+    if is_kind { charge_of(row, closed) } else { 0 }
+}
+
+/// What the close of the next month charges for all leased assets.
+pub fn leased_charge(rows: &[AssetRow], serving: &[u32], closed: u32) -> u128
+    requires rows { AreRows closed rows.now }
+    requires serving { ServeAll closed rows.now serving.now }
+    requires count { length rows.now ≤ 48000000 }
+    requires few { closed ≤ most_entries }
+    ensures value { result ≡ sum_by (charge_in true closed) (map view_asset rows.now) }
+    ensures most { result ≤ 480000000000000000000 }
+{
+    let mut total = 0;
+    for at in serving {
+        total += u128::from(charge_if(&rows[*at as usize], closed, true));
+    }
+    total
+}
+
 /// What the close of the next month charges for all assets: those in service are charged.
 pub fn total_charge(rows: &[AssetRow], serving: &[u32], closed: u32) -> u128
     requires rows { AreRows closed rows.now }
     requires serving { ServeAll closed rows.now serving.now }
-    requires count { length rows.now ≤ 33554432 }
+    requires count { length rows.now ≤ 48000000 }
     requires few { closed ≤ most_entries }
     ensures { result ≡ sum_by (charge closed) (map view_asset rows.now) }
 {
@@ -113,27 +155,28 @@ fn add_to(sums: &mut [u128; MOST_FUNCTIONS], functions: &[Function], id: u16, am
     }
 }
 
-/// What the close of the next month charges to each function, by its place in the chart's table: one pass over the
-/// assets in service.
+/// What the close of the next month charges to each function, by its place in the chart's table, for the assets that
+/// are leased, or for those that aren't: one pass over the assets in service.
 pub fn function_charges(
     rows: &[AssetRow],
     serving: &[u32],
     closed: u32,
     functions: &[Function],
+    is_lease: bool,
 ) -> [u128; MOST_FUNCTIONS]
     requires rows { AreRows closed rows.now }
     requires serving { ServeAll closed rows.now serving.now }
-    requires count { length rows.now ≤ 33554432 }
+    requires count { length rows.now ≤ 48000000 }
     requires months { closed ≤ most_entries }
     requires few { length functions.now ≤ 64 }
     requires rising { is_rising (λ f. f.id) functions.now ≡ true }
-    ensures charges { AreCharges closed (map view_asset rows.now) functions.now result }
-    ensures most { (k : ℕ) → slice_index_or result k 0 ≤ 335544320000000000000 }
+    ensures charges { AreCharges closed (of_kind is_lease (map view_asset rows.now)) functions.now result }
+    ensures most { (k : ℕ) → slice_index_or result k 0 ≤ 480000000000000000000 }
 {
     let mut sums = no_sums();
     for at in serving {
         let row = &rows[*at as usize];
-        let amount = charge_of(row, closed);
+        let amount = charge_if(row, closed, is_lease);
         add_to(&mut sums, functions, row.function, amount);
     }
     sums

@@ -1,18 +1,21 @@
 //! Capital assets by number, with their sums by fiscal year.
 
-ghost use Rattle.std.specs.Prelude.{◌≡◌, ◌≤◌, ◌<◌, ◌+◌, ◌∷◌, ◌++◌, ℕ, [], None, true, is_some, length, slice_index_or, OnOk, IfSome, option_map, option_to_list, ◌==◌, vec_len};
+ghost use Rattle.std.specs.Prelude.{◌≡◌, ◌≤◌, ◌<◌, ◌+◌, ◌∷◌, ◌++◌, ℕ, [], true, is_some, length, sum_by, slice_index_or, OnOk, IfSome, option_map, option_to_list, ◌==◌, vec_len};
 ghost use Rattle.std.specs.List.{filter};
 ghost use Rattle.std.specs.Vec.{vec_capacity};
 ghost use Rattle.cf_base.specs.Limits.{last_fiscal_year, most_entries};
 ghost use Rattle.cf_chart.specs.Rising.{is_rising};
-ghost use Rattle.cf_assets.specs.Charges.{AreCharges};
-ghost use Rattle.cf_assets.specs.Inventory.{AreNumbered, StagesOne, accumulated_at};
-ghost use Rattle.cf_assets.specs.Rows.{view_asset, IsRow};
+ghost use Rattle.cf_assets.specs.Charges.{AreCharges, charge_in, of_kind};
+ghost use Rattle.cf_assets.specs.Inventory.{AreCheap, AreNumbered, StagesOne, accumulated_at};
+ghost use Rattle.cf_assets.specs.Rows.{view_asset, view_origin, IsRow};
+ghost use Rattle.cf_assets.specs.declared.rows.Acquired.TheVariants.{Given, Leased};
 ghost use Rattle.cf_assets.specs.Inventory as spec;
-ghost use Rattle.cf_model.specs.Assets.{Asset, held, void, disposed, depreciation};
+ghost use Rattle.cf_model.specs.Assets.{Asset, held, void, disposed, depreciation, voucher_of};
 ghost use Rattle.cf_model.specs.RegisterRules.{asset_at};
 
-use crate::charges::{MOST_FUNCTIONS, depreciation_of, function_charges, total_charge};
+use crate::charges::{
+    MOST_FUNCTIONS, depreciation_of, function_charges, leased_charge, total_charge,
+};
 use crate::rows::{AssetRow, StageNow};
 use crate::serving::{enlist, retire};
 use crate::years::{YEARS, lower, no_years, raise};
@@ -67,8 +70,9 @@ impl Inventory {
     /// How many assets there are.
     pub fn count(&self) -> u32
         ensures value { result ≡ length self.now.assets }
-        ensures most { result ≤ 33554432 }
+        ensures most { result ≤ 48000000 }
         ensures numbered { AreNumbered self.now.assets }
+        ensures cheap { AreCheap self.now.assets }
     {
         self.rows.len() as u32
     }
@@ -123,10 +127,10 @@ impl Inventory {
 
     /// Enters an asset that a voucher bought. It takes no memory.
     pub fn buy(&mut self, row: AssetRow)
-        requires voucher { is_some row.voucher ≡ true }
+        requires voucher { is_some (voucher_of (view_origin row.acquired)) ≡ true }
         requires new { spec.IsNew row self.old }
         requires room { 1 ≤ self.old.room }
-        requires few { length self.old.assets < 33554432 }
+        requires few { length self.old.assets < 48000000 }
         ensures assets { self.new.assets ≡ self.old.assets ++ view_asset row ∷ [] }
         ensures closed { self.new.closed ≡ self.old.closed }
         ensures room { self.old.room ≤ self.new.room + 1 }
@@ -139,15 +143,29 @@ impl Inventory {
 
     /// Enters an asset that was given. It takes no memory.
     pub fn accept_gift(&mut self, row: AssetRow)
-        requires gift { row.voucher ≡ None }
+        requires gift { row.acquired ≡ Given }
         requires new { spec.IsNew row self.old }
         requires room { 1 ≤ self.old.room }
-        requires few { length self.old.assets < 33554432 }
+        requires few { length self.old.assets < 48000000 }
         ensures assets { self.new.assets ≡ self.old.assets ++ view_asset row ∷ [] }
         ensures closed { self.new.closed ≡ self.old.closed }
     {
         let at = self.rows.len() as u32;
         raise(&mut self.donated, row.year, row.cost);
+        enlist(&mut self.serving, at, &row);
+        push_within(&mut self.rows, row);
+    }
+
+    /// Enters an asset that is leased. It takes no memory.
+    pub fn accept_lease(&mut self, row: AssetRow)
+        requires lease { row.acquired ≡ Leased }
+        requires new { spec.IsNew row self.old }
+        requires room { 1 ≤ self.old.room }
+        requires few { length self.old.assets < 48000000 }
+        ensures assets { self.new.assets ≡ self.old.assets ++ view_asset row ∷ [] }
+        ensures closed { self.new.closed ≡ self.old.closed }
+    {
+        let at = self.rows.len() as u32;
         enlist(&mut self.serving, at, &row);
         push_within(&mut self.rows, row);
     }
@@ -194,15 +212,25 @@ impl Inventory {
         retire(&mut self.serving, &self.rows, closed + 1);
     }
 
-    /// What the close of the next month charges to each function, by its place in the chart's table.
-    pub fn month_charges(&self, functions: &[Function]) -> [u128; MOST_FUNCTIONS]
-        requires few { length functions.now ≤ 64 }
-        requires rising { is_rising (λ f. f.id) functions.now ≡ true }
-        ensures charges { AreCharges self.now.closed self.now.assets functions.now result }
-        ensures most { (k : ℕ) → slice_index_or result k 0 ≤ 335544320000000000000 }
+    /// What the close of the next month charges for all leased assets, in cents.
+    pub fn leased_charge(&self) -> u128
+        ensures value { result ≡ sum_by (charge_in true self.now.closed) self.now.assets }
+        ensures most { result ≤ 480000000000000000000 }
     {
         let closed = self.accumulated.len() as u32;
-        function_charges(&self.rows, &self.serving, closed, functions)
+        leased_charge(&self.rows, &self.serving, closed)
+    }
+
+    /// What the close of the next month charges to each function, by its place in the chart's table, for the assets
+    /// that are leased, or for those that aren't.
+    pub fn month_charges(&self, functions: &[Function], is_lease: bool) -> [u128; MOST_FUNCTIONS]
+        requires few { length functions.now ≤ 64 }
+        requires rising { is_rising (λ f. f.id) functions.now ≡ true }
+        ensures charges { AreCharges self.now.closed (of_kind is_lease self.now.assets) functions.now result }
+        ensures most { (k : ℕ) → slice_index_or result k 0 ≤ 480000000000000000000 }
+    {
+        let closed = self.accumulated.len() as u32;
+        function_charges(&self.rows, &self.serving, closed, functions, is_lease)
     }
 }
 

@@ -12,14 +12,23 @@ pub enum StageNow {
     Disposed { year: u16, closed: u32 },
 }
 
-/// A capital asset. Assets stand by number, from 1.
+/// How the city came to an asset.
+#[derive(Clone, Copy)]
+pub enum Acquired {
+    /// By the voucher of this number.
+    Bought(u32),
+    Given,
+    /// It holds the asset as lessee (GASB Statement 87).
+    Leased,
+}
+
+/// A capital asset, or one that is leased. Assets stand by number, from 1.
 #[derive(Clone, Copy)]
 pub struct AssetRow {
     /// In cents.
     pub cost: u64,
     pub number: u32,
-    /// The voucher that bought it; a gift has none.
-    pub voucher: Option<u32>,
+    pub acquired: Acquired,
     pub function: u16,
     /// In months; land has 0.
     pub life: u16,

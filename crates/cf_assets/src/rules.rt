@@ -5,6 +5,7 @@ ghost use Rattle.std.specs.List.{filter};
 ghost use Rattle.cf_assets.specs.Extents.{AreExtents};
 ghost use Rattle.cf_assets.specs.Register.{IsOf};
 ghost use Rattle.cf_assets.specs.Rows.{view_asset};
+ghost use Rattle.cf_model.specs.Assets.{voucher_of};
 ghost use Rattle.cf_model.specs.Documents.{is_number};
 ghost use Rattle.cf_model.specs.Registers.{Registers};
 ghost use Rattle.cf_model.specs.RegisterRules as spec;
@@ -13,7 +14,7 @@ ghost use Rattle.cf_model.specs.Rules.{first_refusal};
 
 use crate::assets::{Assets, extent_in};
 use crate::calendar::is_before;
-use crate::charges::depreciation_of;
+use crate::charges::{depreciation_of, is_leased};
 use crate::inventory::Inventory;
 use crate::rows::{AssetRow, Extent, StageNow};
 use cf_base::Day;
@@ -36,7 +37,7 @@ impl Assets {
 
     /// An asset of a voucher that can't be voided.
     fn void_fault(&self, voucher: u32) -> Option<Refusal>
-        ensures { result ≡ first_refusal (spec.voided_asset self.now.closed) (filter (λ a. is_number a.voucher voucher) self.now.assets) }
+        ensures { result ≡ first_refusal (spec.voided_asset self.now.closed) (filter (λ a. is_number (voucher_of a.origin) voucher) self.now.assets) }
     {
         first_fault(&self.inventory, &self.vouchers, voucher)
     }
@@ -54,7 +55,7 @@ impl Assets {
 /// The first asset of a voucher that can't be voided.
 fn first_fault(inventory: &Inventory, vouchers: &Vec<Extent>, voucher: u32) -> Option<Refusal>
     requires { AreExtents vouchers.now.items inventory.now.assets }
-    ensures { result ≡ first_refusal (spec.voided_asset inventory.now.closed) (filter (λ a. is_number a.voucher voucher) inventory.now.assets) }
+    ensures { result ≡ first_refusal (spec.voided_asset inventory.now.closed) (filter (λ a. is_number (voucher_of a.origin) voucher) inventory.now.assets) }
 {
     let closed = inventory.closed();
     let extent = extent_in(vouchers, voucher);
@@ -81,13 +82,14 @@ fn voided_asset(row: &AssetRow, closed: u32) -> Option<Refusal>
     }
 }
 
-/// An asset that is disposed of is held, and was acquired on that day or before.
+/// An asset that is disposed of is held, isn't leased, and was acquired on that day or before.
 fn disposed_asset(on: Day, row: &AssetRow) -> Option<Refusal>
     ensures { result ≡ spec.disposed_asset on (view_asset row.now) }
 {
     match row.stage {
         StageNow::Void => Some(asset_fault(row.number, AssetFault::Void)),
         StageNow::Disposed { .. } => Some(asset_fault(row.number, AssetFault::Disposed)),
+        StageNow::Held if is_leased(row) => Some(asset_fault(row.number, AssetFault::Leased)),
         StageNow::Held if is_before(on, row.on) => {
             Some(asset_fault(row.number, AssetFault::Later))
         }

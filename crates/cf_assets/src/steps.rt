@@ -1,38 +1,42 @@
 //! What each act makes of assets.
 
-ghost use Rattle.std.specs.Prelude.{◌≡◌, ◌≤◌, ◌<◌, ◌+◌, ◌-◌, ◌∷◌, ◌++◌, ◌==◌, [], ℕ, Some, None, true, if◌then◌else◌, length, map, is_some};
+ghost use Rattle.std.specs.Prelude.{◌≡◌, ◌≤◌, ◌<◌, ◌+◌, ◌-◌, ◌∷◌, ◌++◌, ◌==◌, [], ℕ, true, if◌then◌else◌, length, map, is_some};
 ghost use Rattle.std.specs.List.{filter};
 ghost use Rattle.cf_assets.specs.Register.{HasRoomForVoucher, IsNextVoucher};
 ghost use Rattle.cf_assets.specs.Steps.{AreMost, IsTitled, CanVoid, voids, disposes};
 ghost use Rattle.cf_assets.specs.Extents.{AreExtents};
-ghost use Rattle.cf_assets.specs.Rows.{view_asset};
+ghost use Rattle.cf_assets.specs.Rows.{view_asset, view_origin};
+ghost use Rattle.cf_assets.specs.declared.rows.Acquired.TheVariants.{Bought};
 ghost use Rattle.cf_assets.specs.Inventory.{StagesOne};
 ghost use Rattle.cf_base.specs.Calendar.{is_day};
 ghost use Rattle.cf_base.specs.Limits.{last_fiscal_year, most_entries};
 ghost use Rattle.cf_model.specs.Assets as spec;
-ghost use Rattle.cf_model.specs.Assets.{void, new_asset, bought, life_if};
+ghost use Rattle.cf_calls.specs.Form.{IsLeaseForm};
+ghost use Rattle.cf_model.specs.Assets.{void, new_asset, bought, life_of, leased_life, voucher_of};
 ghost use Rattle.cf_model.specs.Calendar.{year_of_day};
 ghost use Rattle.cf_model.specs.Charted.{function_of, is_capital};
 ghost use Rattle.cf_model.specs.Documents.{is_number};
 ghost use Rattle.cf_model.specs.Months.{number_of_day};
 ghost use Rattle.cf_model.specs.RegisterRules as rules;
 ghost use Rattle.cf_model.specs.Rules.{first_refusal};
+ghost use Rattle.cf_base.specs.declared.calendar.Day.{Day};
 ghost use Rattle.cf_chart.specs.Plan.{object_at};
 
 use crate::assets::{Assets, extent_in};
 use crate::calendar::{month_number, year_of};
-use crate::inventory::{Inventory, push_within};
-use crate::rows::{AssetRow, Extent, StageNow};
+use crate::inventory::{Inventory, accumulated_after, push_within};
+use crate::rows::{Acquired, AssetRow, Extent, StageNow};
+use crate::years::raise;
 use cf_base::Day;
 use cf_calls::Drawn;
-use cf_calls::acts::{Donation, NewVoucher};
+use cf_calls::acts::{Donation, NewLease, NewVoucher};
 use cf_calls::items::VoucherItem;
 use cf_chart::{Chart, ObjectKind};
 
-/// How an asset is acquired: by which voucher, for which day and fiscal year, and from which month it serves.
+/// How an asset is acquired: how, for which day and fiscal year, and from which month it serves.
 #[derive(Clone, Copy)]
 pub struct Title {
-    pub voucher: Option<u32>,
+    pub acquired: Acquired,
     pub on: Day,
     pub year: u16,
     pub service: u16,
@@ -75,7 +79,7 @@ impl Assets {
         // so the year before that of the day is kept too
         let _first_year = chart.first_year();
         let title = Title {
-            voucher: Some(drawn.number),
+            acquired: Acquired::Bought(drawn.number),
             on,
             year: if invoice.back { day_year - 1 } else { day_year },
             service: month_number(chart, on),
@@ -89,7 +93,7 @@ impl Assets {
 
     /// Voids the assets of a voucher.
     pub(crate) fn void_voucher(&mut self, voucher: u32)
-        requires allowed { first_refusal (rules.voided_asset self.old.closed) (filter (λ a. is_number a.voucher voucher) self.old.assets) ≡ None }
+        requires allowed { first_refusal (rules.voided_asset self.old.closed) (filter (λ a. is_number (voucher_of a.origin) voucher) self.old.assets) ≡ None }
         requires few { self.old.acts < most_entries }
         ensures assets { self.new.assets ≡ map (voids voucher) self.old.assets }
         ensures closed { self.new.closed ≡ self.old.closed }
@@ -108,19 +112,49 @@ impl Assets {
         requires number { number ≡ length self.old.assets + 1 }
         requires early { self.old.closed ≤ number_of_day chart.now on }
         requires few { self.old.acts < most_entries }
-        ensures assets { self.new.assets ≡ self.old.assets ++ new_asset chart.now None on (year_of_day chart.now on) number gift.now.dept gift.now.object gift.now.amount ∷ [] }
+        ensures assets { self.new.assets ≡ self.old.assets ++ new_asset chart.now spec.gift on (year_of_day chart.now on) number gift.now.dept (life_of chart.now gift.now.object) gift.now.amount ∷ [] }
         ensures closed { self.new.closed ≡ self.old.closed }
         ensures vouchers { self.new.vouchers ≡ self.old.vouchers }
         ensures acts { self.new.acts ≡ self.old.acts + 1 }
     {
         let title = Title {
-            voucher: None,
+            acquired: Acquired::Given,
             on,
             year: year_of(chart, on),
             service: month_number(chart, on),
         };
-        let row = new_row(chart, title, number, gift.dept, gift.object, gift.amount);
+        let life = life_on(chart, gift.object);
+        let row = new_row(chart, title, number, gift.dept, life, gift.amount);
         self.inventory.accept_gift(row);
+        self.acts += 1;
+    }
+
+    /// Enters an asset that is leased.
+    pub(crate) fn accept_lease(&mut self, chart: &Chart, on: Day, lease: &NewLease, number: u32)
+        requires room { 1 ≤ self.old.room.assets }
+        requires day { is_day on ≡ true }
+        requires form { IsLeaseForm on lease.now }
+        requires amount { lease.now.account.amount ≤ 10000000000000 }
+        requires number { number ≡ length self.old.assets + 1 }
+        requires early { self.old.closed ≤ number_of_day chart.now on }
+        requires few { self.old.acts < most_entries }
+        ensures assets { self.new.assets ≡ self.old.assets ++ new_asset chart.now spec.lease on (year_of_day chart.now on) number lease.now.account.dept (leased_life chart.now lease.now) lease.now.account.amount ∷ [] }
+        ensures closed { self.new.closed ≡ self.old.closed }
+        ensures vouchers { self.new.vouchers ≡ self.old.vouchers }
+        ensures acts { self.new.acts ≡ self.old.acts + 1 }
+    {
+        let title = Title {
+            acquired: Acquired::Leased,
+            on,
+            year: year_of(chart, on),
+            service: month_number(chart, on),
+        };
+        let account = lease.account;
+        let life = life_of_lease(chart, lease);
+        let row = new_row(chart, title, number, account.dept, life, account.amount);
+        let _count = self.inventory.count();
+        raise(&mut self.leased, row.year, row.cost);
+        self.inventory.accept_lease(row);
         self.acts += 1;
     }
 
@@ -147,6 +181,9 @@ impl Assets {
         ensures vouchers { self.new.vouchers ≡ self.old.vouchers }
         ensures acts { self.new.acts ≡ self.old.acts + 1 }
     {
+        let _count = self.inventory.count();
+        let before = accumulated_after(&self.amortized, self.inventory.closed());
+        push_within(&mut self.amortized, before + self.inventory.leased_charge());
         self.inventory.close();
         self.acts += 1;
     }
@@ -154,12 +191,22 @@ impl Assets {
 
 /// The life of an asset on an object, in months: 0 where the object isn't capital.
 fn life_on(chart: &Chart, object: u16) -> u16
-    ensures { result ≡ life_if (object_at chart.now object) }
+    ensures { result ≡ life_of chart.now object }
 {
     match chart.object(object) {
         None => 0,
         Some(object) => life_of_kind(object.kind),
     }
+}
+
+/// A leased asset serves for the lesser of the lease's term and its object's life, and for the term where that is land.
+fn life_of_lease(chart: &Chart, lease: &NewLease) -> u16
+    requires { (on : Day) × IsLeaseForm on lease.now }
+    ensures { result ≡ leased_life chart.now lease.now }
+{
+    let term = lease.every * lease.principals.as_slice().len() as u16;
+    let life = life_on(chart, lease.account.object);
+    if life == 0 { term } else { term.min(life) }
 }
 
 fn life_of_kind(kind: ObjectKind) -> u16
@@ -192,22 +239,22 @@ fn function_on(chart: &Chart, dept: u16) -> u16
     }
 }
 
-fn new_row(chart: &Chart, title: Title, number: u32, dept: u16, object: u16, cost: u64) -> AssetRow
+fn new_row(chart: &Chart, title: Title, number: u32, dept: u16, life: u16, cost: u64) -> AssetRow
     requires { IsTitled chart.now title }
-    ensures is { view_asset result ≡ new_asset chart.now title.voucher title.on title.year number dept object cost }
+    ensures is { view_asset result ≡ new_asset chart.now (view_origin title.acquired) title.on title.year number dept life cost }
     ensures stage { result.stage ≡ StageNow.Held }
     ensures year { result.year ≡ title.year }
     ensures service { result.service ≡ title.service }
-    ensures voucher { result.voucher ≡ title.voucher }
+    ensures acquired { result.acquired ≡ title.acquired }
     ensures number { result.number ≡ number }
     ensures cost { result.cost ≡ cost }
 {
     AssetRow {
         cost,
         number,
-        voucher: title.voucher,
+        acquired: title.acquired,
         function: function_on(chart, dept),
-        life: life_on(chart, object),
+        life,
         on: title.on,
         year: title.year,
         service: title.service,
@@ -218,14 +265,14 @@ fn new_row(chart: &Chart, title: Title, number: u32, dept: u16, object: u16, cos
 /// Enters an asset for each item of a voucher on a capital object.
 fn buy_all(inventory: &mut Inventory, chart: &Chart, title: Title, items: &[VoucherItem])
     requires titled { IsTitled chart.now title }
-    requires voucher { is_some title.voucher ≡ true }
+    requires voucher { is_some (voucher_of (view_origin title.acquired)) ≡ true }
     requires from { 1970 ≤ title.year }
     requires to { title.year ≤ last_fiscal_year }
     requires early { inventory.old.closed ≤ title.service }
     requires amounts { AreMost items.now }
     requires room { length items.now ≤ inventory.old.room }
-    requires few { length inventory.old.assets + length items.now ≤ 33554432 }
-    ensures assets { (n : ℕ) → title.voucher ≡ Some n → inventory.new.assets ≡ inventory.old.assets ++ bought chart.now n title.on title.year (length inventory.old.assets + 1) items.now }
+    requires few { length inventory.old.assets + length items.now ≤ 48000000 }
+    ensures assets { (n : ℕ) → title.acquired ≡ Bought n → inventory.new.assets ≡ inventory.old.assets ++ bought chart.now n title.on title.year (length inventory.old.assets + 1) items.now }
     ensures closed { inventory.new.closed ≡ inventory.old.closed }
     ensures most { length inventory.new.assets ≤ length inventory.old.assets + length items.now }
 {
@@ -238,7 +285,7 @@ fn buy_all(inventory: &mut Inventory, chart: &Chart, title: Title, items: &[Vouc
                 title,
                 number,
                 account.dept,
-                account.object,
+                life_on(chart, account.object),
                 account.amount,
             );
             inventory.buy(row);
@@ -249,7 +296,7 @@ fn buy_all(inventory: &mut Inventory, chart: &Chart, title: Title, items: &[Vouc
 /// Voids the assets of a voucher.
 fn void_all(inventory: &mut Inventory, vouchers: &Vec<Extent>, voucher: u32)
     requires extents { AreExtents vouchers.now.items inventory.old.assets }
-    requires allowed { first_refusal (rules.voided_asset inventory.old.closed) (filter (λ a. is_number a.voucher voucher) inventory.old.assets) ≡ None }
+    requires allowed { first_refusal (rules.voided_asset inventory.old.closed) (filter (λ a. is_number (voucher_of a.origin) voucher) inventory.old.assets) ≡ None }
     ensures assets { inventory.new.assets ≡ map (voids voucher) inventory.old.assets }
     ensures closed { inventory.new.closed ≡ inventory.old.closed }
 {

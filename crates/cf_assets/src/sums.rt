@@ -23,7 +23,7 @@ impl Inventory {
     pub fn accumulated_to(&self, months: u32) -> u128
         requires { months ≤ self.now.closed }
         ensures value { result ≡ sum_by (depreciation months) self.now.assets }
-        ensures most { result ≤ 335544320000000000000 }
+        ensures most { result ≤ 480000000000000000000 }
     {
         accumulated_after(&self.accumulated, months)
     }
@@ -35,9 +35,9 @@ impl Inventory {
         ensures bought { result.bought ≡ sum_by (bought_in year) self.now.assets }
         ensures given { result.given ≡ sum_by (given_in year) self.now.assets }
         ensures gone { result.gone ≡ sum_by (book_in self.now.closed year) self.now.assets }
-        ensures most_bought { result.bought ≤ 335544320000000000000 }
-        ensures most_given { result.given ≤ 335544320000000000000 }
-        ensures most_gone { result.gone ≤ 335544320000000000000 }
+        ensures most_bought { result.bought ≤ 480000000000000000000 }
+        ensures most_given { result.given ≤ 480000000000000000000 }
+        ensures most_gone { result.gone ≤ 480000000000000000000 }
     {
         YearSums {
             bought: amount_in(&self.outlay, year),
@@ -50,7 +50,7 @@ impl Inventory {
     pub fn acquired_through(&self, year: u16) -> u128
         requires { year ≤ last_fiscal_year }
         ensures value { result ≡ sum_to (λ y. sum_by (bought_in y) self.now.assets) (year - 1969) + sum_to (λ y. sum_by (given_in y) self.now.assets) (year - 1969) }
-        ensures most { result ≤ 155021475840000000000000 }
+        ensures most { result ≤ 221760000000000000000000 }
         ensures first { AreKept self.now.assets }
     {
         total_through(&self.outlay, year) + total_through(&self.donated, year)
@@ -60,7 +60,7 @@ impl Inventory {
     pub fn gone_through(&self, year: u16) -> u128
         requires { year ≤ last_fiscal_year }
         ensures value { result ≡ sum_to (λ y. sum_by (book_in self.now.closed y) self.now.assets) (year - 1969) }
-        ensures most { result ≤ 77510737920000000000000 }
+        ensures most { result ≤ 110880000000000000000000 }
     {
         total_through(&self.disposals, year)
     }

@@ -11,4 +11,4 @@ last_fiscal_year = 2200
 
 -- the most entries that a history may have (own rule)
 abbrev pub most_entries : ℕ
-most_entries = 1048576
+most_entries = 1500000

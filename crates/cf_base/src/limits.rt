@@ -7,4 +7,4 @@ pub const LAST_YEAR: u16 = 2199;
 pub const LAST_FISCAL_YEAR: u16 = 2200;
 
 /// The most entries that a history may have (own rule).
-pub const MOST_ENTRIES: u64 = 1_048_576;
+pub const MOST_ENTRIES: u64 = 1_500_000;

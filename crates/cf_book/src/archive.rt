@@ -215,7 +215,13 @@ impl<D: Disk + Drop> Archive<D> {
         ) else {
             return Settled::Kept(Posted::NoMemory);
         };
-        let Ok(()) = write(&mut self.journal, &mut self.disk, &mut self.doubt, entry) else {
+        let Ok(()) = write(
+            &mut self.journal,
+            &mut self.disk,
+            &mut self.doubt,
+            &change.act,
+            entry,
+        ) else {
             return Settled::Kept(Posted::Disk);
         };
         let Prepared { lines: owed, rest } = prepared;

@@ -25,6 +25,9 @@ none_added csv old text wrote = subst (λ (t : List ℕ). Wrote csv t old) (sym 
 pub two_texts : (out a b x y : List ℕ) → a ≡ out ++ x → b ≡ a ++ y → b ≡ out ++ (x ++ y)
 two_texts out a b x y p q = q ∙ ap (λ t. t ++ y) p ∙ append_assoc out x y
 
+pub three_texts : (out a b c x y z : List ℕ) → a ≡ out ++ x → b ≡ a ++ y → c ≡ b ++ z → c ≡ out ++ (x ++ (y ++ z))
+three_texts out a b c x y z p q r = two_texts out a c x (y ++ z) p (two_texts a b c y z q r)
+
 -- the names of the columns, and the rows behind them
 pub header_first : (csv : Bool) (rows : List (List (List ℕ))) → rows_text csv (header_rows csv) ++ rows_text csv rows ≡ rows_text csv (header_rows csv ++ rows)
 header_first true rows = ap (λ t. t ++ rows_text true rows) (append-nil (row_text (setup true) header))

@@ -1,8 +1,10 @@
--- A row a control line: its number, its fund and department with their names, and what part of the objects it has.
-use Rattle.std.specs.Prelude.{ℕ, ◌+◌, false, List, [], ◌∷◌, ◌++◌, Option, Some, None, codes, decimal}
+-- A row a control line: its number, its fund and department with their names, and what part of the objects it has, with the
+-- fiscal years that it is of where its fund has a later level of control.
+use Rattle.std.specs.Prelude.{ℕ, ◌+◌, ◌-◌, Bool, true, false, List, [], ◌∷◌, ◌++◌, Option, Some, None, codes, decimal}
 use Rattle.cf_chart.specs.Plan.{Plan, fund_at, department_at, object_at}
 use Rattle.cf_chart.specs.declared.rows.Department.{Department}
 use Rattle.cf_chart.specs.declared.rows.Fund.{Fund}
+use Rattle.cf_chart.specs.declared.rows.LaterLevel.{LaterLevel}
 use Rattle.cf_chart.specs.declared.rows.Line.{Line}
 use Rattle.cf_chart.specs.declared.rows.LinePart.{LinePart}
 use Rattle.cf_chart.specs.declared.rows.LinePart.TheVariants as part
@@ -31,9 +33,23 @@ abbrev pub part_name : Plan → LinePart → List ℕ
 part_name plan (part.Object id) = object_name (object_at plan id)
 part_name plan _ = []
 
+abbrev pub later_of : Option Fund → Option LaterLevel
+later_of None = None
+later_of (Some f) = f.later
+
+-- the fiscal years that a line is of, where its fund has a later level
+abbrev pub years_text : Bool → Option LaterLevel → List ℕ
+years_text later None = []
+years_text false (Some l) = codes " (through " ++ (decimal (l.year - 1) ++ codes ")")
+years_text true (Some l) = codes " (from " ++ (decimal l.year ++ codes ")")
+
+abbrev pub part_and_years : Line → Option LaterLevel → List ℕ
+part_and_years l later = part_text l.part ++ years_text l.later later
+
 abbrev pub line_row : Plan → ℕ → Line → List (List ℕ)
 line_row plan number l =
-    decimal number ∷ decimal l.fund ∷ fund_name (fund_at plan l.fund) ∷ decimal l.dept ∷ department_name (department_at plan l.dept) ∷ part_text l.part ∷ part_name plan l.part ∷ []
+    decimal number ∷ decimal l.fund ∷ fund_name (fund_at plan l.fund) ∷ decimal l.dept ∷ department_name (department_at plan l.dept)
+    ∷ part_and_years l (later_of (fund_at plan l.fund)) ∷ part_name plan l.part ∷ []
 
 -- lines are counted from 0
 abbrev pub line_rows : Plan → ℕ → List Line → List (List (List ℕ))

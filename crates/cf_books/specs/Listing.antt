@@ -3,7 +3,7 @@ use Rattle.std.specs.Prelude.{ℕ, ◌+◌, ◌==◌, ℤ, pos, Bool, if◌then�
 use Rattle.cf_base.specs.Amounts.{money_of}
 use Rattle.cf_base.specs.Calendar.{day_text}
 use Rattle.cf_calls.specs.declared.acts.Act.{Act}
-use Rattle.cf_calls.specs.declared.acts.Act.TheVariants.{Adopt, Amend, Transfer, Requisition, Order, ChangeOrder, Voucher, Bill, Collect, Receive, WriteOff, Asset, Issue, Leave, Interfund}
+use Rattle.cf_calls.specs.declared.acts.Act.TheVariants.{Adopt, Amend, Transfer, Requisition, Order, ChangeOrder, Voucher, Bill, Collect, Receive, WriteOff, Asset, Issue, Leave, Interfund, Lease}
 use Rattle.cf_calls.specs.declared.acts.AssetAct.{AssetAct}
 use Rattle.cf_calls.specs.declared.acts.AssetAct.TheVariants.{Donate, Dispose}
 use Rattle.cf_calls.specs.declared.acts.LeaveAct.{LeaveAct}
@@ -38,6 +38,7 @@ amount_of (Asset a) = Some (pos (asset_amount a))
 amount_of (Issue i) = Some (pos i.amount)
 amount_of (Leave l) = Some (pos (leave_amount l))
 amount_of (Interfund m) = Some (pos m.amount)
+amount_of (Lease l) = Some (pos l.account.amount)
 amount_of _ = None
 
 abbrev pub amount_text : Option ℤ → List ℕ

@@ -7,6 +7,10 @@ use Rattle.cf_calls.specs.declared.acts.Act.TheVariants.{Close}
 use Rattle.cf_calls.specs.declared.acts.Period.TheVariants as period
 use Rattle.cf_calls.specs.declared.entry.Entry.{Entry}
 use Rattle.cf_chart.specs.Plan.{Plan}
+use Rattle.cf_chart.specs.declared.rows.Fund.{Fund}
+use Rattle.cf_chart.specs.declared.rows.LaterLevel.{LaterLevel}
+use Rattle.cf_chart.specs.declared.rows.Level.{Level}
+use Rattle.cf_chart.specs.declared.rows.Level.TheVariants as level
 
 -- a fact with its name, on a line
 unfoldable pub fact : List ℕ → List ℕ → List ℕ
@@ -28,8 +32,25 @@ chart_counts plan =
     ∷ (codes "funds", length plan.funds) ∷ (codes "departments", length plan.departments) ∷ (codes "objects", length plan.objects)
     ∷ (codes "sources", length plan.sources) ∷ (codes "lines", length plan.lines) ∷ (codes "desks", length plan.desks) ∷ []
 
+-- a level in the words of a chart
+abbrev pub level_word : Level → List ℕ
+level_word level.Department = codes "department"
+level_word level.Class = codes "class"
+level_word level.Object = codes "object"
+
+-- at which level a fund is controlled later, and from which fiscal year on
+abbrev pub later_text : ℕ → Option LaterLevel → List ℕ
+later_text fund None = []
+later_text fund (Some l) =
+    (codes "fund " ++ (decimal fund ++ codes " is controlled by "))
+    ++ (level_word l.level ++ (codes " from " ++ (decimal l.year ++ 10 ∷ [])))
+
+-- a line a fund that changes its level
+abbrev pub laters_text : List Fund → List ℕ
+laters_text funds = flat_map (λ f. later_text f.id f.later) funds
+
 abbrev pub chart_text : Plan → List ℕ
-chart_text plan = fact (codes "city") plan.city ++ counts_text (chart_counts plan)
+chart_text plan = fact (codes "city") plan.city ++ (counts_text (chart_counts plan) ++ laters_text plan.funds)
 
 -- ---- a journal
 

@@ -91,6 +91,7 @@ pub fn amount_of(on: Day, act: &Act) -> Option<i128>
         Act::Issue(issue) => Some(issue.amount as i128),
         Act::Leave(leave) => Some(leave_amount(leave) as i128),
         Act::Interfund(cash) => Some(cash.amount as i128),
+        Act::Lease(lease) => Some(lease.account.amount as i128),
         Act::Withdraw(_)
         | Act::CancelOrder(_)
         | Act::VoidVoucher(_)

@@ -5,8 +5,9 @@ ghost use Rattle.std.specs.Option.{option_copied};
 ghost use Rattle.cf_books.specs.Lines as spec;
 ghost use Rattle.cf_books.specs.Rows.{Adds};
 
+use crate::notices::put_between;
 use crate::rows::{decimal_text, put_row, writer, written};
-use cf_chart::{Chart, Department, Fund, Line, LinePart, Object};
+use cf_chart::{Chart, Department, Fund, LaterLevel, Line, LinePart, Object};
 use cf_members::parts::put_number;
 use csv::Writer;
 use std::alloc::{AllocError, Global};
@@ -68,6 +69,36 @@ fn part_name(chart: &Chart, part: LinePart) -> &str
     }
 }
 
+fn later_of(fund: Option<&Fund>) -> Option<LaterLevel>
+    ensures { result ≡ spec.later_of (option_copied fund.entry) }
+{
+    fund?.later
+}
+
+/// Appends the fiscal years that a line is of, where its fund has a later level.
+fn put_years(out: &mut Vec<u8>, is_later: bool, later: Option<LaterLevel>) -> Result<(), AllocError>
+    ensures { OnOk result (out.new.items ≡ out.old.items ++ spec.years_text is_later later) }
+{
+    match later {
+        None => Ok(()),
+        Some(later) if is_later => put_between(out, " (from ", later.year as u64, ")"),
+        Some(later) => put_between(out, " (through ", later.year.saturating_sub(1) as u64, ")"),
+    }
+}
+
+/// Which part of its department's objects a line has, and its fiscal years where its fund has a later level.
+fn part_and_years(
+    alloc: Global,
+    line: &Line,
+    later: Option<LaterLevel>,
+) -> Result<Vec<u8>, AllocError>
+    ensures { IfOk result (λ t. t.items ≡ spec.part_and_years line.now later) }
+{
+    let mut text = part_text(alloc, line.part)?;
+    put_years(&mut text, line.later, later)?;
+    Ok(text)
+}
+
 /// Writes the row of a control line.
 fn put_line(
     alloc: Global,
@@ -81,7 +112,7 @@ fn put_line(
     let at = decimal_text(alloc, number)?;
     let fund = decimal_text(alloc, line.fund as u64)?;
     let dept = decimal_text(alloc, line.dept as u64)?;
-    let part = part_text(alloc, line.part)?;
+    let part = part_and_years(alloc, line, later_of(chart.fund(line.fund)))?;
     let fields = [
         at.as_slice(),
         fund.as_slice(),

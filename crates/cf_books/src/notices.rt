@@ -18,7 +18,7 @@ fn put_text(out: &mut Vec<u8>, text: &str) -> Result<(), AllocError>
 }
 
 /// Appends a text, a number and a text.
-fn put_between(out: &mut Vec<u8>, before: &str, n: u64, after: &str) -> Result<(), AllocError>
+pub fn put_between(out: &mut Vec<u8>, before: &str, n: u64, after: &str) -> Result<(), AllocError>
     ensures { OnOk result (out.new.items ≡ out.old.items ++ (before.now ++ (decimal n ++ after.now))) }
 {
     out.extend_from_slice(before.as_bytes())?;

@@ -3,10 +3,11 @@
 ghost use Rattle.std.specs.Prelude.{◌≡◌, ◌++◌, codes, map, OnOk};
 ghost use Rattle.cf_books.specs.Summary as spec;
 
+use crate::notices::put_between;
 use cf_base::day_text;
 use cf_calls::acts::Period;
 use cf_calls::{Act, Entry};
-use cf_chart::Chart;
+use cf_chart::{Chart, Fund, LaterLevel, Level};
 use cf_members::parts::put_number;
 use std::alloc::AllocError;
 
@@ -44,10 +45,46 @@ fn put_counts(out: &mut Vec<u8>, facts: &[(&str, u64)]) -> Result<(), AllocError
     Ok(())
 }
 
+/// A level in the words of a chart.
+fn level_word(level: Level) -> &'static str
+    ensures { result.now ≡ spec.level_word level }
+{
+    match level {
+        Level::Department => "department",
+        Level::Class => "class",
+        Level::Object => "object",
+    }
+}
+
+/// Appends at which level a fund is controlled later, and from which fiscal year on.
+fn put_later(out: &mut Vec<u8>, fund: u16, later: Option<LaterLevel>) -> Result<(), AllocError>
+    ensures { OnOk result (out.new.items ≡ out.old.items ++ spec.later_text fund later) }
+{
+    match later {
+        None => Ok(()),
+        Some(later) => {
+            put_between(out, "fund ", fund as u64, " is controlled by ")?;
+            out.extend_from_slice(level_word(later.level).as_bytes())?;
+            put_between(out, " from ", later.year as u64, "\n")
+        }
+    }
+}
+
+/// Appends a line a fund that changes its level.
+fn put_laters(out: &mut Vec<u8>, funds: &[Fund]) -> Result<(), AllocError>
+    ensures { OnOk result (out.new.items ≡ out.old.items ++ spec.laters_text funds.now) }
+{
+    for fund in funds {
+        put_later(out, fund.id, fund.later)?;
+    }
+    Ok(())
+}
+
 /// Appends what a chart has.
 pub fn put_chart(out: &mut Vec<u8>, chart: &Chart) -> Result<(), AllocError>
     ensures { OnOk result (out.new.items ≡ out.old.items ++ spec.chart_text chart.now) }
 {
+    let funds = chart.funds();
     put_fact(out, "city", chart.city().as_bytes())?;
     put_counts(
         out,
@@ -55,14 +92,15 @@ pub fn put_chart(out: &mut Vec<u8>, chart: &Chart) -> Result<(), AllocError>
             ("first fiscal year", chart.first_year() as u64),
             ("first month", chart.first_month() as u64),
             ("functions", chart.functions().len() as u64),
-            ("funds", chart.funds().len() as u64),
+            ("funds", funds.len() as u64),
             ("departments", chart.depts().len() as u64),
             ("objects", chart.objects().len() as u64),
             ("sources", chart.sources().len() as u64),
             ("lines", chart.lines().len() as u64),
             ("desks", chart.desks().len() as u64),
         ],
-    )
+    )?;
+    put_laters(out, funds)
 }
 
 /// Whether an act closes a month, or a fiscal year.

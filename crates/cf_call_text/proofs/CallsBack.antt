@@ -2,7 +2,7 @@
 use Rattle.std.proofs.Common.{◌≡◌, ℕ, ◌+◌, ◌*◌, Bool, true, false, nat_lt, sum, List, length, Option, Some, None, Ok, lt-ltb, le-leb, ne_eqb, eq-eqb}
 use Rattle.cf_base.specs.Calendar.{day_of_text, day_text}
 use Rattle.cf_calls.specs.declared.acts.Act.{Act}
-use Rattle.cf_calls.specs.declared.acts.Act.TheVariants.{Adopt, Amend, Transfer, Requisition, Withdraw, Order, ChangeOrder, CancelOrder, Voucher, VoidVoucher, Pay, Bill, Collect, Receive, WriteOff, Asset, Issue, PayDue, Leave, Interfund, Close}
+use Rattle.cf_calls.specs.declared.acts.Act.TheVariants.{Adopt, Amend, Transfer, Requisition, Withdraw, Order, ChangeOrder, CancelOrder, Voucher, VoidVoucher, Pay, Bill, Collect, Receive, WriteOff, Asset, Issue, PayDue, Leave, Interfund, Close, Lease}
 use Rattle.cf_calls.specs.declared.acts.Adoption.{Adoption}
 use Rattle.cf_calls.specs.declared.acts.Amendment.{Amendment}
 use Rattle.cf_calls.specs.declared.acts.LineTransfer.{LineTransfer}
@@ -17,6 +17,7 @@ use Rattle.cf_calls.specs.declared.acts.BondIssue.{BondIssue}
 use Rattle.cf_calls.specs.declared.acts.DebtPayment.{DebtPayment}
 use Rattle.cf_calls.specs.declared.acts.LeaveAmount.{LeaveAmount}
 use Rattle.cf_calls.specs.declared.acts.LeaveMaturity.{LeaveMaturity}
+use Rattle.cf_calls.specs.declared.acts.NewLease.{NewLease}
 use Rattle.cf_calls.specs.declared.items.SourceAmount.{SourceAmount}
 use Rattle.cf_calls.specs.declared.items.AccountItem.{AccountItem}
 use Rattle.cf_calls.specs.declared.items.VoucherItem.{VoucherItem}
@@ -166,6 +167,10 @@ close_year-back : (c : Change) (y : ℕ) (after : Option ℕ) → IsFront c → 
 close_year-back c y None f form fits = rw (f.desk, f.key, f.on, le-leb 1971 y form.from, le-leb y 2199 form.to)
 close_year-back c y (Some n) f form fits = rw (f.desk, f.key, f.on, le-leb 1971 y form.from, le-leb y 2199 form.to)
 
+lease-back : (c : Change) (l : NewLease) (after : Option ℕ) → IsFront c → IsActInForm c.on (Lease l) → ActFits (Lease l) → IsBack c (Lease l) after
+lease-back c l None f form fits = rw (f.desk, f.key, f.on, le-leb c.on.day 28 form.schedule.day, lt-ltb l.vendor 4294967296 fits.0, lt-ltb l.account.fund 65536 fits.1.0, lt-ltb l.account.dept 65536 fits.1.1, lt-ltb l.account.object 65536 fits.1.2, lt-ltb l.rate_bp 65536 fits.2, le-leb l.rate_bp 10000 form.schedule.rate, lt-ltb l.every 65536 fits.3, form.schedule.every, items.principals-back l.principals fits.4 form.schedule.principals, eq-eqb (sum l.principals) l.account.amount form.schedule.total, le-leb (month_number c.on.year c.on.month + l.every * length l.principals) (month_number 2199 12) form.schedule.last_due, lt-ltb 12 (l.every * length l.principals) form.term)
+lease-back c l (Some n) f form fits = rw (f.desk, f.key, f.on, le-leb c.on.day 28 form.schedule.day, lt-ltb l.vendor 4294967296 fits.0, lt-ltb l.account.fund 65536 fits.1.0, lt-ltb l.account.dept 65536 fits.1.1, lt-ltb l.account.object 65536 fits.1.2, lt-ltb l.rate_bp 65536 fits.2, le-leb l.rate_bp 10000 form.schedule.rate, lt-ltb l.every 65536 fits.3, form.schedule.every, items.principals-back l.principals fits.4 form.schedule.principals, eq-eqb (sum l.principals) l.account.amount form.schedule.total, le-leb (month_number c.on.year c.on.month + l.every * length l.principals) (month_number 2199 12) form.schedule.last_due, lt-ltb 12 (l.every * length l.principals) form.term)
+
 -- ---- any change
 
 order-back : (c : Change) (v : ℕ) (r : Option ℕ) (xs : List AccountItem) (after : Option ℕ) → IsFront c
@@ -210,6 +215,7 @@ act-back c (Leave (Mature m)) after f form fits = mature-back c m after f form f
 act-back c (Interfund m) after f form fits = interfund-back c m.what m.from m.to m.amount after f form fits
 act-back c (Close (period.Month m)) after f form fits = close_month-back c m after f form fits
 act-back c (Close (period.Year y)) after f form fits = close_year-back c y after f form fits
+act-back c (Lease l) after f form fits = lease-back c l after f form fits
 
 pub object_call_of-call_data : (c : Change) → IsChangeInForm c → ChangeFits c → object_call_of (sorted (call_data c)) ≡ Ok (call.Change c)
 object_call_of-call_data c form fits =

@@ -3,7 +3,7 @@ use Rattle.std.proofs.Common.{◌≡◌, ℕ, ◌^◌, ◌&&◌, Bool, true, fal
 use Rattle.std.specs.List.{All, list_all}
 use Rattle.serde_json.specs.Data.{Data}
 use Rattle.cf_calls.specs.declared.acts.Act.{Act}
-use Rattle.cf_calls.specs.declared.acts.Act.TheVariants.{Adopt, Amend, Transfer, Requisition, Withdraw, Order, ChangeOrder, CancelOrder, Voucher, VoidVoucher, Pay, Bill, Collect, Receive, WriteOff, Asset, Issue, PayDue, Leave, Interfund, Close}
+use Rattle.cf_calls.specs.declared.acts.Act.TheVariants.{Adopt, Amend, Transfer, Requisition, Withdraw, Order, ChangeOrder, CancelOrder, Voucher, VoidVoucher, Pay, Bill, Collect, Receive, WriteOff, Asset, Issue, PayDue, Leave, Interfund, Close, Lease}
 use Rattle.cf_calls.specs.declared.items.AccountItem.{AccountItem}
 use Rattle.cf_calls.specs.declared.items.VoucherItem.{VoucherItem}
 use Rattle.cf_base.specs.declared.calendar.Day.{Day}
@@ -69,6 +69,7 @@ own-short on (Leave (Mature m)) form fits = rw (lt-ltb m.fund (2 ^ 64) (omega ar
 own-short on (Interfund m) form fits = interfund-short m.what m.from m.to m.amount fits.0 fits.1 fits.2
 own-short on (Close (period.Month m)) form fits = rw (month_ascii m)
 own-short on (Close (period.Year y)) form fits = rw (lt-ltb y (2 ^ 64) (omega (arith, form.to)))
+own-short on (Lease l) form fits = rw (lt-ltb l.vendor (2 ^ 64) (omega arith), lt-ltb l.account.fund (2 ^ 64) (omega arith), lt-ltb l.account.dept (2 ^ 64) (omega arith), lt-ltb l.account.object (2 ^ 64) (omega arith), lt-ltb l.account.amount (2 ^ 64) fits.1.3, lt-ltb l.rate_bp (2 ^ 64) (omega arith), lt-ltb l.every (2 ^ 64) (omega arith), items.items-short count IsN64 items.number-short l.principals fits.4)
 
 key_byte-ascii : (b : ℕ) → is_key_byte b ≡ true → nat_lt b 128 ≡ true
 key_byte-ascii b h = let p = and_parts (nat_le 33 b) (nat_le b 126) h in lt-ltb b 128 (omega (arith, leb-true b 126 p.1))
@@ -99,6 +100,7 @@ word-ascii (PayDue x) = refl
 word-ascii (Leave x) = refl
 word-ascii (Interfund x) = refl
 word-ascii (Close x) = refl
+word-ascii (Lease x) = refl
 
 first-short : (c : Change) → IsN16 c.desk → is_key c.key ≡ true → IsShort (first_fields c)
 first-short c desk key =

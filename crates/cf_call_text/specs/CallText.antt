@@ -5,7 +5,7 @@ use Rattle.json.specs.Print.{quoted}
 use Rattle.serde_json.specs.Data.{Data, boolean, string}
 use Rattle.serde_json.specs.Written.{comma_if}
 use Rattle.cf_calls.specs.declared.acts.Act.{Act}
-use Rattle.cf_calls.specs.declared.acts.Act.TheVariants.{Adopt, Amend, Transfer, Requisition, Withdraw, Order, ChangeOrder, CancelOrder, Voucher, VoidVoucher, Pay, Bill, Collect, Receive, WriteOff, Asset, Issue, PayDue, Leave, Interfund, Close}
+use Rattle.cf_calls.specs.declared.acts.Act.TheVariants.{Adopt, Amend, Transfer, Requisition, Withdraw, Order, ChangeOrder, CancelOrder, Voucher, VoidVoucher, Pay, Bill, Collect, Receive, WriteOff, Asset, Issue, PayDue, Leave, Interfund, Close, Lease}
 use Rattle.cf_calls.specs.declared.acts.Adoption.{Adoption}
 use Rattle.cf_calls.specs.declared.acts.Amendment.{Amendment}
 use Rattle.cf_calls.specs.declared.acts.LineTransfer.{LineTransfer}
@@ -25,6 +25,7 @@ use Rattle.cf_calls.specs.declared.acts.LeaveAct.TheVariants.{Earn, Use, Mature}
 use Rattle.cf_calls.specs.declared.acts.LeaveAmount.{LeaveAmount}
 use Rattle.cf_calls.specs.declared.acts.LeaveMaturity.{LeaveMaturity}
 use Rattle.cf_calls.specs.declared.acts.FundMove.{FundMove}
+use Rattle.cf_calls.specs.declared.acts.NewLease.{NewLease}
 use Rattle.cf_calls.specs.declared.acts.FundMoveKind.{FundMoveKind}
 use Rattle.cf_calls.specs.declared.acts.FundMoveKind.TheVariants as move
 use Rattle.cf_calls.specs.declared.acts.Period.{Period}
@@ -32,7 +33,7 @@ use Rattle.cf_calls.specs.declared.acts.Period.TheVariants as period
 use Rattle.cf_calls.specs.declared.items.SourceAmount.{SourceAmount}
 use Rattle.cf_calls.specs.declared.call.Change.{Change}
 use Rattle.cf_members.specs.Objects.{fields, count, day, month, text_of, list_of}
-use Rattle.cf_call_text.specs.Values.{signed, line_amount_data, source_amount_data, account_item_data, voucher_item_data}
+use Rattle.cf_call_text.specs.Values.{signed, line_amount_data, source_amount_data, account_fields, account_item_data, voucher_item_data}
 
 -- ---- the fields of each call
 
@@ -117,6 +118,9 @@ abbrev pub period_fields : Period → List (List ℕ × Data)
 period_fields (period.Month m) = (codes "what", string (codes "month")) ∷ (codes "month", month m) ∷ []
 period_fields (period.Year y) = (codes "what", string (codes "year")) ∷ (codes "year", count y) ∷ []
 
+abbrev pub lease_fields : NewLease → List (List ℕ × Data)
+lease_fields l = (codes "vendor", count l.vendor) ∷ (account_fields l.account ++ (codes "rate_bp", count l.rate_bp) ∷ (codes "every", count l.every) ∷ (codes "principals", list_of count l.principals) ∷ [])
+
 -- the fields of an act, beside those that every changing call has
 abbrev pub own_fields : Act → List (List ℕ × Data)
 own_fields (Adopt a) = adoption_fields a
@@ -140,6 +144,7 @@ own_fields (PayDue p) = debt_payment_fields p
 own_fields (Leave l) = leave_fields l
 own_fields (Interfund m) = fund_move_fields m
 own_fields (Close p) = period_fields p
+own_fields (Lease l) = lease_fields l
 
 -- the word of an act's call
 abbrev pub call_word : Act → List ℕ
@@ -164,6 +169,7 @@ call_word (PayDue p) = codes "pay_due"
 call_word (Leave l) = codes "leave"
 call_word (Interfund m) = codes "interfund"
 call_word (Close p) = codes "close"
+call_word (Lease l) = codes "lease"
 
 -- ---- the call
 

@@ -3,7 +3,7 @@ use Rattle.std.specs.Prelude.{ℕ, ◌<◌, ◌^◌, Option, Some, None, FitsSig
 use Rattle.std.specs.Int.{w64}
 use Rattle.std.specs.List.{All}
 use Rattle.cf_calls.specs.declared.acts.Act.{Act}
-use Rattle.cf_calls.specs.declared.acts.Act.TheVariants.{Adopt, Amend, Transfer, Requisition, Withdraw, Order, ChangeOrder, CancelOrder, Voucher, VoidVoucher, Pay, Bill, Collect, Receive, WriteOff, Asset, Issue, PayDue, Leave, Interfund, Close}
+use Rattle.cf_calls.specs.declared.acts.Act.TheVariants.{Adopt, Amend, Transfer, Requisition, Withdraw, Order, ChangeOrder, CancelOrder, Voucher, VoidVoucher, Pay, Bill, Collect, Receive, WriteOff, Asset, Issue, PayDue, Leave, Interfund, Close, Lease}
 use Rattle.cf_calls.specs.declared.acts.AssetAct.{AssetAct}
 use Rattle.cf_calls.specs.declared.acts.AssetAct.TheVariants.{Donate, Dispose}
 use Rattle.cf_calls.specs.declared.acts.LeaveAct.{LeaveAct}
@@ -86,6 +86,7 @@ ActFits (PayDue p) = IsN32 p.bond × IsN16 p.fund × IsN16 p.dept × IsN16 p.pri
 ActFits (Leave l) = LeaveFits l
 ActFits (Interfund m) = IsN16 m.from × IsN16 m.to × IsN64 m.amount
 ActFits (Close p) = Unit {0}
+ActFits (Lease l) = IsN32 l.vendor × AccountFits l.account × IsN16 l.rate_bp × IsN16 l.every × All IsN64 l.principals
 
 pub record ChangeFits (c : Change) : Type 0 where
   pub desk : IsN16 c.desk

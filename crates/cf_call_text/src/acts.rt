@@ -10,13 +10,13 @@ ghost use Rattle.cf_call_text.specs.CallText as spec;
 ghost use Rattle.cf_call_text.specs.CallText.{fields_text};
 ghost use Rattle.cf_call_text.specs.Fits.{ActFits, AssetFits, LeaveFits, IsN16, IsN32, IsN64, HasFit};
 
-use crate::items::{Item, put_list};
+use crate::items::{Item, put_account, put_list};
 use crate::pieces::{put_fields, put_name, put_signed_field};
 use cf_calls::Act;
 use cf_calls::acts::{
     Adoption, Amendment, AssetAct, BillAmount, BondIssue, DebtPayment, Disposal, Donation,
-    FundMove, FundMoveKind, LeaveAct, LeaveAmount, LeaveMaturity, LineTransfer, NewBill, NewOrder,
-    NewRequisition, NewVoucher, OrderChange, Payment, Period,
+    FundMove, FundMoveKind, LeaveAct, LeaveAmount, LeaveMaturity, LineTransfer, NewBill, NewLease,
+    NewOrder, NewRequisition, NewVoucher, OrderChange, Payment, Period,
 };
 use cf_calls::items::SourceAmount;
 use cf_members::parts::Part::{Number, True, Word, YearMonth};
@@ -404,6 +404,24 @@ fn put_period(out: &mut Vec<u8>, period: &Period) -> Result<(), AllocError>
     }
 }
 
+/// Appends the fields of a lease.
+fn put_lease(out: &mut Vec<u8>, lease: &NewLease) -> Result<(), AllocError>
+    ensures text { OnOk result (out.new.items ≡ out.old.items ++ fields_text true (spec.lease_fields lease.now)) }
+    ensures fits { OnOk result (ActFits (act.Lease lease.now)) }
+{
+    put_number_field(out, "vendor", lease.vendor as u64)?;
+    put_account(out, true, &lease.account)?;
+    put_fields(
+        out,
+        true,
+        &[
+            ("rate_bp", Number(lease.rate_bp as u64)),
+            ("every", Number(lease.every as u64)),
+        ],
+    )?;
+    put_list_field(out, "principals", lease.principals.as_slice())
+}
+
 /// Appends the fields of an act.
 pub fn put_own(out: &mut Vec<u8>, act: &Act) -> Result<(), AllocError>
     ensures text { OnOk result (out.new.items ≡ out.old.items ++ fields_text true (spec.own_fields act.now)) }
@@ -431,5 +449,6 @@ pub fn put_own(out: &mut Vec<u8>, act: &Act) -> Result<(), AllocError>
         Act::Leave(leave) => put_leave(out, leave),
         Act::Interfund(cash) => put_fund_move(out, cash),
         Act::Close(period) => put_period(out, period),
+        Act::Lease(lease) => put_lease(out, lease),
     }
 }

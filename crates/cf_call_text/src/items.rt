@@ -84,9 +84,9 @@ impl Item for AccountItem {
     }
 }
 
-/// Appends the fields of an account with its amount, which stand first in their object.
-fn put_account(out: &mut Vec<u8>, account: &AccountItem) -> Result<(), AllocError>
-    ensures text { OnOk result (out.new.items ≡ out.old.items ++ fields_text false (spec.account_fields account.now)) }
+/// Appends the fields of an account with its amount, behind a comma where others stand before them in their object.
+pub fn put_account(out: &mut Vec<u8>, later: bool, account: &AccountItem) -> Result<(), AllocError>
+    ensures text { OnOk result (out.new.items ≡ out.old.items ++ fields_text later (spec.account_fields account.now)) }
     ensures fits { OnOk result (AccountFits account.now) }
 {
     let AccountItem {
@@ -97,7 +97,7 @@ fn put_account(out: &mut Vec<u8>, account: &AccountItem) -> Result<(), AllocErro
     } = account;
     put_fields(
         out,
-        false,
+        later,
         &[
             ("fund", Number(*fund as u64)),
             ("dept", Number(*dept as u64)),
@@ -147,7 +147,7 @@ impl Item for VoucherItem {
 
     fn put(&self, out: &mut Vec<u8>) -> Result<(), AllocError> {
         out.push(b'{')?;
-        put_account(out, &self.account)?;
+        put_account(out, false, &self.account)?;
         put_charge(out, self.charge)?;
         out.push(b'}')?;
         Ok(())

@@ -43,6 +43,7 @@ pub fn call_word(act: &Act) -> &'static str
         Act::Leave(_) => "leave",
         Act::Interfund(_) => "interfund",
         Act::Close(_) => "close",
+        Act::Lease(_) => "lease",
     }
 }
 

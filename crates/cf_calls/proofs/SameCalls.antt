@@ -7,10 +7,11 @@ use Rattle.std.specs.Cmp.Lexicographic.{pointwise}
 use Rattle.std.specs.Ordering.{int_eq}
 use Rattle.cf_base.specs.declared.calendar.Day.{Day}
 use Rattle.cf_calls.specs.declared.acts.Act.{Act}
-use Rattle.cf_calls.specs.declared.acts.Act.TheVariants.{Adopt, Amend, Transfer, Requisition, Withdraw, Order, ChangeOrder, CancelOrder, Voucher, VoidVoucher, Pay, Bill, Collect, Receive, WriteOff, Asset, Issue, PayDue, Leave, Interfund, Close}
+use Rattle.cf_calls.specs.declared.acts.Act.TheVariants.{Adopt, Amend, Transfer, Requisition, Withdraw, Order, ChangeOrder, CancelOrder, Voucher, VoidVoucher, Pay, Bill, Collect, Receive, WriteOff, Asset, Issue, PayDue, Leave, Interfund, Close, Lease}
 use Rattle.cf_calls.specs.declared.acts.Adoption.{Adoption}
 use Rattle.cf_calls.specs.declared.acts.Amendment.{Amendment}
 use Rattle.cf_calls.specs.declared.acts.LineTransfer.{LineTransfer}
+use Rattle.cf_calls.specs.declared.acts.NewLease.{NewLease}
 use Rattle.cf_calls.specs.declared.acts.NewOrder.{NewOrder}
 use Rattle.cf_calls.specs.declared.acts.OrderChange.{OrderChange}
 use Rattle.cf_calls.specs.declared.acts.NewVoucher.{NewVoucher}
@@ -37,7 +38,7 @@ use Rattle.cf_calls.specs.declared.items.Charge.{Charge}
 use Rattle.cf_calls.specs.declared.items.Charge.TheVariants.{Direct, OnOrder}
 use Rattle.cf_calls.specs.declared.items.Liquidation.{Liquidation}
 use Rattle.cf_calls.specs.declared.items.Liquidation.TheVariants.{Lesser, Recorded, Final}
-use Rattle.cf_calls.specs.Same.{is_line_amount, is_source_amount, is_account_item, is_liquidation, is_charge, is_voucher_item, same_option, same_flag, same_adoption, same_amendment, same_transfer, same_purchase, same_order_change, same_invoice, same_levy, same_bill_amount, same_asset_act, same_issue, same_debt_payment, same_leave_amount, same_leave_act, same_move_kind, same_fund_move, same_period, same_act, same_day, same_call}
+use Rattle.cf_calls.specs.Same.{is_line_amount, is_source_amount, is_account_item, is_liquidation, is_charge, is_voucher_item, same_option, same_flag, same_adoption, same_amendment, same_transfer, same_purchase, same_order_change, same_invoice, same_levy, same_bill_amount, same_asset_act, same_issue, same_debt_payment, same_leave_amount, same_leave_act, same_move_kind, same_fund_move, same_period, same_lease, same_act, same_day, same_call}
 
 -- ---- tests, one after another
 
@@ -318,6 +319,14 @@ period-same : (a : Period) → same_period a a ≡ true
 period-same (period.Month a) = and_from _ _ (number-same a.year) (number-same a.month)
 period-same (period.Year a) = number-same a
 
+lease_is : (a b : NewLease) → same_lease a b ≡ true → a ≡ b
+lease_is a b e =
+    let p = all5 (a.vendor == b.vendor) (is_account_item a.account b.account) (a.rate_bp == b.rate_bp) (a.every == b.every) (pointwise nat_eq a.principals b.principals) e in
+    λ i. record { vendor = number a.vendor b.vendor p.0 i; account = account_item_is a.account b.account p.1 i; rate_bp = number a.rate_bp b.rate_bp p.2 i; every = number a.every b.every p.3 i; principals = numbers a.principals b.principals p.4 i }
+
+lease-same : (a : NewLease) → same_lease a a ≡ true
+lease-same a = and_from _ _ (and_from _ _ (and_from _ _ (and_from _ _ (number-same a.vendor) (account_item-same a.account)) (number-same a.rate_bp)) (number-same a.every)) (numbers-same a.principals)
+
 act_is : (a b : Act) → same_act a b ≡ true → a ≡ b
 act_is (Adopt a) (Adopt b) e = ap Adopt (adoption_is a b e)
 act_is (Amend a) (Amend b) e = ap Amend (amendment_is a b e)
@@ -340,6 +349,7 @@ act_is (PayDue a) (PayDue b) e = ap PayDue (debt_payment_is a b e)
 act_is (Leave a) (Leave b) e = ap Leave (leave_act_is a b e)
 act_is (Interfund a) (Interfund b) e = ap Interfund (fund_move_is a b e)
 act_is (Close a) (Close b) e = ap Close (period_is a b e)
+act_is (Lease a) (Lease b) e = ap Lease (lease_is a b e)
 act_is _ _ e = cc
 
 act-same : (a : Act) → same_act a a ≡ true
@@ -364,6 +374,7 @@ act-same (PayDue a) = debt_payment-same a
 act-same (Leave a) = leave_act-same a
 act-same (Interfund a) = fund_move-same a
 act-same (Close a) = period-same a
+act-same (Lease a) = lease-same a
 
 -- ---- changes
 

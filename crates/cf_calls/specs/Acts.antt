@@ -1,12 +1,13 @@
 -- Readings of an act: what the rules and sums ask of it, without going through its kinds.
-use Rattle.std.specs.Prelude.{ℕ, ◌+◌, Bool, true, false, if◌then◌else◌, ◌==◌, ◌||◌, ◌&&◌, List, [], ◌∷◌, Option, Some, None, ℤ, pos}
+use Rattle.std.specs.Prelude.{ℕ, ◌*◌, Bool, false, ◌==◌, ◌&&◌, List, [], length, Option, Some, None}
 use Rattle.cf_base.specs.declared.calendar.Month.{Month}
 use Rattle.cf_calls.specs.declared.acts.Act.{Act}
-use Rattle.cf_calls.specs.declared.acts.Act.TheVariants.{Adopt, Amend, Transfer, Requisition, Withdraw, Order, ChangeOrder, CancelOrder, Voucher, VoidVoucher, Pay, Bill, Collect, Receive, WriteOff, Asset, Issue, PayDue, Leave, Interfund, Close}
+use Rattle.cf_calls.specs.declared.acts.Act.TheVariants.{Adopt, Amend, Transfer, Requisition, Withdraw, Order, ChangeOrder, CancelOrder, Voucher, VoidVoucher, Pay, Bill, Collect, Receive, WriteOff, Asset, Issue, PayDue, Leave, Interfund, Close, Lease}
 use Rattle.cf_calls.specs.declared.acts.Adoption.{Adoption}
 use Rattle.cf_calls.specs.declared.acts.Amendment.{Amendment}
+use Rattle.cf_calls.specs.declared.acts.BondIssue.{BondIssue}
 use Rattle.cf_calls.specs.declared.acts.LineTransfer.{LineTransfer}
-use Rattle.cf_calls.specs.declared.acts.Period.{Period}
+use Rattle.cf_calls.specs.declared.acts.NewLease.{NewLease}
 use Rattle.cf_calls.specs.declared.acts.Period.TheVariants as period
 use Rattle.cf_calls.specs.declared.items.AccountItem.{AccountItem}
 use Rattle.cf_calls.specs.declared.items.VoucherItem.{VoucherItem}
@@ -36,6 +37,7 @@ role_of (PayDue a) = role.Treasury
 role_of (Leave a) = role.Payroll
 role_of (Interfund a) = role.Treasury
 role_of (Close a) = role.Controller
+role_of (Lease a) = role.Treasury
 
 -- the adoption, the amendment or the transfer that an act is
 abbrev pub adoption_of : Act → Option Adoption
@@ -81,3 +83,11 @@ closes_month m _ = false
 abbrev pub closes_year : ℕ → Act → Bool
 closes_year y (Close (period.Year n)) = y == n
 closes_year y _ = false
+
+-- a lease's amount, rate and schedule, as those of a bond (GASB Statement 87: a lease is a financing)
+abbrev pub schedule_of : NewLease → BondIssue
+schedule_of l = record { fund = l.account.fund; amount = l.account.amount; rate_bp = l.rate_bp; every = l.every; principals = l.principals }
+
+-- the months that a lease is for
+abbrev pub term_of : NewLease → ℕ
+term_of l = l.every * length l.principals

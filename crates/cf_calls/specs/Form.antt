@@ -1,5 +1,5 @@
 -- What it means that a call is in form: the types, ranges and rules that are tested before the office is asked.
-use Rattle.std.specs.Prelude.{◌≡◌, ◌≢◌, ℕ, ◌+◌, ◌*◌, ◌<◌, ◌≤◌, Bool, true, false, not, ◌==◌, ◌||◌, ◌&&◌, nat_le, List, [], ◌∷◌, length, sum, Option, Some, None, ℤ, negsuc, int_lt, unsigned_abs}
+use Rattle.std.specs.Prelude.{◌≡◌, ◌≢◌, ℕ, ◌+◌, ◌*◌, ◌<◌, ◌≤◌, Bool, true, false, not, ◌==◌, ◌||◌, ◌&&◌, nat_le, List, [], ◌∷◌, length, sum, None, ℤ, negsuc, int_lt, unsigned_abs}
 use Rattle.std.specs.List.{list_any, list_all}
 use Rattle.cf_base.specs.declared.calendar.Day.{Day}
 use Rattle.cf_base.specs.declared.calendar.Month.{Month}
@@ -7,9 +7,11 @@ use Rattle.cf_base.specs.Calendar.{is_day}
 use Rattle.cf_base.specs.Money.{is_amount}
 use Rattle.cf_base.specs.Limits.{last_year}
 use Rattle.cf_calls.specs.declared.acts.Act.{Act}
-use Rattle.cf_calls.specs.declared.acts.Act.TheVariants.{Adopt, Amend, Transfer, Requisition, Withdraw, Order, ChangeOrder, CancelOrder, Voucher, VoidVoucher, Pay, Bill, Collect, Receive, WriteOff, Asset, Issue, PayDue, Leave, Interfund, Close}
+use Rattle.cf_calls.specs.declared.acts.Act.TheVariants.{Adopt, Amend, Transfer, Requisition, Order, ChangeOrder, Voucher, Pay, Bill, Collect, Receive, WriteOff, Asset, Issue, PayDue, Leave, Interfund, Close, Lease}
 use Rattle.cf_calls.specs.declared.acts.Adoption.{Adoption}
 use Rattle.cf_calls.specs.declared.acts.BondIssue.{BondIssue}
+use Rattle.cf_calls.specs.declared.acts.NewLease.{NewLease}
+use Rattle.cf_calls.specs.Acts.{schedule_of, term_of}
 use Rattle.cf_calls.specs.declared.acts.Period.{Period}
 use Rattle.cf_calls.specs.declared.acts.Period.TheVariants as period
 use Rattle.cf_calls.specs.declared.items.LineAmount.{LineAmount}
@@ -18,14 +20,12 @@ use Rattle.cf_calls.specs.declared.items.VoucherItem.{VoucherItem}
 use Rattle.cf_calls.specs.declared.items.Charge.{Charge}
 use Rattle.cf_calls.specs.declared.items.Charge.TheVariants.{Direct, OnOrder}
 use Rattle.cf_calls.specs.declared.items.Liquidation.{Liquidation}
-use Rattle.cf_calls.specs.declared.items.Liquidation.TheVariants.{Lesser, Recorded, Final}
+use Rattle.cf_calls.specs.declared.items.Liquidation.TheVariants.{Recorded}
 use Rattle.cf_calls.specs.declared.call.Call.{Call}
 use Rattle.cf_calls.specs.declared.call.Call.TheVariants as call
 use Rattle.cf_calls.specs.declared.call.Change.{Change}
 use Rattle.cf_calls.specs.declared.call.Look.{Look}
-use Rattle.cf_calls.specs.declared.acts.AssetAct.{AssetAct}
 use Rattle.cf_calls.specs.declared.acts.AssetAct.TheVariants.{Donate, Dispose}
-use Rattle.cf_calls.specs.declared.acts.LeaveAct.{LeaveAct}
 use Rattle.cf_calls.specs.declared.acts.LeaveAct.TheVariants.{Earn, Use, Mature}
 use Rattle.cf_calls.specs.declared.entry.Drawn.{Drawn}
 use Rattle.cf_calls.specs.declared.entry.Entry.{Entry}
@@ -108,6 +108,11 @@ pub record IsIssueForm (on : Day) (i : BondIssue) : Type 0 where
   pub total : sum i.principals ≡ i.amount
   pub last_due : month_number on.year on.month + i.every * length i.principals ≤ month_number last_year 12
 
+-- a lease's schedule is that of an issue, and its term is above 12 months (GASB Statement 87: a shorter lease is no lease liability)
+pub record IsLeaseForm (on : Day) (l : NewLease) : Type 0 where
+  pub schedule : IsIssueForm on (schedule_of l)
+  pub term : 12 < term_of l
+
 pub record IsVoucherForm (items : List VoucherItem) : Type 0 where
   pub count : IsCount 1 32 (length items)
   pub charges : list_all (λ i. is_charge_form i.charge) items ≡ true
@@ -130,6 +135,7 @@ IsActInForm on (Bill b) = IsYear b.levy_year
 IsActInForm on (Issue i) = IsIssueForm on i
 IsActInForm on (Interfund m) = m.from ≢ m.to
 IsActInForm on (Close p) = IsPeriodForm p
+IsActInForm on (Lease l) = IsLeaseForm on l
 IsActInForm on _ = Unit {0}
 
 -- a key has 1 to 40 bytes from 0x21 to 0x7E
@@ -182,6 +188,7 @@ IsWithinLimits (Leave (Earn a)) = is_amount a.amount ≡ true
 IsWithinLimits (Leave (Use a)) = is_amount a.amount ≡ true
 IsWithinLimits (Leave (Mature m)) = is_amount m.amount ≡ true
 IsWithinLimits (Interfund m) = is_amount m.amount ≡ true
+IsWithinLimits (Lease l) = (is_amount l.account.amount ≡ true) × (list_all is_most l.principals ≡ true)
 IsWithinLimits _ = Unit {0}
 
 -- a debt payment's number is at most 65,535
@@ -189,7 +196,7 @@ abbrev pub IsPaymentNumber : Act → Drawn → Type 0
 IsPaymentNumber (PayDue p) d = d.number < 65536
 IsPaymentNumber _ d = Unit {0}
 
--- which numbers an act draws: two for a voucher, none or one for the others
+-- which numbers an act draws: two for a voucher and a lease, none or one for the others
 abbrev pub IsDrawn : Act → Drawn → Type 0
 IsDrawn (Voucher v) d = Unit {0}
 IsDrawn (Requisition r) d = d.second ≡ 0
@@ -198,6 +205,7 @@ IsDrawn (Bill b) d = d.second ≡ 0
 IsDrawn (Asset (Donate a)) d = d.second ≡ 0
 IsDrawn (Issue i) d = d.second ≡ 0
 IsDrawn (PayDue p) d = d.second ≡ 0
+IsDrawn (Lease l) d = Unit {0}
 IsDrawn _ d = (d.number ≡ 0) × (d.second ≡ 0)
 
 -- an entry in form: its change is, has no `after` and keeps the limits, and its drawn numbers are those of its kind

@@ -1,5 +1,5 @@
--- The place of each refusal in the order of the rules.
-use Rattle.std.specs.Prelude.{ℕ}
+-- The place of each refusal in the order of the rules, and the refusal of a control line that has too little room.
+use Rattle.std.specs.Prelude.{ℕ, ℤ, pos, int_lt, Bool, if◌then◌else◌, ◌&&◌, Option, Some, None}
 use Rattle.cf_calls.specs.declared.refusal.Refusal.{Refusal}
 use Rattle.cf_calls.specs.declared.refusal.Refusal.TheVariants as refusal
 
@@ -29,3 +29,12 @@ number_of (refusal.DebtDue b d) = 22
 number_of (refusal.WindowOpen m) = 23
 number_of (refusal.Exceeds l a r) = 24
 number_of (refusal.CashShort f c a) = 25
+
+-- ---- room (GASB Codification 1700: budgetary control)
+
+abbrev pub exceeds : ℤ → ℤ → Bool
+exceeds asked room = int_lt (pos 0) asked && int_lt room asked
+
+-- the refusal of a line of which so much is asked, in cents
+abbrev pub overspends : ℕ → ℤ → ℤ → Option Refusal
+overspends line asked room = if exceeds asked room then Some (refusal.Exceeds line asked room) else None

@@ -1,14 +1,15 @@
 -- Whether two changes are the same call, `after` aside: the values of all fields, one after another.
-use Rattle.std.specs.Prelude.{ℕ, Bool, true, false, ◌==◌, ◌&&◌, nat_eq, List, Option, Some, None, ℤ}
+use Rattle.std.specs.Prelude.{ℕ, Bool, true, false, ◌==◌, ◌&&◌, nat_eq, List, Option, Some, None}
 use Rattle.std.specs.Cmp.Lexicographic.{pointwise}
 use Rattle.std.specs.Ordering.{int_eq}
 use Rattle.cf_base.specs.declared.calendar.Day.{Day}
 use Rattle.cf_base.specs.declared.calendar.Month.{Month}
 use Rattle.cf_calls.specs.declared.acts.Act.{Act}
-use Rattle.cf_calls.specs.declared.acts.Act.TheVariants.{Adopt, Amend, Transfer, Requisition, Withdraw, Order, ChangeOrder, CancelOrder, Voucher, VoidVoucher, Pay, Bill, Collect, Receive, WriteOff, Asset, Issue, PayDue, Leave, Interfund, Close}
+use Rattle.cf_calls.specs.declared.acts.Act.TheVariants.{Adopt, Amend, Transfer, Requisition, Withdraw, Order, ChangeOrder, CancelOrder, Voucher, VoidVoucher, Pay, Bill, Collect, Receive, WriteOff, Asset, Issue, PayDue, Leave, Interfund, Close, Lease}
 use Rattle.cf_calls.specs.declared.acts.Adoption.{Adoption}
 use Rattle.cf_calls.specs.declared.acts.Amendment.{Amendment}
 use Rattle.cf_calls.specs.declared.acts.LineTransfer.{LineTransfer}
+use Rattle.cf_calls.specs.declared.acts.NewLease.{NewLease}
 use Rattle.cf_calls.specs.declared.acts.NewOrder.{NewOrder}
 use Rattle.cf_calls.specs.declared.acts.OrderChange.{OrderChange}
 use Rattle.cf_calls.specs.declared.acts.NewVoucher.{NewVoucher}
@@ -131,6 +132,9 @@ same_period (period.Month a) (period.Month b) = (a.year == b.year) && (a.month =
 same_period (period.Year a) (period.Year b) = a == b
 same_period _ _ = false
 
+abbrev pub same_lease : NewLease → NewLease → Bool
+same_lease a b = (a.vendor == b.vendor) && is_account_item a.account b.account && (a.rate_bp == b.rate_bp) && (a.every == b.every) && pointwise nat_eq a.principals b.principals
+
 abbrev pub same_act : Act → Act → Bool
 same_act (Adopt a) (Adopt b) = same_adoption a b
 same_act (Amend a) (Amend b) = same_amendment a b
@@ -153,6 +157,7 @@ same_act (PayDue a) (PayDue b) = same_debt_payment a b
 same_act (Leave a) (Leave b) = same_leave_act a b
 same_act (Interfund a) (Interfund b) = same_fund_move a b
 same_act (Close a) (Close b) = same_period a b
+same_act (Lease a) (Lease b) = same_lease a b
 same_act _ _ = false
 
 -- ---- changes

@@ -1,11 +1,12 @@
-//! What a changing call does: one variant for each of the 21 calls.
+//! What a changing call does: one variant for each of the 22 calls.
 
 ghost use Rattle.std.specs.Prelude.{◌≡◌};
 ghost use Rattle.std.specs.Option.{option_copied};
 ghost use Rattle.cf_calls.specs.Acts.{adoption_of, amendment_of, transfer_of, is_back};
 
 use crate::items::{
-    AccountItems, LineAmounts, Numbers, Principals, SourceAmount, SourceAmounts, VoucherItems,
+    AccountItem, AccountItems, LineAmounts, Numbers, Principals, SourceAmount, SourceAmounts,
+    VoucherItems,
 };
 use cf_base::Month;
 
@@ -186,6 +187,21 @@ pub struct FundMove {
     pub amount: u64,
 }
 
+/// A lease of a capital asset, which the city holds as lessee (GASB Statement 87; that the amount and the schedule are
+/// handed in is an own rule).
+#[derive(Drop)]
+pub struct NewLease {
+    pub vendor: u32,
+    /// The account that the lease is an expenditure of, with the amount of the lease, in cents.
+    pub account: AccountItem,
+    /// The yearly rate, in basis points, at most 10,000.
+    pub rate_bp: u16,
+    /// The months between payments: 1, 2, 3, 4, 6 or 12.
+    pub every: u16,
+    /// The principal of each payment, in order. Each may be 0. The term, which they are for, is above 12 months.
+    pub principals: Principals,
+}
+
 /// What is closed.
 #[derive(Clone, Copy, PartialEq, Eq)]
 pub enum Period {
@@ -220,6 +236,7 @@ pub enum Act {
     Leave(LeaveAct),
     Interfund(FundMove),
     Close(Period),
+    Lease(NewLease),
 }
 
 impl Act {

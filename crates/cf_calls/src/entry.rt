@@ -2,16 +2,18 @@
 
 ghost use Rattle.std.specs.Prelude.{◌≡◌, None, IfOk};
 
-use crate::acts::{Act, Adoption, BondIssue, NewOrder, NewRequisition, NewVoucher, Payment};
+use crate::acts::{
+    Act, Adoption, BondIssue, NewLease, NewOrder, NewRequisition, NewVoucher, Payment,
+};
 use crate::call::Change;
 use std::alloc::{AllocError, Global};
 
 /// The numbers that a change draws. A change that draws nothing has 0 in both.
 #[derive(Clone, Copy)]
 pub struct Drawn {
-    /// The number of its own kind, from 1; for a debt payment that of the payment.
+    /// The number of its own kind, from 1; for a debt payment that of the payment, and for a lease that of its asset.
     pub number: u32,
-    /// For a voucher the number of its first asset, or the next one where it draws none.
+    /// For a voucher the number of its first asset, or the next one where it draws none; for a lease that of its bond.
     pub second: u32,
 }
 
@@ -49,6 +51,7 @@ impl Act {
             Act::Leave(l) => Ok(Act::Leave(*l)),
             Act::Interfund(m) => Ok(Act::Interfund(*m)),
             Act::Close(p) => Ok(Act::Close(*p)),
+            Act::Lease(l) => Ok(Act::Lease(copy_lease(alloc, l)?)),
         }
     }
 }
@@ -111,6 +114,19 @@ fn copy_issue(alloc: Global, i: &BondIssue) -> Result<BondIssue, AllocError>
         amount: i.amount,
         rate_bp: i.rate_bp,
         every: i.every,
+        principals,
+    })
+}
+
+fn copy_lease(alloc: Global, l: &NewLease) -> Result<NewLease, AllocError>
+    ensures { IfOk result (λ c. c ≡ l.now) }
+{
+    let principals = l.principals.copy(alloc)?;
+    Ok(NewLease {
+        vendor: l.vendor,
+        account: l.account,
+        rate_bp: l.rate_bp,
+        every: l.every,
         principals,
     })
 }

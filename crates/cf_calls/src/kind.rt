@@ -1,6 +1,6 @@
 //! The kinds of changing calls.
 
-/// Which of the 21 changing calls a change is.
+/// Which of the 22 changing calls a change is.
 #[derive(Clone, Copy)]
 pub enum ActKind {
     Adopt,
@@ -24,4 +24,5 @@ pub enum ActKind {
     Leave,
     Interfund,
     Close,
+    Lease,
 }

@@ -28,6 +28,7 @@ pub enum AssetFault {
     Void,
     Disposed,
     Charged,
+    Leased,
     Later,
 }
 

@@ -36,6 +36,11 @@ pub enum Made {
     Bond {
         number: u32,
     },
+    /// A lease, with the asset that is leased and the bond that its payments are of.
+    Lease {
+        asset: u32,
+        bond: u32,
+    },
     /// What a debt payment paid, in cents.
     Paid {
         interest: u64,

@@ -47,6 +47,7 @@ pub fn role_of(act: &Act) -> Role
         Act::Leave(_) => Role::Payroll,
         Act::Interfund(_) => Role::Treasury,
         Act::Close(_) => Role::Controller,
+        Act::Lease(_) => Role::Treasury,
     }
 }
 

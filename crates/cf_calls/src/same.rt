@@ -3,7 +3,7 @@
 ghost use Rattle.std.specs.Prelude.{◌≡◌, ◌↔◌, IsTrue, None};
 ghost use Rattle.cf_calls.specs.Same as spec;
 
-use crate::acts::{Act, Adoption, BondIssue, NewOrder, NewVoucher};
+use crate::acts::{Act, Adoption, BondIssue, NewLease, NewOrder, NewVoucher};
 use crate::call::Change;
 
 /// Whether two changes are equal but for `after`. Such a change is a repeat of the other.
@@ -48,6 +48,7 @@ fn same_act(a: &Act, b: &Act) -> bool
         (Act::Leave(a), Act::Leave(b)) => a == b,
         (Act::Interfund(a), Act::Interfund(b)) => a == b,
         (Act::Close(a), Act::Close(b)) => a == b,
+        (Act::Lease(a), Act::Lease(b)) => same_lease(a, b),
         _ => false,
     }
 }
@@ -80,6 +81,16 @@ fn same_issue(a: &BondIssue, b: &BondIssue) -> bool
 {
     a.fund == b.fund
         && a.amount == b.amount
+        && a.rate_bp == b.rate_bp
+        && a.every == b.every
+        && a.principals.as_slice() == b.principals.as_slice()
+}
+
+fn same_lease(a: &NewLease, b: &NewLease) -> bool
+    ensures { result ≡ spec.same_lease a.now b.now }
+{
+    a.vendor == b.vendor
+        && a.account == b.account
         && a.rate_bp == b.rate_bp
         && a.every == b.every
         && a.principals.as_slice() == b.principals.as_slice()

@@ -72,8 +72,10 @@ pub struct OrderItemShown {
 pub struct ReconShown {
     pub fund_balances: i128,
     pub capital_assets: i128,
+    pub right_to_use: i128,
     pub unavailable: i128,
     pub bonds: i128,
+    pub leases: i128,
     pub accrued_interest: i128,
     pub leave: i128,
     pub net_position: i128,

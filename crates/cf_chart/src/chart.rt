@@ -10,7 +10,7 @@ ghost use Rattle.cf_chart.specs.Rising.{is_rising};
 
 use crate::index::{LineKey, number_at};
 use crate::lines::LineId;
-use crate::rows::{Department, Desk, Function, Fund, Line, Object, RevenueSource};
+use crate::rows::{Department, Desk, Function, Fund, Line, Object, RevenueSource, level_for};
 use crate::search::by_id;
 use cf_calls::{Label, List};
 use std::collections::BTreeMap;
@@ -99,7 +99,9 @@ impl Chart {
 
     /// The funds, by rising id.
     pub fn funds(&self) -> &[Fund]
-        ensures { result.now ≡ self.now.funds }
+        ensures value { result.now ≡ self.now.funds }
+        ensures rising { is_rising (λ f. f.id) result.now ≡ true }
+        ensures few { length result.now ≤ 64 }
     {
         self.funds.as_slice()
     }
@@ -191,44 +193,71 @@ impl Chart {
         by_id(self.desks.as_slice(), id)
     }
 
-    /// The control line of an account: `None` exactly where it has none. No other line has the account.
-    pub fn line_of(&self, fund: u16, dept: u16, object: u16) -> Option<LineId>
-        ensures value { option_map (λ l. l.number) result ≡ spec.line_of self.now fund dept object }
+    /// Whether a fund is controlled at its later level in a fiscal year.
+    pub fn is_later(&self, fund: u16, year: u16) -> bool
+        ensures { result ≡ spec.is_later self.now fund year }
+    {
+        match self.fund(fund) {
+            Some(fund) => fund.is_later_in(year),
+            None => false,
+        }
+    }
+
+    /// Whether a line is one that its fund is controlled by in a fiscal year.
+    pub fn is_of_year(&self, line: &Line, year: u16) -> bool
+        ensures { result ≡ spec.is_of_year self.now year line.now }
+    {
+        line.later == self.is_later(line.fund, year)
+    }
+
+    /// The line that controls an account in a fiscal year, at the level of that year: `None` exactly where it has none.
+    pub fn line_of(&self, fund: u16, dept: u16, object: u16, year: u16) -> Option<LineId>
+        ensures value { option_map (λ l. l.number) result ≡ spec.line_of self.now fund dept object year }
         ensures within { IfSome result (λ l. l.number < length self.now.lines) }
-        ensures alone { (n : ℕ) → spec.has_account self.now fund dept object n ≡ true → option_map (λ l. l.number) result ≡ Some n }
+    {
+        self.line_in(fund, dept, object, self.is_later(fund, year))
+    }
+
+    /// The line of an account at its fund's first level, or at its later one: `None` exactly where it has none. No other
+    /// line of the level has the account.
+    pub fn line_in(&self, fund: u16, dept: u16, object: u16, later: bool) -> Option<LineId>
+        ensures value { option_map (λ l. l.number) result ≡ spec.line_in self.now fund dept object later }
+        ensures within { IfSome result (λ l. l.number < length self.now.lines) }
+        ensures alone { (n : ℕ) → spec.has_account self.now fund dept object later n ≡ true → option_map (λ l. l.number) result ≡ Some n }
     {
         let _ = &self.lines;
-        match self.number_of(fund, dept, object) {
+        match self.number_of(fund, dept, object, later) {
             Some(number) => Some(LineId { number }),
             None => None,
         }
     }
 
-    fn number_of(&self, fund: u16, dept: u16, object: u16) -> Option<u16>
-        ensures { result ≡ spec.line_of self.now fund dept object }
+    fn number_of(&self, fund: u16, dept: u16, object: u16, later: bool) -> Option<u16>
+        ensures { result ≡ spec.line_in self.now fund dept object later }
     {
         match self.object(object) {
-            Some(object) => self.number_at(fund, dept, object),
+            Some(object) => self.number_at(fund, dept, object, later),
             None => None,
         }
     }
 
-    fn number_at(&self, fund: u16, dept: u16, object: &Object) -> Option<u16>
-        ensures { result ≡ position (spec.covers fund dept object.now) self.now.lines }
+    fn number_at(&self, fund: u16, dept: u16, object: &Object, later: bool) -> Option<u16>
+        ensures { result ≡ position (spec.covers fund dept later object.now) self.now.lines }
     {
         match by_id(self.funds.as_slice(), fund) {
-            Some(fund) => self.number_in(fund, dept, object),
+            Some(fund) => self.number_in(fund, dept, object, later),
             None => None,
         }
     }
 
-    fn number_in(&self, fund: &Fund, dept: u16, object: &Object) -> Option<u16>
-        ensures { result ≡ position (has_key (key_at fund.now dept object.now)) self.now.lines }
+    fn number_in(&self, fund: &Fund, dept: u16, object: &Object, later: bool) -> Option<u16>
+        ensures { result ≡ position (has_key (key_at fund.now dept object.now later)) self.now.lines }
     {
         let key = LineKey {
             fund: fund.id,
             dept,
-            part: number_at(fund.level, object),
+            later,
+            part: number_at(level_for(fund.level, fund.later, later), object),
         };
         match self.numbers.get(&key) {
             Some(number) => Some(*number),

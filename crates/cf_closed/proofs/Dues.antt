@@ -94,9 +94,10 @@ step_bonds plan s (act.Close (period.Month m)) none later = same_all (IsUnpaidLa
 step_bonds plan s (act.Close (period.Year y)) none later = same_all (IsUnpaidLater s.closed) s.bonds later
 step_bonds plan s _ none later = same_all (IsUnpaidLater s.closed) s.bonds later
 
--- a bond that is issued has its first payment after its month
+-- a bond that is issued, and a lease, has its first payment after its month
 new_bonds : (plan : Plan) (s : Registers) (on : Day) (a : Act) (drawn : Drawn) → s.closed ≤ number_of_day plan on → AllByRecursion (IsUnpaidLater (closed_after a s.closed)) (bonds_by plan on a drawn)
 new_bonds plan s on (act.Issue i) drawn early = (inr (omega (arith, early)), tt)
+new_bonds plan s on (act.Lease l) drawn early = (inr (omega (arith, early)), tt)
 new_bonds plan s on _ drawn early = tt
 
 bonds_step : (plan : Plan) → HasCalendar plan → (h : List Entry) (e : Entry) → IsLegal plan h → AreUnpaidLater (registers_of plan h) → Adds plan h e → AreUnpaidLater (registers_of plan (h ++ e ∷ []))

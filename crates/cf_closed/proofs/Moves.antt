@@ -6,7 +6,7 @@ use Rattle.std.proofs.lemmas.Int.{ints}
 use Rattle.cf_base.specs.declared.calendar.Day.{Day}
 use Rattle.cf_base.specs.Calendar.{year_of_month}
 use Rattle.cf_calls.specs.declared.acts.Act.{Act}
-use Rattle.cf_calls.specs.declared.acts.Act.TheVariants.{Requisition, Withdraw, Order, ChangeOrder, CancelOrder, Voucher, VoidVoucher, PayDue, Leave, Close}
+use Rattle.cf_calls.specs.declared.acts.Act.TheVariants.{Requisition, Withdraw, Order, ChangeOrder, CancelOrder, Voucher, VoidVoucher, PayDue, Leave, Close, Lease}
 use Rattle.cf_calls.specs.declared.acts.DebtPayment.{DebtPayment}
 use Rattle.cf_calls.specs.declared.acts.LeaveAct.TheVariants.{Mature}
 use Rattle.cf_calls.specs.declared.acts.Period.TheVariants as period
@@ -164,7 +164,7 @@ carried_from plan u act from (i ∷ items) =
     by_test true l = (omega (arith, l refl), tt)
     by_test false l = tt
 
--- ---- debt payments and matured leave
+-- ---- debt payments, matured leave and leases
 
 due_spent : (plan : Plan) (s : Registers) (u : ℕ) (on : Day) (d : DebtPayment) (bonds : List Bond) → IsOpenTo plan s u on → AllByRecursion (IsUnpaidLater s.closed) bonds →
     AllByRecursion (λ x. u ≤ x.year) (bonds_spendings plan d bonds)
@@ -179,6 +179,7 @@ due_spent plan s u on d (b ∷ bonds) is later =
 spent_from : (plan : Plan) (s : Registers) (u : ℕ) (on : Day) (act : Act) → IsOpenTo plan s u on → AllByRecursion (λ x. u ≤ x.year) (spendings_by plan s on act)
 spent_from plan s u on (PayDue d) is = due_spent plan s u on d (filter (λ b. b.number == d.bond) s.bonds) is (all_filter (IsUnpaidLater s.closed) _ s.bonds is.unpaid)
 spent_from plan s u on (Leave (Mature l)) is = (is.day, tt)
+spent_from plan s u on (Lease l) is = (is.day, tt)
 spent_from plan s u on _ is = tt
 
 spendings_idle : (plan : Plan) (s : Registers) (u : ℕ) (on : Day) (act : Act) → IsOpenTo plan s u on → AllByRecursion (IsIdleBefore u) (map spending_move (spendings_by plan s on act))
@@ -229,4 +230,5 @@ moves_idle plan s u number on (Leave l) to here passed other = spendings_idle pl
 moves_idle plan s u number on (Close p) to here passed other =
     all_append (IsIdleBefore u) (lapses_of plan (Close p) s.documents.holds) (roll_moves plan (Close p) s.documents.items)
     (released u (now_year plan s) (λ h. rolls plan h.year (Close p)) s.documents.holds here.now here.holds) (rolled_idle plan u (Close p) here.rolled s.documents.items)
+moves_idle plan s u number on (Lease l) to here passed other = spendings_idle plan s u on (Lease l) to
 moves_idle plan s u number on _ to here passed other = tt

@@ -53,8 +53,8 @@ idle_sum f plan u line year before [] idle = refl
 idle_sum f plan u line year before (m ∷ moves) idle =
     (λ i. by_year (m.year == year) (eqb_tells m.year year) i +ℤ moved_sum f plan line year moves) ∙ none_first (moved_sum f plan line year moves) (idle_sum f plan u line year before moves idle.1)
   where
-    by_year : (b : Bool) → ((b ≡ true) × (m.year ≡ year)) ⊎ ((b ≡ false) × (m.year ≡ year → ⊥)) → (if b && is_on plan line m.account then f m else pos 0) ≡ pos 0
-    by_year true (inl t) = none_if (is_on plan line m.account) (f m) (idle.0 (omega (arith, t.1, before)))
+    by_year : (b : Bool) → ((b ≡ true) × (m.year ≡ year)) ⊎ ((b ≡ false) × (m.year ≡ year → ⊥)) → (if b && is_on plan line m.year m.account then f m else pos 0) ≡ pos 0
+    by_year true (inl t) = none_if (is_on plan line m.year m.account) (f m) (idle.0 (omega (arith, t.1, before)))
     by_year true (inr t) = cc
     by_year false t = refl
 
@@ -62,7 +62,7 @@ later_sum : (plan : Plan) (u line year : ℕ) → year < u → (carried : List C
 later_sum plan u line year before [] later = refl
 later_sum plan u line year before (c ∷ carried) later =
     sum_by-cons (λ (x : Carried). if counts plan line year x.account x.year then x.amount else 0) c carried
-    ∙ (λ i. (if differs c.year year (omega (arith, later.0, before)) i && is_on plan line c.account then c.amount else 0) + later_sum plan u line year before carried later.1 i)
+    ∙ (λ i. (if differs c.year year (omega (arith, later.0, before)) i && is_on plan line c.year c.account then c.amount else 0) + later_sum plan u line year before carried later.1 i)
 
 -- ---- appropriations
 

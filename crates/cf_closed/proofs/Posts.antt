@@ -18,6 +18,7 @@ use Rattle.cf_calls.specs.declared.refusal.Refusal.TheVariants as refusal
 use Rattle.cf_chart.specs.declared.rows.Function.{Function}
 use Rattle.cf_chart.specs.Plan.{Plan}
 use Rattle.cf_ledger.specs.declared.post.Post.{Post}
+use Rattle.cf_model.specs.Assets.{leased, owned}
 use Rattle.cf_model.specs.Bonds.{Bond, Due, next_due}
 use Rattle.cf_model.specs.Calendar.{document_year, open_year, year_of_day}
 use Rattle.cf_model.specs.Deeds.{bonds_deeds, collect_deeds, deeds_of, dispose_deed, due_deeds, function_charge, fund_deed, pay_deed, pay_items, spent_item, write_off_deeds}
@@ -63,6 +64,7 @@ rows_from u FundBasis (deed.Loan t) l = (l.0, (l.0, (l.0, (l.0, tt))))
 rows_from u FundBasis (deed.Repay t) l = (l.0, (l.0, (l.0, (l.0, tt))))
 rows_from u FundBasis (deed.Depreciate a) l = tt
 rows_from u FundBasis (deed.AccrueInterest a) l = tt
+rows_from u FundBasis (deed.Amortize a) l = tt
 rows_from u FundBasis _ l = (l.0, (l.0, tt))
 rows_from u GovBasis (deed.Dispose d) l = (l.0, (l.0, (l.0, (l.0, (l.0, tt)))))
 rows_from u GovBasis (deed.PayDue p) l = (l.0, (l.0, (l.0, (l.1.0, (l.1.0, tt)))))
@@ -180,8 +182,11 @@ deeds_from plan h on (act.Interfund m) is closed = (between (open_year plan h) m
 deeds_from plan h on (act.Close (period.Month m)) is closed =
     let s = registers_of plan h in
     let now = is.months s.closed (omega arith) in
-    let charge : Function → Deed = λ f. deed.Depreciate (record { year = year_at plan s.closed; function = f.id; amount = function_charge s.closed s.assets f.id }) in
-    all_append (IsFrom (open_year plan h)) (map charge plan.functions) _ (all_new (IsFrom (open_year plan h)) charge (λ f. (now, tt)) plan.functions) ((now, tt), tt)
+    let depreciate : Function → Deed = λ f. deed.Depreciate (record { year = year_at plan s.closed; function = f.id; amount = function_charge s.closed (owned s.assets) f.id }) in
+    let amortize : Function → Deed = λ f. deed.Amortize (record { year = year_at plan s.closed; function = f.id; amount = function_charge s.closed (leased s.assets) f.id }) in
+    all_append (IsFrom (open_year plan h)) (map depreciate plan.functions) _ (all_new (IsFrom (open_year plan h)) depreciate (λ f. (now, tt)) plan.functions)
+    (all_append (IsFrom (open_year plan h)) (map amortize plan.functions) _ (all_new (IsFrom (open_year plan h)) amortize (λ f. (now, tt)) plan.functions) ((now, tt), tt))
+deeds_from plan h on (act.Lease l) is closed = ((is.day, tt), tt)
 deeds_from plan h on _ is closed = tt
 
 -- ---- the law

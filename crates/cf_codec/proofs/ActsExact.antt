@@ -1,13 +1,13 @@
 -- The fields of each act are exact, and with them those of any act.
-use Rattle.std.proofs.Common.{◌≡◌, ◌≢◌, ℕ, zero, suc, ◌+◌, ◌<◌, ◌≤◌, Bool, true, false, cond, leb, eqb, not, List, [], ◌∷◌, ◌++◌, length, Option, Some, None, option_map, Result, Ok, Err, ℤ, pos, negsuc, refl, sym, ap, subst, ◌∙◌, append_assoc, arith, nat_le, inl, inr}
-use Rattle.std.specs.Prelude.{⊤, find, is_some, unwrap_or, unsigned_abs}
+use Rattle.std.proofs.Common.{◌≡◌, ◌≢◌, ℕ, zero, suc, ◌+◌, ◌*◌, ◌<◌, ◌≤◌, Bool, true, false, cond, leb, eqb, not, List, [], ◌∷◌, ◌++◌, length, Option, Some, None, option_map, Result, Ok, Err, ℤ, pos, negsuc, refl, sym, ap, subst, ◌∙◌, append_assoc, arith, nat_le, inl, inr}
+use Rattle.std.specs.Prelude.{⊤, nat_lt, find, is_some, unwrap_or, unsigned_abs}
 use Rattle.std.specs.List.{AllByRecursion, list_all}
 use Rattle.std.proofs.lemmas.Bool.{leb-true, le-leb, lt-ltb, and_parts, eqb-true, eqb-false, ne_eqb, not-true}
 use Rattle.std.proofs.lemmas.List.{length-append}
 use Rattle.cf_base.specs.declared.calendar.Day.{Day}
 use Rattle.cf_base.specs.Money.{is_amount}
 use Rattle.cf_calls.specs.declared.acts.Act.{Act}
-use Rattle.cf_calls.specs.declared.acts.Act.TheVariants.{Adopt, Amend, Transfer, Requisition, Withdraw, Order, ChangeOrder, CancelOrder, Voucher, VoidVoucher, Pay, Bill, Collect, Receive, WriteOff, Asset, Issue, PayDue, Leave, Interfund, Close}
+use Rattle.cf_calls.specs.declared.acts.Act.TheVariants.{Adopt, Amend, Transfer, Requisition, Withdraw, Order, ChangeOrder, CancelOrder, Voucher, VoidVoucher, Pay, Bill, Collect, Receive, WriteOff, Asset, Issue, PayDue, Leave, Interfund, Close, Lease}
 use Rattle.cf_calls.specs.declared.acts.FundMoveKind.{FundMoveKind}
 use Rattle.cf_calls.specs.declared.acts.FundMoveKind.TheVariants as move
 use Rattle.cf_calls.specs.declared.acts.AssetAct.{AssetAct}
@@ -16,16 +16,16 @@ use Rattle.cf_calls.specs.declared.acts.LeaveAct.{LeaveAct}
 use Rattle.cf_calls.specs.declared.acts.LeaveAct.TheVariants.{Earn, Use, Mature}
 use Rattle.cf_calls.specs.declared.acts.Period.{Period}
 use Rattle.cf_calls.specs.declared.acts.Period.TheVariants as period
-use Rattle.cf_calls.specs.Form.{IsYear, IsCount, IsAdoptionForm, IsIssueForm, IsVoucherForm, IsPeriodForm, IsActInForm, IsWithinLimits, is_by, is_distinct, is_most, is_period, same_line, same_source, same_number}
+use Rattle.cf_calls.specs.Form.{IsYear, IsCount, IsAdoptionForm, IsIssueForm, IsLeaseForm, IsVoucherForm, IsPeriodForm, IsActInForm, IsWithinLimits, is_by, is_distinct, is_most, is_period, same_line, same_source, same_number}
 use Rattle.cf_calls.specs.declared.kind.ActKind.{ActKind}
 use Rattle.cf_calls.specs.declared.kind.ActKind.TheVariants as kind
 use Rattle.cf_fields.specs.Formats.{Format, and_then, kept}
 use Rattle.cf_fields.specs.Fields.{byte, half, word, one_of, flag, year, amount, most_amount, signed, month}
 use Rattle.cf_fields.specs.Kinds.{kind_of, value_in, kinds, kind_value, kind_code, kind, moves, move_value, move_code, move_kind}
-use Rattle.cf_codec.specs.Acts.{source_amount, line_amounts, source_amounts, account_items, voucher_items, voucher_numbers, principals, adoption, amendment, other_than, transfer, new_requisition, optional_by, optional, new_order, order_change, new_voucher, payment, new_bill, bill_amount, donation, disposal, issue, debt_payment, leave_amount, maturity, fund_move, made, asset_act_bytes, asset_act_fits, asset_act_by, asset_act, leave_act_bytes, leave_act_fits, leave_act_by, leave_act, period_bytes, period_fits, period_by, closed_period, act_bytes, act_fits, act_at, act_for}
+use Rattle.cf_codec.specs.Acts.{source_amount, account_item, line_amounts, source_amounts, account_items, voucher_items, voucher_numbers, principals, adoption, amendment, other_than, transfer, new_requisition, optional_by, optional, new_order, order_change, new_voucher, payment, new_bill, bill_amount, donation, disposal, issue, lease, lease_principals, debt_payment, leave_amount, maturity, fund_move, made, asset_act_bytes, asset_act_fits, asset_act_by, asset_act, leave_act_bytes, leave_act_fits, leave_act_by, leave_act, period_bytes, period_fits, period_by, closed_period, act_bytes, act_fits, act_at, act_for}
 use Rattle.cf_fields.proofs.Exact.{IsBytes, Takes, IsExact, IsWhole, Any, step, last, same, ok_is, then_ok, then_err, kept-exact, converted-exact}
 use Rattle.cf_fields.proofs.FieldsExact.{byte-exact, half-exact, word-exact, one_of-exact, flag-exact, year-exact, amount-exact, most_amount-exact, signed-exact, month-exact}
-use Rattle.cf_codec.proofs.ItemsExact.{source_amount-exact, IsDistinctList, line_amounts-exact, source_amounts-exact, account_items-exact, voucher_items-exact, voucher_numbers-exact, IsRepaymentList, principals-exact}
+use Rattle.cf_codec.proofs.ItemsExact.{source_amount-exact, account_item-exact, IsDistinctList, line_amounts-exact, source_amounts-exact, account_items-exact, voucher_items-exact, voucher_numbers-exact, IsRepaymentList, principals-exact}
 
 -- ---- numbers with names
 
@@ -59,7 +59,7 @@ kind_to _ = refl
 
 kind_from : (n : ℕ) (k : ActKind) → kind_value n ≡ Some k → kind_code k ≡ n
 unfolding kind_value
-kind_from = value_from kind_code kinds (refl, (refl, (refl, (refl, (refl, (refl, (refl, (refl, (refl, (refl, (refl, (refl, (refl, (refl, (refl, (refl, (refl, (refl, (refl, (refl, (refl, tt)))))))))))))))))))))
+kind_from = value_from kind_code kinds (refl, (refl, (refl, (refl, (refl, (refl, (refl, (refl, (refl, (refl, (refl, (refl, (refl, (refl, (refl, (refl, (refl, (refl, (refl, (refl, (refl, (refl, tt))))))))))))))))))))))
 
 pub kind-exact : IsWhole kind Any
 kind-exact = converted-exact kind_value kind_code byte Any Any byte-exact (λ k fits form. (kind_to k, tt)) (λ n k fits form e. (kind_from n k e, tt))
@@ -281,6 +281,28 @@ issue-exact on day =
     (λ r known fits form. (tt, (form.1.0, ((tt, le-leb r.rate_bp 10000 form.0.rate), ((tt, form.0.every), (record { count = form.0.principals; most = form.1.1; total = form.0.total; last_due = form.0.last_due }, tt))))))
     (λ r known fits form. let list = form.1.1.1.1.0 in (record { day = day; rate = leb-true r.rate_bp 10000 form.1.1.0.1; every = form.1.1.1.0.1; principals = list.count; total = list.total; last_due = list.last_due }, (form.1.0, list.most)))
 
+pub lease-exact : (on : Day) → on.day ≤ 28 → IsWhole (lease on) (λ l. IsLeaseForm on l × ((is_amount l.account.amount ≡ true) × (list_all is_most l.principals ≡ true)))
+lease-exact on day =
+    same (lease on) Any _ _
+    (step (λ r. r.vendor) word _ Any Any _ word-exact (λ vendor fits form.
+    step (λ r. r.account) account_item _ (λ i. is_amount i.amount ≡ true) _ _ account_item-exact (λ account fits form.
+    step (λ r. r.rate_bp) (kept (λ n. nat_le n 10000) half) _ (λ n. ⊤ × (nat_le n 10000 ≡ true)) _ _ (kept-exact (λ n. nat_le n 10000) half Any half-exact) (λ rate_bp fits form.
+    step (λ r. r.every) (kept is_period byte) _ (λ n. ⊤ × (is_period n ≡ true)) _ _ (kept-exact is_period byte Any byte-exact) (λ every fits form.
+    step (λ r. r.principals) (lease_principals on account.amount every) _ (λ xs. IsRepaymentList on account.amount every xs × (nat_lt 12 (every * length xs) ≡ true)) _ _
+    (kept-exact (λ xs. nat_lt 12 (every * length xs)) (principals on account.amount every) (IsRepaymentList on account.amount every) (principals-exact on account.amount every)) (λ principals fits form.
+    last (record { vendor = vendor; account = account; rate_bp = rate_bp; every = every; principals = principals }) _ (((((tt, refl), refl), refl), refl), refl) (λ r known. λ i. record { vendor = known.0.0.0.0.1 i; account = known.0.0.0.1 i; rate_bp = known.0.0.1 i; every = known.0.1 i; principals = known.1 i })))))))
+    (λ r known fits form.
+    let f = form.0.schedule in
+    (tt, (form.1.0, ((tt, le-leb r.rate_bp 10000 f.rate), ((tt, f.every), ((record { count = f.principals; most = form.1.1; total = f.total; last_due = f.last_due }, lt-ltb 12 (r.every * length r.principals) form.0.term), tt))))))
+    (λ r known fits form.
+    let list = form.1.1.1.1.0.0 in (
+      record {
+        schedule = record { day = day; rate = leb-true r.rate_bp 10000 form.1.1.0.1; every = form.1.1.1.0.1; principals = list.count; total = list.total; last_due = list.last_due };
+        term = leb-true 13 (r.every * length r.principals) form.1.1.1.1.0.1;
+      },
+      (form.1.0, list.most),
+    ))
+
 -- ---- acts of several kinds
 
 variant_back : {A B : Type 0} (make : A → B) (f : Format A) (Form : A → Type 0) → IsWhole f Form → (a : A) (rest : List ℕ) → f.fits a → Form a → made make (f.read (f.bytes a ++ rest)) ≡ Ok (make a, rest)
@@ -422,7 +444,11 @@ closed_period-exact = record {
 abbrev pub ActForm : Day → Act → Type 0
 ActForm on a = IsActInForm on a × IsWithinLimits a
 
-act_back : (on : Day) (a : Act) (rest : List ℕ) → (kind_of a ≡ kind.Issue → on.day ≤ 28) → act_fits on a → ActForm on a → act_at (kind_of a) on (act_bytes on a ++ rest) ≡ Ok (a, rest)
+-- the day on which a bond is issued or a lease begins
+abbrev pub IsEarly : ActKind → Day → Type 0
+IsEarly k on = (k ≡ kind.Issue → on.day ≤ 28) × (k ≡ kind.Lease → on.day ≤ 28)
+
+act_back : (on : Day) (a : Act) (rest : List ℕ) → IsEarly (kind_of a) on → act_fits on a → ActForm on a → act_at (kind_of a) on (act_bytes on a ++ rest) ≡ Ok (a, rest)
 unfolding act_at act_bytes act_fits
 act_back on (Adopt a) rest day fits form = variant_back Adopt adoption _ adoption-exact a rest fits form
 act_back on (Amend a) rest day fits form = variant_back Amend amendment _ amendment-exact a rest fits form
@@ -440,16 +466,17 @@ act_back on (Collect a) rest day fits form = variant_back Collect bill_amount _ 
 act_back on (Receive a) rest day fits form = variant_back Receive source_amount _ source_amount-exact a rest fits form.1
 act_back on (WriteOff a) rest day fits form = variant_back WriteOff bill_amount _ bill_amount-exact a rest fits form.1
 act_back on (Asset a) rest day fits form = variant_back Asset asset_act _ asset_act-exact a rest fits form.1
-act_back on (Issue a) rest day fits form = variant_back Issue (issue on) _ (issue-exact on (day refl)) a rest fits form
+act_back on (Issue a) rest day fits form = variant_back Issue (issue on) _ (issue-exact on (day.0 refl)) a rest fits form
 act_back on (PayDue a) rest day fits form = variant_back PayDue debt_payment _ debt_payment-exact a rest fits tt
 act_back on (Leave a) rest day fits form = variant_back Leave leave_act _ leave_act-exact a rest fits form.1
 act_back on (Interfund a) rest day fits form = variant_back Interfund fund_move _ fund_move-exact a rest fits form
 act_back on (Close a) rest day fits form = variant_back Close closed_period _ closed_period-exact a rest fits form.0
+act_back on (Lease a) rest day fits form = variant_back Lease (lease on) _ (lease-exact on (day.1 refl)) a rest fits form
 
 abbrev ActRead : ActKind → Day → List ℕ → List ℕ → Act → Type 0
 ActRead k on bytes rest a = Takes bytes (act_bytes on a) rest × (k ≡ kind_of a) × act_fits on a × ActForm on a
 
-act_only : (k : ActKind) (on : Day) (bytes : List ℕ) (a : Act) (rest : List ℕ) → (k ≡ kind.Issue → on.day ≤ 28) → IsBytes bytes → act_at k on bytes ≡ Ok (a, rest) → ActRead k on bytes rest a
+act_only : (k : ActKind) (on : Day) (bytes : List ℕ) (a : Act) (rest : List ℕ) → IsEarly k on → IsBytes bytes → act_at k on bytes ≡ Ok (a, rest) → ActRead k on bytes rest a
 unfolding act_at act_bytes act_fits
 act_only kind.Adopt on bytes a rest day are e = variant_only Adopt adoption _ adoption-exact bytes a rest are e (ActRead kind.Adopt on bytes rest) (λ x takes fits form. (takes, refl, fits, (form.0, form.1)))
 act_only kind.Amend on bytes a rest day are e = variant_only Amend amendment _ amendment-exact bytes a rest are e (ActRead kind.Amend on bytes rest) (λ x takes fits form. (takes, refl, fits, form))
@@ -467,13 +494,14 @@ act_only kind.Collect on bytes a rest day are e = variant_only Collect bill_amou
 act_only kind.Receive on bytes a rest day are e = variant_only Receive source_amount _ source_amount-exact bytes a rest are e (ActRead kind.Receive on bytes rest) (λ x takes fits form. (takes, refl, fits, (tt, form)))
 act_only kind.WriteOff on bytes a rest day are e = variant_only WriteOff bill_amount _ bill_amount-exact bytes a rest are e (ActRead kind.WriteOff on bytes rest) (λ x takes fits form. (takes, refl, fits, (tt, form)))
 act_only kind.Asset on bytes a rest day are e = variant_only Asset asset_act _ asset_act-exact bytes a rest are e (ActRead kind.Asset on bytes rest) (λ x takes fits form. (takes, refl, fits, (tt, form)))
-act_only kind.Issue on bytes a rest day are e = variant_only Issue (issue on) _ (issue-exact on (day refl)) bytes a rest are e (ActRead kind.Issue on bytes rest) (λ x takes fits form. (takes, refl, fits, form))
+act_only kind.Issue on bytes a rest day are e = variant_only Issue (issue on) _ (issue-exact on (day.0 refl)) bytes a rest are e (ActRead kind.Issue on bytes rest) (λ x takes fits form. (takes, refl, fits, form))
 act_only kind.PayDue on bytes a rest day are e = variant_only PayDue debt_payment _ debt_payment-exact bytes a rest are e (ActRead kind.PayDue on bytes rest) (λ x takes fits form. (takes, refl, fits, (tt, tt)))
 act_only kind.Leave on bytes a rest day are e = variant_only Leave leave_act _ leave_act-exact bytes a rest are e (ActRead kind.Leave on bytes rest) (λ x takes fits form. (takes, refl, fits, (tt, form)))
 act_only kind.Interfund on bytes a rest day are e = variant_only Interfund fund_move _ fund_move-exact bytes a rest are e (ActRead kind.Interfund on bytes rest) (λ x takes fits form. (takes, refl, fits, form))
 act_only kind.Close on bytes a rest day are e = variant_only Close closed_period _ closed_period-exact bytes a rest are e (ActRead kind.Close on bytes rest) (λ x takes fits form. (takes, refl, fits, (form, tt)))
+act_only kind.Lease on bytes a rest day are e = variant_only Lease (lease on) _ (lease-exact on (day.1 refl)) bytes a rest are e (ActRead kind.Lease on bytes rest) (λ x takes fits form. (takes, refl, fits, form))
 
-act_left : (k : ActKind) (on : Day) (bytes : List ℕ) (n : ℕ) → (k ≡ kind.Issue → on.day ≤ 28) → IsBytes bytes → act_at k on bytes ≡ Err n → n ≤ length bytes
+act_left : (k : ActKind) (on : Day) (bytes : List ℕ) (n : ℕ) → IsEarly k on → IsBytes bytes → act_at k on bytes ≡ Err n → n ≤ length bytes
 unfolding act_at
 act_left kind.Adopt on bytes n day are e = variant_left Adopt adoption _ adoption-exact bytes n are e
 act_left kind.Amend on bytes n day are e = variant_left Amend amendment _ amendment-exact bytes n are e
@@ -491,15 +519,16 @@ act_left kind.Collect on bytes n day are e = variant_left Collect bill_amount _ 
 act_left kind.Receive on bytes n day are e = variant_left Receive source_amount _ source_amount-exact bytes n are e
 act_left kind.WriteOff on bytes n day are e = variant_left WriteOff bill_amount _ bill_amount-exact bytes n are e
 act_left kind.Asset on bytes n day are e = variant_left Asset asset_act _ asset_act-exact bytes n are e
-act_left kind.Issue on bytes n day are e = variant_left Issue (issue on) _ (issue-exact on (day refl)) bytes n are e
+act_left kind.Issue on bytes n day are e = variant_left Issue (issue on) _ (issue-exact on (day.0 refl)) bytes n are e
 act_left kind.PayDue on bytes n day are e = variant_left PayDue debt_payment _ debt_payment-exact bytes n are e
 act_left kind.Leave on bytes n day are e = variant_left Leave leave_act _ leave_act-exact bytes n are e
 act_left kind.Interfund on bytes n day are e = variant_left Interfund fund_move _ fund_move-exact bytes n are e
 act_left kind.Close on bytes n day are e = variant_left Close closed_period _ closed_period-exact bytes n are e
+act_left kind.Lease on bytes n day are e = variant_left Lease (lease on) _ (lease-exact on (day.1 refl)) bytes n are e
 
-pub act-exact : (k : ActKind) (on : Day) → (k ≡ kind.Issue → on.day ≤ 28) → IsExact (act_for k on) (λ a. k ≡ kind_of a) (ActForm on)
+pub act-exact : (k : ActKind) (on : Day) → IsEarly k on → IsExact (act_for k on) (λ a. k ≡ kind_of a) (ActForm on)
 act-exact k on day = record {
-  back = λ a rest known fits form. subst (λ (j : ActKind). act_at j on (act_bytes on a ++ rest) ≡ Ok (a, rest)) (sym known) (act_back on a rest (λ e. day (known ∙ e)) fits form);
+  back = λ a rest known fits form. subst (λ (j : ActKind). act_at j on (act_bytes on a ++ rest) ≡ Ok (a, rest)) (sym known) (act_back on a rest (λ e. day.0 (known ∙ e), λ e. day.1 (known ∙ e)) fits form);
   only = λ bytes a rest are e. let p = act_only k on bytes a rest day are e in (p.0, p.1, p.2, p.3);
   left = λ bytes n are e. act_left k on bytes n day are e;
 }

@@ -1,12 +1,12 @@
 -- Whole entries: what is written is read, what is read was written, and no payload begins another.
 use Rattle.std.proofs.Common.{◌≡◌, ℕ, ◌+◌, ◌-◌, ◌<◌, ◌≤◌, true, List, [], ◌++◌, length, None, Result, Ok, Err, refl, sym, ap, subst, ◌∙◌, arith}
-use Rattle.std.specs.Prelude.{IfOk}
+use Rattle.std.specs.Prelude.{⊤, IfOk}
 use Rattle.std.proofs.lemmas.Bool.{leb-true, le-leb}
 use Rattle.std.proofs.lemmas.List.{length-append, append-nil, take_at, nil_from_length}
 use Rattle.cf_base.specs.declared.calendar.Day.{Day}
 use Rattle.cf_base.specs.Calendar.{is_day}
 use Rattle.cf_calls.specs.declared.acts.Act.{Act}
-use Rattle.cf_calls.specs.declared.acts.Act.TheVariants.{Requisition, Order, Voucher, Bill, Asset, Issue, PayDue}
+use Rattle.cf_calls.specs.declared.acts.Act.TheVariants.{Requisition, Order, Voucher, Bill, Asset, Issue, PayDue, Lease}
 use Rattle.cf_calls.specs.declared.acts.AssetAct.TheVariants.{Donate}
 use Rattle.cf_calls.specs.declared.entry.Drawn.{Drawn}
 use Rattle.cf_calls.specs.declared.entry.Entry.{Entry}
@@ -15,14 +15,14 @@ use Rattle.cf_calls.specs.declared.kind.ActKind.{ActKind}
 use Rattle.cf_calls.specs.declared.kind.ActKind.TheVariants as kind
 use Rattle.cf_fields.specs.Formats.{Format}
 use Rattle.cf_fields.specs.Fields.{half, word, key, day}
-use Rattle.cf_fields.specs.Kinds.{kind_of, kind}
+use Rattle.cf_fields.specs.Kinds.{kind_of, kind, kind_in, is_of}
 use Rattle.cf_codec.specs.Acts.{act_for}
-use Rattle.cf_codec.specs.Entries.{may_be_on, on_for, none_drawn, one_drawn, two_drawn, payment_drawn, drawn_for, entry, payload, placed, read_of, HasPayload, BeginsWith}
+use Rattle.cf_codec.specs.Entries.{may_be_on, on_for, none_drawn, one_drawn, two_drawn, payment_drawn, drawn_for, entry, entry_in, payload, placed, read_of, HasPayload, BeginsWith, IsOf}
 use Rattle.cf_codec.specs.declared.fault.CodecRefused.{CodecRefused}
 use Rattle.cf_codec.specs.Answers.{Answers}
 use Rattle.cf_fields.proofs.Exact.{IsBytes, IsWhole, Any, step, last, same, whole, ok_is, kept-exact}
 use Rattle.cf_fields.proofs.FieldsExact.{half-exact, word-exact, day-exact, key-exact}
-use Rattle.cf_codec.proofs.ActsExact.{kind-exact, ActForm, act-exact}
+use Rattle.cf_codec.proofs.ActsExact.{kind-exact, ActForm, IsEarly, act-exact}
 
 -- ---- the day
 
@@ -82,46 +82,62 @@ drawn-exact (Bill x) = drawn_as one_drawn IsOne (DrawnForm (Bill x)) one-exact (
 drawn-exact (Asset (Donate x)) = drawn_as one_drawn IsOne (DrawnForm (Asset (Donate x))) one-exact (λ d form. form.0) (λ d form. (form, tt))
 drawn-exact (Issue x) = drawn_as one_drawn IsOne (DrawnForm (Issue x)) one-exact (λ d form. form.0) (λ d form. (form, tt))
 drawn-exact (PayDue x) = drawn_as payment_drawn IsPayment (DrawnForm (PayDue x)) payment-exact (λ d form. form) (λ d form. form)
+drawn-exact (Lease x) = drawn_as two_drawn Any (DrawnForm (Lease x)) two-exact (λ d form. tt) (λ d form. (tt, tt))
 drawn-exact _ = drawn_as none_drawn IsNone _ none-exact (λ d form. form.0) (λ d form. (form, tt))
 
 -- ---- entries
 
-day_of_issue : (k : ActKind) (d : Day) → may_be_on k d ≡ true → k ≡ kind.Issue → d.day ≤ 28
-day_of_issue k d may e = leb-true d.day 28 (subst (λ (j : ActKind). may_be_on j d ≡ true) e may)
+day_early : (k : ActKind) (d : Day) → may_be_on k d ≡ true → IsEarly k d
+day_early k d may = (λ e. leb-true d.day 28 (subst (λ (j : ActKind). may_be_on j d ≡ true) e may), λ e. leb-true d.day 28 (subst (λ (j : ActKind). may_be_on j d ≡ true) e may))
 
 may_be : (d : Day) (a : Act) → IsActInForm d a → may_be_on (kind_of a) d ≡ true
 may_be d (Issue x) form = le-leb d.day 28 form.day
+may_be d (Lease x) form = le-leb d.day 28 form.schedule.day
 may_be d _ form = refl
 
 abbrev NoAfter : Entry → Type 0
 NoAfter e = e.change.after ≡ None
 
-pub entry-exact : IsWhole entry IsEntryInForm
-entry-exact =
-    same entry Any _ _
-    (whole entry NoAfter _
-    (step (λ e. kind_of e.change.act) kind _ Any NoAfter _ kind-exact (λ k fits form.
+-- every kind is of version 2
+of_two : (k : ActKind) → is_of 2 k ≡ true
+of_two kind.Lease = refl
+of_two _ = refl
+
+pub is_of_two : (e : Entry) → IsOf 2 e
+is_of_two e = of_two (kind_of e.change.act)
+
+abbrev pub InForm : ℕ → Entry → Type 0
+InForm version e = IsEntryInForm e × IsOf version e
+
+pub entry-exact : (version : ℕ) → IsWhole (entry_in version) (InForm version)
+entry-exact version =
+    same (entry_in version) Any _ _
+    (whole (entry_in version) NoAfter _
+    (step (λ e. kind_of e.change.act) (kind_in version) _ (λ k. ⊤ × (is_of version k ≡ true)) NoAfter _ (kept-exact (is_of version) kind Any kind-exact) (λ k fits form.
     step (λ e. e.change.desk) half _ Any _ _ half-exact (λ desk fits form.
     step (λ e. e.change.key) key _ (λ k. is_key k ≡ true) _ _ key-exact (λ key fits form.
     step (λ e. e.change.on) (on_for k) _ (λ d. (is_day d ≡ true) × (may_be_on k d ≡ true)) _ _ (on-exact k) (λ on fits form.
-    step (λ e. e.change.act) (act_for k on) _ (λ a. (k ≡ kind_of a) × ActForm on a) _ _ (whole (act_for k on) (λ a. k ≡ kind_of a) (ActForm on) (act-exact k on (day_of_issue k on form.1))) (λ act fits acts.
+    step (λ e. e.change.act) (act_for k on) _ (λ a. (k ≡ kind_of a) × ActForm on a) _ _ (whole (act_for k on) (λ a. k ≡ kind_of a) (ActForm on) (act-exact k on (day_early k on form.1))) (λ act fits acts.
     step (λ e. e.drawn) (drawn_for act) _ (DrawnForm act) _ _ (drawn-exact act) (λ drawn fits form.
     last (record { change = record { desk = desk; key = key; on = on; after = None; act = act }; drawn = drawn }) _ ((((((refl, acts.0), refl), refl), refl), refl), refl) (λ e known. λ i. record { change = record { desk = known.0.0.0.0.1 i; key = known.0.0.0.1 i; on = known.0.0.1 i; after = sym known.0.0.0.0.0.0 i; act = known.0.1 i }; drawn = known.1 i })))))))))
-    (λ e known fits form. (form.no_after, (tt, (tt, (form.change.key, ((form.change.on, may_be e.change.on e.change.act form.change.act), ((refl, (form.change.act, form.limits)), ((form.drawn, form.payment), tt))))))))
-    (λ e known fits form. record {
-      change = record { key = form.1.1.1.0; on = form.1.1.1.1.0.0; act = form.1.1.1.1.1.0.1.0 };
-      no_after = form.0;
-      limits = form.1.1.1.1.1.0.1.1;
-      drawn = form.1.1.1.1.1.1.0.0;
-      payment = form.1.1.1.1.1.1.0.1;
-    })
+    (λ e known fits form. (form.0.no_after, ((tt, form.1), (tt, (form.0.change.key, ((form.0.change.on, may_be e.change.on e.change.act form.0.change.act), ((refl, (form.0.change.act, form.0.limits)), ((form.0.drawn, form.0.payment), tt))))))))
+    (λ e known fits form. (
+      record {
+        change = record { key = form.1.1.1.0; on = form.1.1.1.1.0.0; act = form.1.1.1.1.1.0.1.0 };
+        no_after = form.0;
+        limits = form.1.1.1.1.1.0.1.1;
+        drawn = form.1.1.1.1.1.1.0.0;
+        payment = form.1.1.1.1.1.1.0.1;
+      },
+      form.1.0.1,
+    ))
 
 -- an entry is read back from its payload, whatever follows
-pub reads_back : (e : Entry) (rest : List ℕ) → HasPayload e → read_of (payload e ++ rest) ≡ Ok (e, length (payload e))
+pub reads_back : (version : ℕ) (e : Entry) (rest : List ℕ) → HasPayload e → IsOf version e → read_of version (payload e ++ rest) ≡ Ok (e, length (payload e))
 unfolding payload read_of
-reads_back e rest has =
+reads_back version e rest has is =
     let count : length (entry.bytes e ++ rest) - length rest ≡ length (entry.bytes e) = omega (arith, length-append (entry.bytes e) rest) in
-    rw (entry-exact.back e rest tt has.fits has.form) (ap (λ (n : ℕ). Ok (e, n)) count)
+    rw ((entry-exact version).back e rest tt has.fits (has.form, is)) (ap (λ (n : ℕ). Ok (e, n)) count)
 
 placed_ok : (bytes : List ℕ) (r : Result (Entry × List ℕ) ℕ) (e : Entry) (n : ℕ) → placed bytes r ≡ Ok (e, n) → (rest : List ℕ) × (r ≡ Ok (e, rest)) × (n ≡ length bytes - length rest)
 placed_ok bytes (Ok x) e n p =
@@ -130,40 +146,44 @@ placed_ok bytes (Ok x) e n p =
 placed_ok bytes (Err left) e n p = absurd cc
 
 -- what is read is an entry whose payload the first bytes are
-pub was_written : (bytes : List ℕ) (e : Entry) (n : ℕ) → IsBytes bytes → read_of bytes ≡ Ok (e, n) → BeginsWith bytes e n
+pub was_written : (version : ℕ) (bytes : List ℕ) (e : Entry) (n : ℕ) → IsBytes bytes → read_of version bytes ≡ Ok (e, n) → BeginsWith bytes e n × IsOf version e
 unfolding payload read_of
-was_written bytes e n are p =
-    let q = placed_ok bytes (entry.read bytes) e n p in
-    let one = entry-exact.only bytes e q.0 are q.1 in
+was_written version bytes e n are p =
+    let q = placed_ok bytes ((entry_in version).read bytes) e n p in
+    let one = (entry-exact version).only bytes e q.0 are q.1 in
     let count : length bytes ≡ length (entry.bytes e) + length q.0 = ap length one.0.parts ∙ length-append (entry.bytes e) q.0 in
     let size : n ≡ length (entry.bytes e) = omega (arith, q.2) in
-    record { entry = record { form = one.3; fits = one.2 }; front = rw one.0.parts (take_at (entry.bytes e) q.0 n (sym size)); count = size }
+    (record { entry = record { form = one.3.0; fits = one.2 }; front = rw one.0.parts (take_at (entry.bytes e) q.0 n (sym size)); count = size }, one.3.1)
 
 -- no payload begins another, and an entry has one payload
 pub no_prefix : (a b : Entry) (more : List ℕ) → HasPayload a → HasPayload b → payload b ≡ payload a ++ more → (a ≡ b) × (more ≡ [])
 no_prefix a b more has has' e =
-    let one = reads_back a more has in
-    let two = reads_back b [] has' in
-    let same : read_of (payload b ++ []) ≡ read_of (payload a ++ more) = ap read_of (append-nil (payload b) ∙ e) in
+    let one = reads_back 2 a more has (is_of_two a) in
+    let two = reads_back 2 b [] has' (is_of_two b) in
+    let same : read_of 2 (payload b ++ []) ≡ read_of 2 (payload a ++ more) = ap (read_of 2) (append-nil (payload b) ∙ e) in
     let p = ok_is (a, length (payload a)) (b, length (payload b)) (sym one ∙ sym same ∙ two) in
     let lengths : length (payload a) ≡ length (payload b) = ap (λ (x : Entry × ℕ). x.1) p in
     let count : length (payload b) ≡ length (payload a) + length more = ap length e ∙ length-append (payload a) more in
     (ap (λ (x : Entry × ℕ). x.0) p, nil_from_length more (omega arith))
 
 -- the bytes that are left are some of those there were
-pub rest_within : (bytes : List ℕ) (e : Entry) (rest : List ℕ) → IsBytes bytes → entry.read bytes ≡ Ok (e, rest) → length rest ≤ length bytes
-rest_within bytes e rest are p =
-    let one = entry-exact.only bytes e rest are p in
+pub rest_within : (version : ℕ) (bytes : List ℕ) (e : Entry) (rest : List ℕ) → IsBytes bytes → (entry_in version).read bytes ≡ Ok (e, rest) → length rest ≤ length bytes
+rest_within version bytes e rest are p =
+    let one = (entry-exact version).only bytes e rest are p in
     let count : length bytes ≡ length (entry.bytes e) + length rest = ap length one.0.parts ∙ length-append (entry.bytes e) rest in
     omega arith
 
-pub left_within : (bytes : List ℕ) (left : ℕ) → IsBytes bytes → entry.read bytes ≡ Err left → left ≤ length bytes
-left_within bytes left are p = entry-exact.left bytes left are p
+pub left_within : (version : ℕ) (bytes : List ℕ) (left : ℕ) → IsBytes bytes → (entry_in version).read bytes ≡ Err left → left ≤ length bytes
+left_within version bytes left are p = (entry-exact version).left bytes left are p
 
 -- an answer of the reader, with what it says of the bytes
-pub answer_found : (bytes : List ℕ) (r : Result (Entry × ℕ) CodecRefused) → IsBytes bytes → Answers r (read_of bytes) → IfOk r (λ x. BeginsWith bytes x.0 x.1)
-answer_found bytes (Ok x) are p = was_written bytes x.0 x.1 are p
-answer_found bytes (Err e) are p = tt
+pub answer_found : (version : ℕ) (bytes : List ℕ) (r : Result (Entry × ℕ) CodecRefused) → IsBytes bytes → Answers r (read_of version bytes) → IfOk r (λ x. BeginsWith bytes x.0 x.1)
+answer_found version bytes (Ok x) are p = (was_written version bytes x.0 x.1 are p).0
+answer_found version bytes (Err e) are p = tt
 
-pub answer_only : (bytes : List ℕ) (r : Result (Entry × ℕ) CodecRefused) (e : Entry) (rest : List ℕ) → Answers r (read_of bytes) → HasPayload e → bytes ≡ payload e ++ rest → Answers r (Ok (e, length (payload e)))
-answer_only bytes r e rest p has parts = subst (λ (x : Result (Entry × ℕ) ℕ). Answers r x) (ap read_of parts ∙ reads_back e rest has) p
+pub answer_of : (version : ℕ) (bytes : List ℕ) (r : Result (Entry × ℕ) CodecRefused) → IsBytes bytes → Answers r (read_of version bytes) → IfOk r (λ x. IsOf version x.0)
+answer_of version bytes (Ok x) are p = (was_written version bytes x.0 x.1 are p).1
+answer_of version bytes (Err e) are p = tt
+
+pub answer_only : (version : ℕ) (bytes : List ℕ) (r : Result (Entry × ℕ) CodecRefused) (e : Entry) (rest : List ℕ) → Answers r (read_of version bytes) → HasPayload e → IsOf version e → bytes ≡ payload e ++ rest → Answers r (Ok (e, length (payload e)))
+answer_only version bytes r e rest p has is parts = subst (λ (x : Result (Entry × ℕ) ℕ). Answers r x) (ap (read_of version) parts ∙ reads_back version e rest has is) p

@@ -4,7 +4,7 @@ use Rattle.std.specs.Int.{w16}
 use Rattle.std.proofs.lemmas.List.{length-append}
 use Rattle.cf_base.specs.declared.calendar.Day.{Day}
 use Rattle.cf_calls.specs.declared.acts.Act.{Act}
-use Rattle.cf_calls.specs.declared.acts.Act.TheVariants.{Adopt, Requisition, Order, Voucher, Pay, Issue, Asset, Leave, Close}
+use Rattle.cf_calls.specs.declared.acts.Act.TheVariants.{Adopt, Requisition, Order, Voucher, Pay, Issue, Asset, Leave, Close, Lease}
 use Rattle.cf_calls.specs.declared.acts.AssetAct.TheVariants.{Donate, Dispose}
 use Rattle.cf_calls.specs.declared.acts.LeaveAct.TheVariants.{Earn, Use, Mature}
 use Rattle.cf_calls.specs.declared.acts.Period.TheVariants as period
@@ -16,9 +16,9 @@ use Rattle.cf_calls.specs.declared.entry.Entry.{Entry}
 use Rattle.cf_calls.specs.declared.kind.ActKind.{ActKind}
 use Rattle.cf_fields.specs.Formats.{Format, number_bytes, kept, each_bytes, each_size, list, field, ◌>>=◌, done}
 use Rattle.cf_fields.specs.Fields.{byte, half, word, flag, year, amount, most_amount}
-use Rattle.cf_fields.specs.Kinds.{kind_of, kind}
+use Rattle.cf_fields.specs.Kinds.{kind_of, kind, kind_in}
 use Rattle.cf_fields.specs.Fields.{key}
-use Rattle.cf_codec.specs.Acts.{line_amount, source_amount, account_item, charge, voucher_item, line_amounts, source_amounts, account_items, voucher_items, voucher_numbers, principals, adoption, new_requisition, optional, new_order, new_voucher, payment, issue, act_bytes, act_size, act_for}
+use Rattle.cf_codec.specs.Acts.{line_amount, source_amount, account_item, charge, voucher_item, line_amounts, source_amounts, account_items, voucher_items, voucher_numbers, principals, adoption, new_requisition, optional, new_order, new_voucher, payment, issue, lease, lease_principals, act_bytes, act_size, act_for}
 use Rattle.cf_codec.specs.Entries.{drawn_for, on_for, entry, payload}
 
 record IsSized {A : Type 0} (f : Format A) : Type 0 where
@@ -129,6 +129,12 @@ issue_sized on =
     step_sized (λ i. i.rate_bp) _ _ (kept_sized _ half half_sized) (λ rate. step_sized (λ i. i.every) _ _ (kept_sized _ byte byte_sized) (λ every.
     step_sized (λ i. i.principals) (principals on amount every) _ (kept_sized _ _ (list_sized 1 120 most_amount most_amount_sized)) (λ principals. done_sized _)))))
 
+lease_sized : (on : Day) → IsSized (lease on)
+lease_sized on =
+    step_sized (λ l. l.vendor) word _ word_sized (λ vendor. step_sized (λ l. l.account) account_item _ account_item_sized (λ account.
+    step_sized (λ l. l.rate_bp) _ _ (kept_sized _ half half_sized) (λ rate. step_sized (λ l. l.every) _ _ (kept_sized _ byte byte_sized) (λ every.
+    step_sized (λ l. l.principals) (lease_principals on account.amount every) _ (kept_sized _ _ (kept_sized _ _ (list_sized 1 120 most_amount most_amount_sized))) (λ principals. done_sized _)))))
+
 act_sized : (on : Day) (a : Act) → length (act_bytes on a) ≡ act_size on a
 unfolding number_bytes act_bytes act_size
 act_sized on (Adopt a) = adoption_sized.len a
@@ -137,6 +143,7 @@ act_sized on (Order p) = new_order_sized.len p
 act_sized on (Voucher i) = new_voucher_sized.len i
 act_sized on (Pay p) = payment_sized.len p
 act_sized on (Issue i) = (issue_sized on).len i
+act_sized on (Lease l) = (lease_sized on).len l
 act_sized on (Asset (Donate d)) = refl
 act_sized on (Asset (Dispose d)) = refl
 act_sized on (Leave (Earn a)) = refl
@@ -171,7 +178,7 @@ key_sized = record { len = λ k. omega arith }
 
 whole_sized : IsSized entry
 whole_sized =
-    step_sized (λ e. kind_of e.change.act) kind _ kind_sized (λ k. step_sized (λ e. e.change.desk) half _ half_sized (λ desk.
+    step_sized (λ e. kind_of e.change.act) (kind_in 2) _ (kept_sized _ kind kind_sized) (λ k. step_sized (λ e. e.change.desk) half _ half_sized (λ desk.
     step_sized (λ e. e.change.key) key _ key_sized (λ key. step_sized (λ e. e.change.on) (on_for k) _ (on_sized k) (λ on.
     step_sized (λ e. e.change.act) (act_for k on) _ (act_for_sized k on) (λ act. step_sized (λ e. e.drawn) (drawn_for act) _ (drawn_sized act) (λ drawn. done_sized _))))))
 

@@ -1,9 +1,9 @@
 -- The fields of each act, in the order of its payload, with the rules of form where they speak.
-use Rattle.std.specs.Prelude.{ℕ, zero, suc, ◌+◌, ◌*◌, ◌==◌, ◌&&◌, not, nat_le, sum, length, List, ◌++◌, true, false, Bool, Option, Some, None, is_some, unwrap_or, Result, Ok}
+use Rattle.std.specs.Prelude.{ℕ, zero, suc, ◌+◌, ◌*◌, ◌==◌, ◌&&◌, not, nat_le, nat_lt, sum, length, List, ◌++◌, true, false, Bool, Option, Some, None, is_some, unwrap_or, Result, Ok}
 use Rattle.cf_base.specs.declared.calendar.Day.{Day}
 use Rattle.cf_base.specs.Limits.{last_year}
 use Rattle.cf_calls.specs.declared.acts.Act.{Act}
-use Rattle.cf_calls.specs.declared.acts.Act.TheVariants.{Adopt, Amend, Transfer, Requisition, Withdraw, Order, ChangeOrder, CancelOrder, Voucher, VoidVoucher, Pay, Bill, Collect, Receive, WriteOff, Asset, Issue, PayDue, Leave, Interfund, Close}
+use Rattle.cf_calls.specs.declared.acts.Act.TheVariants.{Adopt, Amend, Transfer, Requisition, Withdraw, Order, ChangeOrder, CancelOrder, Voucher, VoidVoucher, Pay, Bill, Collect, Receive, WriteOff, Asset, Issue, PayDue, Leave, Interfund, Close, Lease}
 use Rattle.cf_calls.specs.declared.acts.Adoption.{Adoption}
 use Rattle.cf_calls.specs.declared.acts.Amendment.{Amendment}
 use Rattle.cf_calls.specs.declared.acts.LineTransfer.{LineTransfer}
@@ -19,6 +19,7 @@ use Rattle.cf_calls.specs.declared.acts.AssetAct.TheVariants.{Donate, Dispose}
 use Rattle.cf_calls.specs.declared.acts.Donation.{Donation}
 use Rattle.cf_calls.specs.declared.acts.Disposal.{Disposal}
 use Rattle.cf_calls.specs.declared.acts.BondIssue.{BondIssue}
+use Rattle.cf_calls.specs.declared.acts.NewLease.{NewLease}
 use Rattle.cf_calls.specs.declared.acts.DebtPayment.{DebtPayment}
 use Rattle.cf_calls.specs.declared.acts.LeaveAct.{LeaveAct}
 use Rattle.cf_calls.specs.declared.acts.LeaveAct.TheVariants.{Earn, Use, Mature}
@@ -147,6 +148,10 @@ is_repayment on amount every principals =
 abbrev pub principals : Day → ℕ → ℕ → Format (List ℕ)
 principals on amount every = kept (is_repayment on amount every) (list 1 120 most_amount)
 
+-- .. of a lease, whose term is above 12 months (GASB Statement 87)
+abbrev pub lease_principals : Day → ℕ → ℕ → Format (List ℕ)
+lease_principals on amount every = kept (λ xs. nat_lt 12 (every * length xs)) (principals on amount every)
+
 -- ---- the acts
 
 abbrev pub adoption : Format Adoption
@@ -262,6 +267,15 @@ issue on = do
   every ← field (λ i. i.every) (kept is_period byte)
   principals ← field (λ i. i.principals) (principals on amount every)
   done (record { fund = fund; amount = amount; rate_bp = rate_bp; every = every; principals = principals })
+
+abbrev pub lease : Day → Format NewLease
+lease on = do
+  vendor ← field (λ l. l.vendor) word
+  account ← field (λ l. l.account) account_item
+  rate_bp ← field (λ l. l.rate_bp) (kept (λ n. nat_le n 10000) half)
+  every ← field (λ l. l.every) (kept is_period byte)
+  principals ← field (λ l. l.principals) (lease_principals on account.amount every)
+  done (record { vendor = vendor; account = account; rate_bp = rate_bp; every = every; principals = principals })
 
 abbrev pub debt_payment : Format DebtPayment
 debt_payment = do
@@ -389,6 +403,7 @@ act_bytes on (PayDue p) = debt_payment.bytes p
 act_bytes on (Leave l) = leave_act.bytes l
 act_bytes on (Interfund m) = fund_move.bytes m
 act_bytes on (Close p) = closed_period.bytes p
+act_bytes on (Lease l) = (lease on).bytes l
 
 unfoldable pub act_size : Day → Act → ℕ
 act_size on (Adopt a) = adoption.size a
@@ -412,6 +427,7 @@ act_size on (PayDue p) = debt_payment.size p
 act_size on (Leave l) = leave_act.size l
 act_size on (Interfund m) = fund_move.size m
 act_size on (Close p) = closed_period.size p
+act_size on (Lease l) = (lease on).size l
 
 unfoldable pub act_fits : Day → Act → Type 0
 act_fits on (Adopt a) = adoption.fits a
@@ -435,6 +451,7 @@ act_fits on (PayDue p) = debt_payment.fits p
 act_fits on (Leave l) = leave_act.fits l
 act_fits on (Interfund m) = fund_move.fits m
 act_fits on (Close p) = closed_period.fits p
+act_fits on (Lease l) = (lease on).fits l
 
 unfoldable pub act_at : ActKind → Day → List ℕ → Result (Act × List ℕ) ℕ
 act_at kind.Adopt on bytes = made Adopt (adoption.read bytes)
@@ -458,6 +475,7 @@ act_at kind.PayDue on bytes = made PayDue (debt_payment.read bytes)
 act_at kind.Leave on bytes = made Leave (leave_act.read bytes)
 act_at kind.Interfund on bytes = made Interfund (fund_move.read bytes)
 act_at kind.Close on bytes = made Close (closed_period.read bytes)
+act_at kind.Lease on bytes = made Lease ((lease on).read bytes)
 
 abbrev pub act_for : ActKind → Day → Format Act
 act_for kind on = record { bytes = act_bytes on; size = act_size on; fits = act_fits on; read = act_at kind on }

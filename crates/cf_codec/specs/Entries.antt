@@ -2,7 +2,7 @@
 use Rattle.std.specs.Prelude.{◌≡◌, ℕ, ◌-◌, Bool, true, nat_le, List, length, take, None, Result, Ok, Err}
 use Rattle.cf_base.specs.declared.calendar.Day.{Day}
 use Rattle.cf_calls.specs.declared.acts.Act.{Act}
-use Rattle.cf_calls.specs.declared.acts.Act.TheVariants.{Requisition, Order, Voucher, Bill, Asset, Issue, PayDue}
+use Rattle.cf_calls.specs.declared.acts.Act.TheVariants.{Requisition, Order, Voucher, Bill, Asset, Issue, PayDue, Lease}
 use Rattle.cf_calls.specs.declared.acts.AssetAct.TheVariants.{Donate}
 use Rattle.cf_calls.specs.declared.entry.Drawn.{Drawn}
 use Rattle.cf_calls.specs.declared.entry.Entry.{Entry}
@@ -11,12 +11,13 @@ use Rattle.cf_calls.specs.declared.kind.ActKind.{ActKind}
 use Rattle.cf_calls.specs.declared.kind.ActKind.TheVariants as kind
 use Rattle.cf_fields.specs.Formats.{Format, kept, field, ◌>>=◌, done}
 use Rattle.cf_fields.specs.Fields.{half, word, key, day}
-use Rattle.cf_fields.specs.Kinds.{kind_of, kind}
+use Rattle.cf_fields.specs.Kinds.{kind_of, kind_in, is_of}
 use Rattle.cf_codec.specs.Acts.{act_for}
 
--- a bond is issued on a day from 1 to 28 of its month
+-- a bond is issued, and a lease begins, on a day from 1 to 28 of a month
 abbrev pub may_be_on : ActKind → Day → Bool
 may_be_on kind.Issue d = nat_le d.day 28
+may_be_on kind.Lease d = nat_le d.day 28
 may_be_on _ d = true
 
 abbrev pub on_for : ActKind → Format Day
@@ -51,19 +52,29 @@ drawn_for (Bill b) = one_drawn
 drawn_for (Asset (Donate d)) = one_drawn
 drawn_for (Issue i) = one_drawn
 drawn_for (PayDue p) = payment_drawn
+drawn_for (Lease l) = two_drawn
 drawn_for _ = none_drawn
 
 -- ---- entries
 
-abbrev pub entry : Format Entry
-entry = do
-  kind ← field (λ e. kind_of e.change.act) kind
+-- in the grammar of a version, which has to do with reading alone
+abbrev pub entry_in : ℕ → Format Entry
+entry_in version = do
+  kind ← field (λ e. kind_of e.change.act) (kind_in version)
   desk ← field (λ e. e.change.desk) half
   key ← field (λ e. e.change.key) key
   on ← field (λ e. e.change.on) (on_for kind)
   act ← field (λ e. e.change.act) (act_for kind on)
   drawn ← field (λ e. e.drawn) (drawn_for act)
   done (record { change = record { desk = desk; key = key; on = on; after = None; act = act }; drawn = drawn })
+
+-- every entry has its payload in version 2
+abbrev pub entry : Format Entry
+entry = entry_in 2
+
+-- an entry of the grammar of a version
+abbrev pub IsOf : ℕ → Entry → Type 0
+IsOf version e = is_of version (kind_of e.change.act) ≡ true
 
 -- the payload of an entry
 unfoldable pub payload : Entry → List ℕ
@@ -75,8 +86,8 @@ placed bytes (Ok x) = Ok (x.0, length bytes - length x.1)
 placed bytes (Err left) = Err (length bytes - left)
 
 -- the entry whose payload the first of these bytes are, and how many they are; else the offset of the first faulty field
-unfoldable pub read_of : List ℕ → Result (Entry × ℕ) ℕ
-read_of bytes = placed bytes (entry.read bytes)
+unfoldable pub read_of : ℕ → List ℕ → Result (Entry × ℕ) ℕ
+read_of version bytes = placed bytes ((entry_in version).read bytes)
 
 -- an entry that has a payload: it is in form, and its numbers fit their fields, as those of an `Entry` do
 pub record HasPayload (e : Entry) : Type 0 where

@@ -63,6 +63,7 @@ fn act_len(on: Day, act: &Act) -> u64
         Act::Interfund(_) => 13,
         Act::Close(Period::Month(_)) => 4,
         Act::Close(Period::Year(_)) => 3,
+        Act::Lease(lease) => 21 + list_len::<Principal>(lease.principals.as_slice()),
     }
 }
 
@@ -79,6 +80,7 @@ fn drawn_len(entry: &Entry) -> u64
         Act::Asset(AssetAct::Donate(_)) => 4,
         Act::Issue(_) => 4,
         Act::PayDue(_) => 2,
+        Act::Lease(_) => 8,
         _ => 0,
     }
 }

@@ -13,7 +13,8 @@ use cf_base::Day;
 use cf_calls::Act;
 use cf_calls::acts::{
     Adoption, Amendment, AssetAct, BillAmount, BondIssue, DebtPayment, FundMove, LeaveAct,
-    LeaveAmount, LeaveMaturity, LineTransfer, NewBill, NewOrder, NewVoucher, OrderChange, Period,
+    LeaveAmount, LeaveMaturity, LineTransfer, NewBill, NewLease, NewOrder, NewVoucher, OrderChange,
+    Period,
 };
 use cf_fields::lists::{Element, put_list};
 use cf_fields::put::{
@@ -148,6 +149,19 @@ fn put_issue(out: &mut Vec<u8>, on: Day, issue: &BondIssue)
     put_list::<Principal>(out, issue.principals.as_slice());
 }
 
+fn put_lease(out: &mut Vec<u8>, on: Day, lease: &NewLease)
+    requires period { is_period lease.now.every ≡ true }
+    requires few { length lease.now.principals < 65536 }
+    requires room { HasRoom (spec.lease on) lease.now out.old }
+    ensures { Puts (spec.lease on) lease.now out.old out.new }
+{
+    put_word(out, lease.vendor);
+    AccountElement::put(out, lease.account);
+    put_half(out, lease.rate_bp);
+    put_byte(out, lease.every as u8);
+    put_list::<Principal>(out, lease.principals.as_slice());
+}
+
 fn put_debt_payment(out: &mut Vec<u8>, payment: &DebtPayment)
     requires { HasRoom spec.debt_payment payment.now out.old }
     ensures { Puts spec.debt_payment payment.now out.old out.new }
@@ -256,5 +270,6 @@ pub fn put_act(out: &mut Vec<u8>, on: Day, act: &Act)
         Act::Leave(act) => put_leave_act(out, act),
         Act::Interfund(fund_move) => put_fund_move(out, fund_move),
         Act::Close(period) => put_period(out, period),
+        Act::Lease(lease) => put_lease(out, on, lease),
     }
 }

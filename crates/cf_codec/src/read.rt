@@ -5,7 +5,8 @@ ghost use Rattle.cf_calls.specs.declared.entry.Entry.{Entry};
 ghost use Rattle.cf_codec.specs.Answers.{Answers};
 ghost use Rattle.cf_fields.specs.Readings.{Gives};
 ghost use Rattle.cf_codec.specs.Entries as spec;
-ghost use Rattle.cf_codec.specs.Entries.{BeginsWith, HasPayload, payload, read_of};
+ghost use Rattle.cf_codec.specs.Entries.{BeginsWith, HasPayload, IsOf, payload, read_of};
+ghost use Rattle.cf_fields.specs.Kinds.{kind_in};
 
 use crate::fault::{CodecFault, CodecRefused};
 use crate::take_acts::take_act;
@@ -13,16 +14,29 @@ use cf_base::Day;
 use cf_calls::acts::AssetAct;
 use cf_calls::{Act, ActKind, Change, Drawn, Entry};
 use cf_fields::Refused;
+use cf_fields::kind::is_of;
 use cf_fields::take::{faulty, take_day, take_half, take_key, take_kind, take_word};
 use std::alloc::Global;
 
-/// Whether an entry of a kind may be dated so: a bond is issued on one of the first 28 days of a month.
+/// Whether an entry of a kind may be dated so: a bond is issued, and a lease begins, on one of the first 28 days of a month.
 fn may_be_on(kind: ActKind, on: Day) -> bool
     ensures { result ≡ spec.may_be_on kind on }
 {
     match kind {
-        ActKind::Issue => on.day <= 28,
+        ActKind::Issue | ActKind::Lease => on.day <= 28,
         _ => true,
+    }
+}
+
+/// The kind of an entry, of those of a version.
+fn take_kind_in(version: u8, bytes: &[u8]) -> Result<(ActKind, &[u8]), Refused>
+    ensures { Gives (λ x. (x.0, x.1.now)) result ((kind_in version).read bytes.now) }
+{
+    let (kind, rest) = take_kind(bytes)?;
+    if is_of(version, kind) {
+        Ok((kind, rest))
+    } else {
+        Err(faulty(bytes))
     }
 }
 
@@ -73,6 +87,7 @@ fn take_drawn<'a>(act: &Act, bytes: &'a [u8]) -> Result<(Drawn, &'a [u8]), Refus
         Act::Asset(AssetAct::Donate(_)) => take_one_drawn(bytes),
         Act::Issue(_) => take_one_drawn(bytes),
         Act::PayDue(_) => take_payment_drawn(bytes),
+        Act::Lease(_) => take_two_drawn(bytes),
         _ => {
             let none = Drawn {
                 number: 0,
@@ -83,10 +98,10 @@ fn take_drawn<'a>(act: &Act, bytes: &'a [u8]) -> Result<(Drawn, &'a [u8]), Refus
     }
 }
 
-fn take_entry(alloc: Global, bytes: &[u8]) -> Result<(Entry, &[u8]), Refused>
-    ensures { Gives (λ x. (x.0, x.1.now)) result (spec.entry.read bytes.now) }
+fn take_entry(alloc: Global, bytes: &[u8], version: u8) -> Result<(Entry, &[u8]), Refused>
+    ensures { Gives (λ x. (x.0, x.1.now)) result ((spec.entry_in version).read bytes.now) }
 {
-    let (kind, rest) = take_kind(bytes)?;
+    let (kind, rest) = take_kind_in(version, bytes)?;
     let (desk, rest) = take_half(rest)?;
     let (key, rest) = take_key(alloc, rest)?;
     let (on, rest) = take_on(kind, rest)?;
@@ -104,10 +119,10 @@ fn take_entry(alloc: Global, bytes: &[u8]) -> Result<(Entry, &[u8]), Refused>
 
 /// The entry and the length of its payload, or the offset of the first faulty field.
 #[tactic(auto, unfolding(crate::specs::Entries::read_of))]
-fn entry_at(alloc: Global, bytes: &[u8]) -> Result<(Entry, usize), CodecRefused>
-    ensures { Answers result (read_of bytes.now) }
+fn entry_at(alloc: Global, bytes: &[u8], version: u8) -> Result<(Entry, usize), CodecRefused>
+    ensures { Answers result (read_of version bytes.now) }
 {
-    match take_entry(alloc, bytes) {
+    match take_entry(alloc, bytes, version) {
         Ok((entry, rest)) => Ok((entry, bytes.len() - rest.len())),
         Err(Refused::Faulty(left)) => {
             let offset = bytes.len() - left;
@@ -117,18 +132,19 @@ fn entry_at(alloc: Global, bytes: &[u8]) -> Result<(Entry, usize), CodecRefused>
     }
 }
 
-/// The entry whose payload the first of these bytes are, and how many they are. Otherwise the offset of the
-/// first faulty field, or `NoMemory`.
-pub fn read_entry(alloc: Global, bytes: &[u8]) -> Result<(Entry, usize), CodecRefused>
-    // What is read has a payload, which stands at the front.
+/// The entry whose payload the first of these bytes are in the grammar of a version, 1 or 2, and how many they are. Otherwise
+/// the offset of the first faulty field, or `NoMemory`.
+pub fn read_entry(alloc: Global, bytes: &[u8], version: u8) -> Result<(Entry, usize), CodecRefused>
+    // What is read has a payload, which stands at the front, and is of the version.
     ensures found { IfOk result (λ x. BeginsWith bytes.now x.0 x.1) }
+    ensures of { IfOk result (λ x. IsOf version x.0) }
 
-    // Where a payload stands at the front its entry is read, unless there is no memory.
-    ensures only { (e : Entry) (rest : List ℕ) → HasPayload e → bytes.now ≡ payload e ++ rest
+    // Where a payload of the version stands at the front its entry is read, unless there is no memory.
+    ensures only { (e : Entry) (rest : List ℕ) → HasPayload e → IsOf version e → bytes.now ≡ payload e ++ rest
         → Answers result (Ok (e, length (payload e))) }
 
     // Which entry it is, or which field is faulty.
-    ensures answer { Answers result (read_of bytes.now) }
+    ensures answer { Answers result (read_of version bytes.now) }
 {
-    entry_at(alloc, bytes)
+    entry_at(alloc, bytes, version)
 }

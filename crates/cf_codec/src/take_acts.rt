@@ -1,7 +1,7 @@
 //! The readers of the acts: the fields of each in order, with the rules of form where they speak. Each gives
 //! the act and the bytes after it.
 
-ghost use Rattle.std.specs.Prelude.{◌≡◌, ◌≤◌, ◌+◌, ◌*◌, ◌<◌, nat_le, sum, length};
+ghost use Rattle.std.specs.Prelude.{◌≡◌, ◌≤◌, ◌+◌, ◌*◌, ◌<◌, nat_le, nat_lt, sum, length};
 ghost use Rattle.cf_base.specs.Limits.{last_year};
 ghost use Rattle.cf_calls.specs.Form.{is_period, month_number};
 ghost use Rattle.cf_calls.specs.declared.acts.Act.TheVariants as act;
@@ -16,7 +16,7 @@ use crate::items::{
 use cf_base::{Day, LAST_YEAR};
 use cf_calls::acts::{
     Adoption, Amendment, AssetAct, BillAmount, BondIssue, DebtPayment, Disposal, Donation,
-    FundMove, LeaveAct, LeaveAmount, LeaveMaturity, LineTransfer, NewBill, NewOrder,
+    FundMove, LeaveAct, LeaveAmount, LeaveMaturity, LineTransfer, NewBill, NewLease, NewOrder,
     NewRequisition, NewVoucher, OrderChange, Payment, Period,
 };
 use cf_calls::items::Principals;
@@ -347,6 +347,51 @@ fn take_issue(alloc: Global, on: Day, bytes: &[u8]) -> Result<(Act, &[u8]), Refu
     Ok((Act::Issue(issue), rest))
 }
 
+/// The principals of a lease, whose term is above 12 months.
+fn take_lease_principals(
+    alloc: Global,
+    on: Day,
+    amount: u64,
+    every: u16,
+    bytes: &[u8],
+) -> Result<(Principals, &[u8]), Refused>
+    ensures { Gives (λ x. (x.0, x.1.now)) result ((spec.lease_principals on amount every).read bytes.now) }
+{
+    let (principals, rest) = take_principals(alloc, on, amount, every, bytes)?;
+    if is_long(every, principals.as_slice()) {
+        Ok((principals, rest))
+    } else {
+        Err(faulty(bytes))
+    }
+}
+
+/// Whether the term is above 12 months.
+fn is_long(every: u16, principals: &[u64]) -> bool
+    ensures { result ≡ nat_lt 12 (every * length principals.now) }
+{
+    12 < u128::from(every) * principals.len() as u128
+}
+
+fn take_lease(alloc: Global, on: Day, bytes: &[u8]) -> Result<(Act, &[u8]), Refused>
+    ensures { Gives (λ x. (x.0, x.1.now)) result (spec.made act.Lease ((spec.lease on).read bytes.now)) }
+{
+    let (vendor, rest) = take_word(bytes)?;
+    let (account, rest) = AccountElement::take(rest)?;
+    let at_rate = rest;
+    let (rate_bp, rest) = take_half(at_rate)?;
+    let (rate_bp, rest) = or_faulty((rate_bp <= 10_000).then_some(rate_bp), rest, at_rate)?;
+    let (every, rest) = take_every(rest)?;
+    let (principals, rest) = take_lease_principals(alloc, on, account.amount, every, rest)?;
+    let lease = NewLease {
+        vendor,
+        account,
+        rate_bp,
+        every,
+        principals,
+    };
+    Ok((Act::Lease(lease), rest))
+}
+
 fn take_debt_payment(bytes: &[u8]) -> Result<(Act, &[u8]), Refused>
     ensures { Gives (λ x. (x.0, x.1.now)) result (spec.made act.PayDue (spec.debt_payment.read bytes.now)) }
 {
@@ -472,5 +517,6 @@ pub fn take_act(
         ActKind::Leave => take_leave_act(bytes),
         ActKind::Interfund => take_fund_move(bytes),
         ActKind::Close => take_period(bytes),
+        ActKind::Lease => take_lease(alloc, on, bytes),
     }
 }

@@ -31,6 +31,10 @@ fn put_drawn(out: &mut Vec<u8>, act: &Act, drawn: Drawn)
         Act::Asset(AssetAct::Donate(_)) => put_word(out, drawn.number),
         Act::Issue(_) => put_word(out, drawn.number),
         Act::PayDue(_) => put_half(out, drawn.number as u16),
+        Act::Lease(_) => {
+            put_word(out, drawn.number);
+            put_word(out, drawn.second);
+        }
         _ => {}
     }
 }

@@ -9,9 +9,10 @@ use Rattle.cf_calls.specs.declared.acts.BondIssue.{BondIssue}
 use Rattle.cf_calls.specs.Form.{IsCount, IsIssueForm, is_period}
 use Rattle.cf_chart.specs.Plan.{Plan}
 use Rattle.cf_debt.specs.declared.rows.BondRow.{BondRow}
-use Rattle.cf_debt.specs.RegisterView.{AreRows, HasBonds, HasSums, is_live, principal_of}
+use Rattle.cf_debt.specs.RegisterView.{AreRows, HasBonds, HasSums, amount_of, is_live, lease_amount, lease_principal, principal_of}
 use Rattle.cf_debt.specs.Rows.{IsBond, IsRow, IsSmallDue, view_bond, view_bonds}
 use Rattle.cf_debt.specs.Steps.{bond_row}
+use Rattle.cf_debt.specs.Years.{lease_part}
 use Rattle.cf_debt.proofs.Lists.{among_push, each_append, each_push, map_same, map-push}
 use Rattle.cf_debt.proofs.Schedules.{bond_more, bond_paying, is_bond_more, length_dues, new_dues, new_view, small_dues}
 use Rattle.cf_debt.proofs.RunningSums.{Rise, charged_push, issued_push, paid_push}
@@ -44,9 +45,9 @@ pub record IsNew (closed : ℕ) (all : List Due) (count : ℕ) (r : BondRow) (pr
   pub within : r.last ≤ 2759
   pub early : closed ≤ r.month
 
-pub new_row : (plan : Plan) (on : Day) (number : ℕ) (i : BondIssue) (closed : ℕ) (all : List Due) (count : ℕ) → is_day on ≡ true → IsIssueForm on i → number ≡ count + 1 → i.amount ≤ 10000000000000 →
-    1970 ≤ (bond_row plan on number i (length all)).year → (bond_row plan on number i (length all)).last ≤ 2759 → closed ≤ number_of_day plan on → IsNew closed all count (bond_row plan on number i (length all)) i.principals
-new_row plan on number i closed all count day form is amount year within early =
+pub new_row : (plan : Plan) (on : Day) (number : ℕ) (is_lease : Bool) (i : BondIssue) (closed : ℕ) (all : List Due) (count : ℕ) → is_day on ≡ true → IsIssueForm on i → number ≡ count + 1 → i.amount ≤ 10000000000000 →
+    1970 ≤ (bond_row plan on number is_lease i (length all)).year → (bond_row plan on number is_lease i (length all)).last ≤ 2759 → closed ≤ number_of_day plan on → IsNew closed all count (bond_row plan on number is_lease i (length all)) i.principals
+new_row plan on number is_lease i closed all count day form is amount year within early =
     record {
       number = is;
       year = year;
@@ -111,13 +112,16 @@ nothing_paid f ps paid e = ap (λ n. sum_by f (take n ps)) e ∙ none ps
     none [] = refl
     none (p ∷ ps) = refl
 
-pub sums_entered : (closed : ℕ) (all : List Due) (count : ℕ) (bonds : List Bond) (r : BondRow) (principals issued new repaid coupons charged : List ℕ) → IsNew closed all count r principals →
-    HasSums closed bonds issued repaid coupons charged → Rise issued new (r.year - 1970) r.amount → HasSums closed (bonds ++ bond_paying r principals ∷ []) new repaid coupons charged
-sums_entered closed all count bonds r principals issued new repaid coupons charged is was rise =
+pub sums_entered : (closed : ℕ) (all : List Due) (count : ℕ) (bonds : List Bond) (r : BondRow) (principals issued new leased leased_now repaid leases_repaid coupons charged : List ℕ) → IsNew closed all count r principals →
+    HasSums closed bonds issued leased repaid leases_repaid coupons charged → Rise issued new (r.year - 1970) r.amount → Rise leased leased_now (r.year - 1970) (lease_part r.is_lease r.amount) →
+    HasSums closed (bonds ++ bond_paying r principals ∷ []) new leased_now repaid leases_repaid coupons charged
+sums_entered closed all count bonds r principals issued new leased leased_now repaid leases_repaid coupons charged is was rise part =
     let b = bond_paying r principals in
     record {
-      issues = issued_push bonds b issued new is.year was.issues rise;
+      issues = issued_push amount_of bonds b issued new is.year was.issues rise;
+      leases = issued_push lease_amount bonds b leased leased_now is.year was.leases part;
       principals = paid_push principal_of bonds b repaid (λ n. nothing_paid _ (dues b) r.paid is.paid) was.principals;
+      lease_principals = paid_push lease_principal bonds b leases_repaid (λ n. nothing_paid _ (dues b) r.paid is.paid) was.lease_principals;
       interests = paid_push coupon bonds b coupons (λ n. nothing_paid _ (dues b) r.paid is.paid) was.interests;
       charges = charged_push closed bonds b charged (λ m l. early_dues b m r.month r.amount principals (omega (arith, l, is.early)) is.day.from) was.charges;
     }

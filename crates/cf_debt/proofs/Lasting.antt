@@ -20,7 +20,7 @@ use Rattle.cf_model.specs.RegisterRules.{unpaid}
 use Rattle.cf_model.specs.Rules.{first_refusal, or_else}
 
 abbrev pub no_bond : BondRow
-no_bond = record { number = 0; fund = 0; amount = 0; year = 0; month = 0; terms = record { every = 0; day = 0; rate_bp = 0 }; start = 0; count = 0; last = 0; paid = 0 }
+no_bond = record { number = 0; is_lease = false; fund = 0; amount = 0; year = 0; month = 0; terms = record { every = 0; day = 0; rate_bp = 0 }; start = 0; count = 0; last = 0; paid = 0 }
 
 -- the row of a number
 abbrev pub row_at : List BondRow → ℕ → BondRow

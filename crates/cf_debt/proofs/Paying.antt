@@ -7,9 +7,10 @@ use Rattle.cf_calls.specs.declared.refusal.Refusal.{Refusal}
 use Rattle.cf_chart.specs.Plan.{Plan}
 use Rattle.cf_debt.specs.declared.rows.BondRow.{BondRow}
 use Rattle.cf_debt.specs.Register.{unpaid_of}
-use Rattle.cf_debt.specs.RegisterView.{AreRows, HasBonds, HasSums, is_live, paid_in, principal_of}
+use Rattle.cf_debt.specs.RegisterView.{AreRows, HasBonds, HasSums, is_live, lease_amount, lease_principal, paid_in, principal_of}
 use Rattle.cf_debt.specs.Rows.{IsRow, view_bond, view_bonds}
 use Rattle.cf_debt.specs.Steps.{paid_row}
+use Rattle.cf_debt.specs.Years.{lease_part}
 use Rattle.cf_debt.proofs.Finding.{agree, differ}
 use Rattle.cf_debt.proofs.Lists.{among_set, each_set, map_set, sum_set}
 use Rattle.cf_debt.proofs.Refusing.{or_none}
@@ -74,16 +75,20 @@ no_more : (n : ℕ) → n ≡ n + 0
 no_more n = omega arith
 
 -- the sums of what was paid rise by the payment's principal and coupon, in the year in which it was due
-pub sums_paid : (closed : ℕ) (all : List Due) (rows : List BondRow) (k : ℕ) (d : BondRow) (q : Due) (issued repaid repaid_now coupons coupons_now charged : List ℕ) → AreRows closed all rows → k < length rows →
-    (get_or rows k d).paid < (get_or rows k d).count → get_or all ((get_or rows k d).start + (get_or rows k d).paid) q ≡ q → HasSums closed (view_bonds all rows) issued repaid coupons charged →
-    Rise repaid repaid_now (q.month / 12) q.principal → Rise coupons coupons_now (q.month / 12) (coupon (view_bond all (get_or rows k d)) q) →
-    HasSums closed (view_bonds all (set rows k (paid_row (get_or rows k d)))) issued repaid_now coupons_now charged
-sums_paid closed all rows k d q issued repaid repaid_now coupons coupons_now charged each l left at was more interest =
+pub sums_paid : (closed : ℕ) (all : List Due) (rows : List BondRow) (k : ℕ) (d : BondRow) (q : Due) (issued leased repaid repaid_now leases_repaid leases_now coupons coupons_now charged : List ℕ) → AreRows closed all rows → k < length rows →
+    (get_or rows k d).paid < (get_or rows k d).count → get_or all ((get_or rows k d).start + (get_or rows k d).paid) q ≡ q → HasSums closed (view_bonds all rows) issued leased repaid leases_repaid coupons charged →
+    Rise repaid repaid_now (q.month / 12) q.principal → Rise leases_repaid leases_now (q.month / 12) (lease_part (get_or rows k d).is_lease q.principal) → Rise coupons coupons_now (q.month / 12) (coupon (view_bond all (get_or rows k d)) q) →
+    HasSums closed (view_bonds all (set rows k (paid_row (get_or rows k d)))) issued leased repaid_now leases_now coupons_now charged
+sums_paid closed all rows k d q issued leased repaid repaid_now leases_repaid leases_now coupons coupons_now charged each l left at was more part interest =
     record {
       issues = λ year. was.issues year ∙ no_more _ ∙ sym (sum_set (λ (b : Bond). if nat_le b.year year then b.amount else 0) (view_bond all) rows k 0 (paid_row r) d l (no_more _));
+      leases = λ year. was.leases year ∙ no_more _ ∙ sym (sum_set (λ (b : Bond). if nat_le b.year year then lease_amount b else 0) (view_bond all) rows k 0 (paid_row r) d l (no_more _));
       principals = λ n. more n ∙ ap (λ x. x + (if nat_lt (q.month / 12) n then q.principal else 0)) (was.principals n)
           ∙ sym (sum_set (paid_in n principal_of) (view_bond all) rows k (if nat_lt (q.month / 12) n then q.principal else 0) (paid_row r) d l
           (step (λ (p : Due). if nat_lt (p.month / 12) n then p.principal else 0)));
+      lease_principals = λ n. part n ∙ ap (λ x. x + (if nat_lt (q.month / 12) n then lease_principal b q else 0)) (was.lease_principals n)
+          ∙ sym (sum_set (paid_in n lease_principal) (view_bond all) rows k (if nat_lt (q.month / 12) n then lease_principal b q else 0) (paid_row r) d l
+          (step (λ (p : Due). if nat_lt (p.month / 12) n then lease_principal b p else 0)));
       interests = λ n. interest n ∙ ap (λ x. x + (if nat_lt (q.month / 12) n then coupon b q else 0)) (was.interests n)
           ∙ sym (sum_set (paid_in n coupon) (view_bond all) rows k (if nat_lt (q.month / 12) n then coupon b q else 0) (paid_row r) d l
           (step (λ (p : Due). if nat_lt (p.month / 12) n then coupon b p else 0)));

@@ -1,19 +1,19 @@
 -- Running sums by fiscal year: what each act adds to them, and what is read of them.
-use Rattle.std.proofs.Common.{◌≡◌, ◌⊎◌, inl, inr, ℕ, suc, ◌+◌, ◌-◌, ◌*◌, ◌/◌, ◌<◌, ◌≤◌, min, Bool, true, false, if◌then◌else◌, ◌==◌, nat_lt, nat_le, List, [], ◌∷◌, ◌++◌, sum_by, pos, ◌-ℤ◌, refl, sym, ap, ◌∙◌, arith}
+use Rattle.std.proofs.Common.{◌≡◌, ◌⊎◌, inl, inr, ℕ, suc, ◌+◌, ◌-◌, ◌*◌, ◌/◌, ◌<◌, ◌≤◌, min, Bool, true, false, if◌then◌else◌, ◌==◌, nat_lt, nat_le, List, [], ◌∷◌, ◌++◌, sum_by, ℤ, pos, ◌+ℤ◌, ◌-ℤ◌, refl, sym, ap, ◌∙◌, arith}
 use Rattle.std.proofs.lemmas.Bool.Decides.{eqb_tells, leb_tells, nat_tests}
 use Rattle.std.proofs.lemmas.Int.{ints}
-use Rattle.std.proofs.lemmas.List.Sums.{sum_by_push}
+use Rattle.std.proofs.lemmas.List.Sums.{sum_by-cons, sum_by_push}
 use Rattle.cf_chart.specs.Plan.{Plan}
-use Rattle.cf_debt.specs.RegisterView.{AreCharged, AreIssued, ArePaid, paid_in, principal_of}
-use Rattle.cf_debt.specs.Years.{sum_of, sum_through}
+use Rattle.cf_debt.specs.RegisterView.{AreCharged, AreIssued, ArePaid, amount_of, lease_amount, lease_principal, paid_in, principal_of}
+use Rattle.cf_debt.specs.Years.{lease_part, sum_of, sum_through}
 use Rattle.cf_debt.proofs.Lists.{sum_by-equal, sum_by-plus}
-use Rattle.cf_model.specs.Bonds.{Bond, Due, accrued_through, coupon, earned, interest_charge, owed_through, paid_dues, paid_to}
+use Rattle.cf_model.specs.Bonds.{Bond, Due, accrued_through, coupon, earned, interest_charge, issues, leases, owed_through, paid_dues, paid_to}
 use Rattle.cf_model.specs.Changes.{issued_in, principal_in}
 use Rattle.cf_model.specs.Months.{closed_to, year_at}
 use Rattle.cf_model.specs.Sums.{int_sum}
 use Rattle.cf_model.proofs.ChangeRows.{sum_minus}
 use Rattle.cf_model.proofs.Debt.{earned_le}
-use Rattle.cf_model.proofs.Totals.{sum_pos, sum_same}
+use Rattle.cf_model.proofs.Totals.{split_sum, sum_pos, sum_same}
 
 -- years' sums rise by an amount from a place on
 abbrev pub Rise : List ℕ → List ℕ → ℕ → ℕ → Type 0
@@ -27,11 +27,11 @@ rise_through old new year amount z l rise = rise (z - 1969) ∙ ap (λ b. sum_th
 
 -- ---- a bond more
 
-pub issued_push : (bonds : List Bond) (b : Bond) (old new : List ℕ) → 1970 ≤ b.year → AreIssued bonds old → Rise old new (b.year - 1970) b.amount → AreIssued (bonds ++ b ∷ []) new
-issued_push bonds b old new l was rise year =
-    rise_through old new b.year b.amount year l rise
-    ∙ ap (λ n. n + (if nat_le b.year year then b.amount else 0)) (was year)
-    ∙ sym (sum_by_push (λ (x : Bond). if nat_le x.year year then x.amount else 0) bonds b)
+pub issued_push : (f : Bond → ℕ) (bonds : List Bond) (b : Bond) (old new : List ℕ) → 1970 ≤ b.year → AreIssued f bonds old → Rise old new (b.year - 1970) (f b) → AreIssued f (bonds ++ b ∷ []) new
+issued_push f bonds b old new l was rise year =
+    rise_through old new b.year (f b) year l rise
+    ∙ ap (λ n. n + (if nat_le b.year year then f b else 0)) (was year)
+    ∙ sym (sum_by_push (λ (x : Bond). if nat_le x.year year then f x else 0) bonds b)
 
 pub paid_push : (f : Bond → Due → ℕ) (bonds : List Bond) (b : Bond) (cells : List ℕ) → ((n : ℕ) → paid_in n f b ≡ 0) → ArePaid f bonds cells → ArePaid f (bonds ++ b ∷ []) cells
 paid_push f bonds b cells none was n = was n ∙ no_more _ _ (none n) ∙ sym (sum_by_push (paid_in n f) bonds b)
@@ -92,7 +92,7 @@ paid_is f plan year b =
 differences : (f g : Bond → ℕ) (bonds : List Bond) → int_sum (λ b. pos (f b) -ℤ pos (g b)) bonds ≡ pos (sum_by f bonds) -ℤ pos (sum_by g bonds)
 differences f g bonds = sum_minus (λ b. pos (f b)) (λ b. pos (g b)) bonds ∙ (λ i. sym (sum_pos f bonds) i -ℤ sym (sum_pos g bonds) i)
 
-pub owed_is : (plan : Plan) (year : ℕ) (bonds : List Bond) (issued repaid : List ℕ) → AreIssued bonds issued → ArePaid principal_of bonds repaid →
+pub owed_is : (plan : Plan) (year : ℕ) (bonds : List Bond) (issued repaid : List ℕ) → AreIssued amount_of bonds issued → ArePaid principal_of bonds repaid →
     pos (sum_through year issued) -ℤ pos (sum_of (years_to plan year) repaid) ≡ int_sum (owed_through plan year) bonds
 owed_is plan year bonds issued repaid are paid =
     (λ i. pos (are year i) -ℤ pos (paid (years_to plan year) i))
@@ -137,13 +137,13 @@ due_of_year first year k amount =
     by_tests a b e (inr h) (inr p) (inl m) = absurd (omega (arith, h.1, m.1))
     by_tests a b e (inr h) (inr p) (inr m) = rw (h.0, p.0, m.0) refl
 
-pub issued_year : (year : ℕ) (bonds : List Bond) (cells : List ℕ) → 1 ≤ year → AreIssued bonds cells →
-    sum_through year cells ≡ sum_through (year - 1) cells + sum_by (λ b. if b.year == year then b.amount else 0) bonds
-issued_year year bonds cells first are =
+pub issued_year : (f : Bond → ℕ) (year : ℕ) (bonds : List Bond) (cells : List ℕ) → 1 ≤ year → AreIssued f bonds cells →
+    sum_through year cells ≡ sum_through (year - 1) cells + sum_by (λ b. if b.year == year then f b else 0) bonds
+issued_year f year bonds cells first are =
     are year
-    ∙ sum_by-equal (λ (b : Bond). if nat_le b.year year then b.amount else 0) (λ b. (if nat_le b.year (year - 1) then b.amount else 0) + (if b.year == year then b.amount else 0)) bonds (λ b. of_year b.year year b.amount first)
-    ∙ sum_by-plus (λ (b : Bond). if nat_le b.year (year - 1) then b.amount else 0) (λ b. if b.year == year then b.amount else 0) bonds
-    ∙ ap (λ n. n + sum_by (λ (b : Bond). if b.year == year then b.amount else 0) bonds) (sym (are (year - 1)))
+    ∙ sum_by-equal (λ (b : Bond). if nat_le b.year year then f b else 0) (λ b. (if nat_le b.year (year - 1) then f b else 0) + (if b.year == year then f b else 0)) bonds (λ b. of_year b.year year (f b) first)
+    ∙ sum_by-plus (λ (b : Bond). if nat_le b.year (year - 1) then f b else 0) (λ b. if b.year == year then f b else 0) bonds
+    ∙ ap (λ n. n + sum_by (λ (b : Bond). if b.year == year then f b else 0) bonds) (sym (are (year - 1)))
 
 -- the principal of a bond's paid payments that were due in a year
 abbrev pub paid_of_year : Plan → ℕ → Bond → ℕ
@@ -164,10 +164,10 @@ repaid_year plan year bonds cells are =
     ∙ sum_by-plus (paid_in (years_to plan year - 1) principal_of) (paid_of_year plan year) bonds
     ∙ ap (λ n. n + sum_by (paid_of_year plan year) bonds) (sym (are (years_to plan year - 1)))
 
-pub proceeds_is : (year : ℕ) (bonds : List Bond) (cells : List ℕ) → 1 ≤ year → AreIssued bonds cells →
+issued_is : (year : ℕ) (bonds : List Bond) (cells : List ℕ) → 1 ≤ year → AreIssued amount_of bonds cells →
     pos (sum_through (year - 1) cells) -ℤ pos (sum_through year cells) ≡ pos 0 -ℤ int_sum (issued_in year) bonds
-proceeds_is year bonds cells first are =
-    falls _ _ _ (issued_year year bonds cells first are) ∙ ap (λ z. pos 0 -ℤ z) (sum_pos (λ (b : Bond). if b.year == year then b.amount else 0) bonds)
+issued_is year bonds cells first are =
+    falls _ _ _ (issued_year amount_of year bonds cells first are) ∙ ap (λ z. pos 0 -ℤ z) (sum_pos (λ (b : Bond). if b.year == year then b.amount else 0) bonds)
   where
     falls : (x y n : ℕ) → y ≡ x + n → pos x -ℤ pos y ≡ pos 0 -ℤ pos n
     falls x y n e = omega (arith, ints, e)
@@ -179,3 +179,75 @@ principal_is plan year bonds cells are =
   where
     rises : (x y n : ℕ) → y ≡ x + n → pos y -ℤ pos x ≡ pos n
     rises x y n e = omega (arith, ints, e)
+
+-- ---- the leases among bonds
+
+-- a sum of what is of leases
+lease_sum : (g : Bond → ℤ) (h : Bool → Bond → ℤ) → ((b : Bond) → h true b ≡ g b) → ((b : Bond) → h false b ≡ pos 0) → (bonds : List Bond) → int_sum (λ b. h b.is_lease b) bonds ≡ int_sum g (leases bonds)
+lease_sum g h on off [] = refl
+lease_sum g h on off (b ∷ bonds) = by_test b.is_lease (lease_sum g h on off bonds)
+  where
+    nothing : (z w v : ℤ) → z ≡ pos 0 → w ≡ v → z +ℤ w ≡ v
+    nothing z w v e f = omega (arith, ints, e, f)
+
+    by_test : (t : Bool) → int_sum (λ x. h x.is_lease x) bonds ≡ int_sum g (leases bonds) →
+        h t b +ℤ int_sum (λ x. h x.is_lease x) bonds ≡ int_sum g (if t then b ∷ leases bonds else leases bonds)
+    by_test true more = λ i. on b i +ℤ more i
+    by_test false more = nothing _ _ _ (off b) more
+
+none_if : (b : Bool) (n : ℕ) → (if b then lease_part false n else 0) ≡ 0
+none_if true n = refl
+none_if false n = refl
+
+none_paid : (t : Due → Bool) (ps : List Due) → sum_by (λ p. if t p then lease_part false p.principal else 0) ps ≡ 0
+none_paid t [] = refl
+none_paid t (p ∷ ps) = omega (arith, sum_by-cons (λ (p : Due). if t p then lease_part false p.principal else 0) p ps, none_if (t p) p.principal, none_paid t ps)
+
+pub leases_is : (plan : Plan) (year : ℕ) (bonds : List Bond) (leased repaid : List ℕ) → AreIssued lease_amount bonds leased → ArePaid lease_principal bonds repaid →
+    pos (sum_through year leased) -ℤ pos (sum_of (years_to plan year) repaid) ≡ int_sum (owed_through plan year) (leases bonds)
+leases_is plan year bonds leased repaid are paid =
+    (λ i. pos (are year i) -ℤ pos (paid (years_to plan year) i))
+    ∙ sym (differences (λ (b : Bond). if nat_le b.year year then lease_amount b else 0) (paid_in (years_to plan year) lease_principal) bonds)
+    ∙ lease_sum (owed_through plan year) part (λ b. ap (λ n. pos (if nat_le b.year year then b.amount else 0) -ℤ pos n) (sym (paid_is principal_of plan year b))) off bonds
+  where
+    part : Bool → Bond → ℤ
+    part t b = pos (if nat_le b.year year then lease_part t b.amount else 0) -ℤ pos (sum_by (λ p. if nat_lt (p.month / 12) (years_to plan year) then lease_part t p.principal else 0) (paid_dues b))
+
+    zero_less : (m n : ℕ) → m ≡ 0 → n ≡ 0 → pos m -ℤ pos n ≡ pos 0
+    zero_less m n e f = rw (e, f) refl
+
+    off : (b : Bond) → part false b ≡ pos 0
+    off b = zero_less _ _ (none_if (nat_le b.year year) b.amount) (none_paid (λ (p : Due). nat_lt (p.month / 12) (years_to plan year)) (paid_dues b))
+
+pub leases_issued_is : (year : ℕ) (bonds : List Bond) (cells : List ℕ) → 1 ≤ year → AreIssued lease_amount bonds cells →
+    pos (sum_through (year - 1) cells) -ℤ pos (sum_through year cells) ≡ pos 0 -ℤ int_sum (issued_in year) (leases bonds)
+leases_issued_is year bonds cells first are =
+    falls _ _ _ (issued_year lease_amount year bonds cells first are)
+    ∙ ap (λ z. pos 0 -ℤ z)
+    (sum_pos (λ (b : Bond). if b.year == year then lease_amount b else 0) bonds
+    ∙ lease_sum (issued_in year) (λ t b. pos (if b.year == year then lease_part t b.amount else 0)) (λ b. refl) (λ b. ap pos (none_if (b.year == year) b.amount)) bonds)
+  where
+    falls : (x y n : ℕ) → y ≡ x + n → pos x -ℤ pos y ≡ pos 0 -ℤ pos n
+    falls x y n e = omega (arith, ints, e)
+
+-- ---- what is issued and no lease
+
+-- what is of all, less what is of leases
+others : (f : Bond → ℤ) (bonds : List Bond) (a b c d : ℕ) → pos a -ℤ pos b ≡ int_sum f bonds → pos c -ℤ pos d ≡ int_sum f (leases bonds) → pos (a + d) -ℤ pos (b + c) ≡ int_sum f (issues bonds)
+others f bonds a b c d all part = among a b c d (int_sum f bonds) (int_sum f (leases bonds)) (int_sum f (issues bonds)) all part (split_sum f (λ (x : Bond). x.is_lease) bonds)
+  where
+    among : (a b c d : ℕ) (x y z : ℤ) → pos a -ℤ pos b ≡ x → pos c -ℤ pos d ≡ y → z +ℤ y ≡ x → pos (a + d) -ℤ pos (b + c) ≡ z
+    among a b c d x y z e f g = omega (arith, ints, e, f, g)
+
+pub bonds_is : (plan : Plan) (year : ℕ) (bonds : List Bond) (issued leased repaid leases_repaid : List ℕ) → AreIssued amount_of bonds issued → AreIssued lease_amount bonds leased → ArePaid principal_of bonds repaid → ArePaid lease_principal bonds leases_repaid →
+    pos (sum_through year issued + sum_of (years_to plan year) leases_repaid) -ℤ pos (sum_of (years_to plan year) repaid + sum_through year leased) ≡ int_sum (owed_through plan year) (issues bonds)
+bonds_is plan year bonds issued leased repaid leases_repaid all part paid part_paid =
+    others (owed_through plan year) bonds (sum_through year issued) (sum_of (years_to plan year) repaid) (sum_through year leased) (sum_of (years_to plan year) leases_repaid) (owed_is plan year bonds issued repaid all paid) (leases_is plan year bonds leased leases_repaid part part_paid)
+
+pub proceeds_is : (year : ℕ) (bonds : List Bond) (issued leased : List ℕ) → 1 ≤ year → AreIssued amount_of bonds issued → AreIssued lease_amount bonds leased →
+    pos (sum_through (year - 1) issued + sum_through year leased) -ℤ pos (sum_through year issued + sum_through (year - 1) leased) ≡ pos 0 -ℤ int_sum (issued_in year) (issues bonds)
+proceeds_is year bonds issued leased first all part =
+    among (sum_through (year - 1) issued) (sum_through year issued) (sum_through (year - 1) leased) (sum_through year leased) (int_sum (issued_in year) bonds) (int_sum (issued_in year) (leases bonds)) (int_sum (issued_in year) (issues bonds)) (issued_is year bonds issued first all) (leases_issued_is year bonds leased first part) (split_sum (issued_in year) (λ (x : Bond). x.is_lease) bonds)
+  where
+    among : (a b c d : ℕ) (x y z : ℤ) → pos a -ℤ pos b ≡ pos 0 -ℤ x → pos c -ℤ pos d ≡ pos 0 -ℤ y → z +ℤ y ≡ x → pos (a + d) -ℤ pos (b + c) ≡ pos 0 -ℤ z
+    among a b c d x y z e f g = omega (arith, ints, e, f, g)

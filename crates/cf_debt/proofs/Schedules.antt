@@ -90,6 +90,7 @@ paid_step f all r d bond l =
 abbrev pub bond_paying : BondRow → List ℕ → Bond
 bond_paying r principals = record {
   number = r.number;
+  is_lease = r.is_lease;
   fund = r.fund;
   amount = r.amount;
   year = r.year;

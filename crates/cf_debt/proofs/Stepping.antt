@@ -7,6 +7,7 @@ use Rattle.cf_calls.specs.declared.acts.Act.TheVariants as act
 use Rattle.cf_calls.specs.declared.acts.BondIssue.{BondIssue}
 use Rattle.cf_calls.specs.declared.acts.DebtPayment.{DebtPayment}
 use Rattle.cf_calls.specs.declared.acts.LeaveAct.{LeaveAct}
+use Rattle.cf_calls.specs.declared.acts.NewLease.{NewLease}
 use Rattle.cf_calls.specs.declared.acts.Period.{Period}
 use Rattle.cf_calls.specs.declared.entry.Drawn.{Drawn}
 use Rattle.cf_chart.specs.Plan.{Plan}
@@ -26,6 +27,9 @@ stepped plan d desk on a drawn = debts_of (registers_step plan (registers_with d
 pub issue_step : (plan : Plan) (d : Debts) (desk : ℕ) (on : Day) (i : BondIssue) (drawn : Drawn) → stepped plan d desk on (act.Issue i) drawn ≡ record d { bonds = d.bonds ++ bonds_by plan on (act.Issue i) drawn }
 issue_step plan d desk on i drawn = λ k. record { bonds = map_id d.bonds k ++ bonds_by plan on (act.Issue i) drawn; leave = append-nil d.leave k; closed = d.closed }
 
+pub lease_step : (plan : Plan) (d : Debts) (desk : ℕ) (on : Day) (l : NewLease) (drawn : Drawn) → stepped plan d desk on (act.Lease l) drawn ≡ record d { bonds = d.bonds ++ bonds_by plan on (act.Lease l) drawn }
+lease_step plan d desk on l drawn = λ k. record { bonds = map_id d.bonds k ++ bonds_by plan on (act.Lease l) drawn; leave = append-nil d.leave k; closed = d.closed }
+
 pub pay_step : (plan : Plan) (d : Debts) (desk : ℕ) (on : Day) (p : DebtPayment) (drawn : Drawn) → stepped plan d desk on (act.PayDue p) drawn ≡ record d { bonds = map (bond_step (act.PayDue p)) d.bonds }
 pay_step plan d desk on p drawn = λ k. record { bonds = append-nil (map (bond_step (act.PayDue p)) d.bonds) k; leave = append-nil d.leave k; closed = d.closed }
 
@@ -37,9 +41,10 @@ close_step plan d desk on p drawn = λ k. record { bonds = (append-nil (map (λ 
 
 -- another act leaves debt as it is
 pub quiet_step : (a : Act) (plan : Plan) (d : Debts) (desk : ℕ) (on : Day) (drawn : Drawn) → ((i : BondIssue) → a ≡ act.Issue i → ⊥) → ((p : DebtPayment) → a ≡ act.PayDue p → ⊥) →
-    ((l : LeaveAct) → a ≡ act.Leave l → ⊥) → ((p : Period) → a ≡ act.Close p → ⊥) → stepped plan d desk on a drawn ≡ d
-quiet_step (act.Issue i) plan d desk on drawn h k l m = absurd (h i refl)
-quiet_step (act.PayDue p) plan d desk on drawn h k l m = absurd (k p refl)
-quiet_step (act.Leave x) plan d desk on drawn h k l m = absurd (l x refl)
-quiet_step (act.Close x) plan d desk on drawn h k l m = absurd (m x refl)
-quiet_step _ plan d desk on drawn h k l m = λ i. record { bonds = (append-nil (map (λ (b : Bond). b) d.bonds) ∙ map_id d.bonds) i; leave = append-nil d.leave i; closed = d.closed }
+    ((l : LeaveAct) → a ≡ act.Leave l → ⊥) → ((p : Period) → a ≡ act.Close p → ⊥) → ((x : NewLease) → a ≡ act.Lease x → ⊥) → stepped plan d desk on a drawn ≡ d
+quiet_step (act.Issue i) plan d desk on drawn h k l m n = absurd (h i refl)
+quiet_step (act.PayDue p) plan d desk on drawn h k l m n = absurd (k p refl)
+quiet_step (act.Leave x) plan d desk on drawn h k l m n = absurd (l x refl)
+quiet_step (act.Close x) plan d desk on drawn h k l m n = absurd (m x refl)
+quiet_step (act.Lease x) plan d desk on drawn h k l m n = absurd (n x refl)
+quiet_step _ plan d desk on drawn h k l m n = λ i. record { bonds = (append-nil (map (λ (b : Bond). b) d.bonds) ∙ map_id d.bonds) i; leave = append-nil d.leave i; closed = d.closed }

@@ -1,11 +1,11 @@
 -- What a month charges of a bond's payments, of which at most two earn in a month.
-use Rattle.std.specs.Prelude.{ℕ, ◌+◌, ◌-◌, if◌then◌else◌, ◌==◌, List, [], ◌∷◌}
+use Rattle.std.specs.Prelude.{ℕ, ◌+◌, ◌-◌, false, if◌then◌else◌, ◌==◌, List, [], ◌∷◌}
 use Rattle.cf_debt.specs.declared.rows.Terms.{Terms}
 use Rattle.cf_model.specs.Bonds.{Bond, Due, interest_for, days_by}
 
 -- a bond of these terms
 abbrev pub bond_of : Terms → Bond
-bond_of t = record { number = 0; fund = 0; amount = 0; year = 0; month = 0; day = t.day; rate_bp = t.rate_bp; every = t.every; principals = []; paid = 0 }
+bond_of t = record { number = 0; is_lease = false; fund = 0; amount = 0; year = 0; month = 0; day = t.day; rate_bp = t.rate_bp; every = t.every; principals = []; paid = 0 }
 
 abbrev pub first_part : Bond → ℕ → List Due → ℕ
 first_part b months [] = 0

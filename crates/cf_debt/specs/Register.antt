@@ -71,12 +71,14 @@ HasRoomToChange (Mature l) r = HasRoomForLeave l.fund l.dept r
 -- there is memory for what an act adds
 abbrev pub HasRoomFor : Act → Register → Type 0
 HasRoomFor (act.Issue i) r = HasRoomToIssue (length i.principals) r
+HasRoomFor (act.Lease l) r = HasRoomToIssue (length l.principals) r
 HasRoomFor (act.Leave l) r = HasRoomToChange l r
 HasRoomFor _ r = Unit {0}
 
--- the numbers that an act draws of bonds alone: the next bond's, or the next payment's of a bond that is there to be paid
+-- the numbers that an act draws of bonds alone: the next bond's, as a lease's second, or the next payment's of a bond that is there to be paid
 abbrev pub debt_draws : List Bond → Act → Drawn
 debt_draws bonds (act.Issue i) = record { number = length bonds + 1; second = 0 }
+debt_draws bonds (act.Lease l) = record { number = 0; second = length bonds + 1 }
 debt_draws bonds (act.PayDue p) = record { number = payment_number (bond_at p.bond bonds); second = 0 }
 debt_draws bonds _ = record { number = 0; second = 0 }
 
@@ -95,9 +97,10 @@ abbrev pub IsThere : List Bond → Act → Type 0
 IsThere bonds (act.PayDue p) = is_some (bond_at p.bond bonds) ≡ true
 IsThere bonds _ = Unit {0}
 
--- the month of a bond's issue isn't closed
+-- the month in which a bond is issued, or a lease begins, isn't closed
 abbrev pub IsEarlyIssue : Plan → Debts → Day → Act → Type 0
 IsEarlyIssue plan d on (act.Issue i) = d.closed ≤ number_of_day plan on
+IsEarlyIssue plan d on (act.Lease l) = d.closed ≤ number_of_day plan on
 IsEarlyIssue plan d on _ = Unit {0}
 
 -- the entry of an act; debt doesn't depend on its key
@@ -107,7 +110,7 @@ entry_for desk on act drawn = record { change = record { desk = desk; key = []; 
 -- ---- what is due next
 
 abbrev pub due_of : Plan → Bond → Due → DueNow
-due_of plan b p = record { payment = b.paid + 1; day = due_day plan b p; year = year_at plan p.month; principal = p.principal; interest = coupon b p }
+due_of plan b p = record { is_lease = b.is_lease; payment = b.paid + 1; day = due_day plan b p; year = year_at plan p.month; principal = p.principal; interest = coupon b p }
 
 abbrev pub due_if : Plan → Bond → Option Due → Option DueNow
 due_if plan b None = None
@@ -118,7 +121,7 @@ abbrev pub due_now : Plan → Option Bond → Option DueNow
 due_now plan None = None
 due_now plan (Some b) = due_if plan b (next_due b)
 
--- ---- what bonds add to the change of a fiscal year
+-- ---- what bonds and leases add to the change of a fiscal year
 
 abbrev pub debt_changes : Plan → ℕ → Registers → DebtChanges
-debt_changes plan year s = record { proceeds = (changes_of plan year s).proceeds; principal_paid = (changes_of plan year s).principal }
+debt_changes plan year s = record { proceeds = (changes_of plan year s).proceeds; leases_issued = (changes_of plan year s).leases_issued; principal_paid = (changes_of plan year s).principal }

@@ -8,7 +8,7 @@ use Rattle.cf_debt.specs.declared.rows.BondRow.{BondRow}
 use Rattle.cf_debt.specs.Accounts.{Accounts, accounts_of, left_in}
 use Rattle.cf_debt.specs.Register.{Register}
 use Rattle.cf_debt.specs.Rows.{AreSmallDues, IsRow, view_bonds, view_leave, view_payments}
-use Rattle.cf_debt.specs.Years.{sum_of, sum_through}
+use Rattle.cf_debt.specs.Years.{lease_part, sum_of, sum_through}
 use Rattle.cf_model.specs.Bonds.{Bond, Due, coupon, earned, paid_dues}
 use Rattle.cf_model.specs.Leave.{LeaveChange, leave_left, leave_through}
 
@@ -41,9 +41,15 @@ live_of closed rows = map (λ r. r.number) (filter (is_live closed) rows)
 
 -- ---- running sums: of so many fiscal years of the chart, or through a fiscal year
 
--- what is issued
-abbrev pub AreIssued : List Bond → List ℕ → Type 0
-AreIssued bonds cells = (year : ℕ) → sum_through year cells ≡ sum_by (λ b. if nat_le b.year year then b.amount else 0) bonds
+-- what is issued, of each bond so much
+abbrev pub AreIssued : (Bond → ℕ) → List Bond → List ℕ → Type 0
+AreIssued f bonds cells = (year : ℕ) → sum_through year cells ≡ sum_by (λ b. if nat_le b.year year then f b else 0) bonds
+
+abbrev pub amount_of : Bond → ℕ
+amount_of b = b.amount
+
+abbrev pub lease_amount : Bond → ℕ
+lease_amount b = lease_part b.is_lease b.amount
 
 -- what was paid of payments that were due in so many years
 abbrev pub paid_in : ℕ → (Bond → Due → ℕ) → Bond → ℕ
@@ -51,6 +57,9 @@ paid_in n f b = sum_by (λ p. if nat_lt (p.month / 12) n then f b p else 0) (pai
 
 abbrev pub principal_of : Bond → Due → ℕ
 principal_of b p = p.principal
+
+abbrev pub lease_principal : Bond → Due → ℕ
+lease_principal b p = lease_part b.is_lease p.principal
 
 abbrev pub ArePaid : (Bond → Due → ℕ) → List Bond → List ℕ → Type 0
 ArePaid f bonds cells = (n : ℕ) → sum_of n cells ≡ sum_by (paid_in n f) bonds
@@ -72,9 +81,11 @@ pub record IsSmall (a : Inside) : Type 0 where
   pub bonds : length a.bonds.items ≤ a.acts
   pub closed : a.closed ≤ 2760
   pub issued : sum a.issued ≤ 10000000000000 * a.acts
+  pub leased : sum a.leased ≤ 10000000000000 * a.acts
   pub repaid : sum a.repaid ≤ 10000000000000 * a.acts
+  pub leases_repaid : sum a.leases_repaid ≤ 10000000000000 * a.acts
   pub coupons : sum a.coupons ≤ 10000000000000 * a.acts
-  pub charged : sum a.charged ≤ 20971520000000000000 * a.acts
+  pub charged : sum a.charged ≤ 30000000000000000000 * a.acts
   pub earned : sum a.earned ≤ 10000000000000 * a.acts
   pub taken : sum a.taken ≤ 10000000000000 * a.acts
   pub left : (fund dept : ℕ) → left_in a.left.entries fund dept ≤ 10000000000000 * a.acts
@@ -85,9 +96,11 @@ pub record HasBonds (closed : ℕ) (all : List Due) (rows : List BondRow) (live 
   pub each : AreRows closed all rows
   pub lasting : live ≡ live_of closed rows
 
-pub record HasSums (closed : ℕ) (bonds : List Bond) (issued repaid coupons charged : List ℕ) : Type 0 where
-  pub issues : AreIssued bonds issued
+pub record HasSums (closed : ℕ) (bonds : List Bond) (issued leased repaid leases_repaid coupons charged : List ℕ) : Type 0 where
+  pub issues : AreIssued amount_of bonds issued
+  pub leases : AreIssued lease_amount bonds leased
   pub principals : ArePaid principal_of bonds repaid
+  pub lease_principals : ArePaid lease_principal bonds leases_repaid
   pub interests : ArePaid coupon bonds coupons
   pub charges : AreCharged closed bonds charged
 
@@ -98,5 +111,5 @@ pub record HasLeave (leave : List LeaveChange) (table : Accounts) (earned taken 
 pub record IsSound (a : Inside) : Type 0 where
   pub small : IsSmall a
   pub bonds : HasBonds a.closed (view_payments a.payments.items) a.bonds.items a.live.items
-  pub sums : HasSums a.closed (view_bonds (view_payments a.payments.items) a.bonds.items) a.issued a.repaid a.coupons a.charged
+  pub sums : HasSums a.closed (view_bonds (view_payments a.payments.items) a.bonds.items) a.issued a.leased a.repaid a.leases_repaid a.coupons a.charged
   pub leave : HasLeave (map view_leave a.leave.items) a.left.entries a.earned a.taken

@@ -21,6 +21,7 @@ schedule all r = take r.count (drop r.start all)
 abbrev pub view_bond : List Due → BondRow → Bond
 view_bond all r = record {
   number = r.number;
+  is_lease = r.is_lease;
   fund = r.fund;
   amount = r.amount;
   year = r.year;

@@ -1,11 +1,12 @@
 -- What the register's parts promise, and what they ask.
-use Rattle.std.specs.Prelude.{◌≡◌, ℕ, ◌+◌, ◌*◌, ◌<◌, ◌==◌, List, [], ◌∷◌, length, get_or, Some, option_map, IfSome, is_some, true}
+use Rattle.std.specs.Prelude.{◌≡◌, ℕ, ◌+◌, ◌*◌, ◌<◌, ◌==◌, Bool, List, [], ◌∷◌, length, get_or, Some, option_map, IfSome, is_some, true}
 use Rattle.std.specs.List.{filter}
 use Rattle.cf_base.specs.declared.calendar.Day.{Day}
 use Rattle.cf_calls.specs.declared.acts.BondIssue.{BondIssue}
 use Rattle.cf_chart.specs.Plan.{Plan}
 use Rattle.cf_debt.specs.declared.debt.BondNow.{BondNow}
 use Rattle.cf_debt.specs.declared.rows.BondRow.{BondRow}
+use Rattle.cf_debt.specs.declared.rows.NewDebt.{NewDebt}
 use Rattle.cf_debt.specs.Register.{Debts}
 use Rattle.cf_debt.specs.Rows.{IsBond, IsSmallDue, view_bond, view_payment}
 use Rattle.cf_model.specs.Bonds.{Bond, Due, next_due}
@@ -28,10 +29,15 @@ pub record CanPay (n : ℕ) (d : Debts) : Type 0 where
   pub is : bond_at n d.bonds ≡ Some bond
   pub left : is_some (next_due bond) ≡ true
 
--- a new bond, whose payments begin at a place
-abbrev pub bond_row : Plan → Day → ℕ → BondIssue → ℕ → BondRow
-bond_row plan on number i start = record {
+-- new debt with its principals
+abbrev pub issue_of : NewDebt → List ℕ → BondIssue
+issue_of d principals = record { fund = d.fund; amount = d.amount; rate_bp = d.rate_bp; every = d.every; principals = principals }
+
+-- a new bond or lease, whose payments begin at a place
+abbrev pub bond_row : Plan → Day → ℕ → Bool → BondIssue → ℕ → BondRow
+bond_row plan on number is_lease i start = record {
   number = number;
+  is_lease = is_lease;
   fund = i.fund;
   amount = i.amount;
   year = year_of_day plan on;

@@ -16,7 +16,7 @@ use crate::debt::Debt;
 use crate::months::year_of;
 use crate::rows::LeaveRow;
 use cf_base::Day;
-use cf_calls::acts::{BondIssue, LeaveAct, Period};
+use cf_calls::acts::{LeaveAct, Period};
 use cf_calls::{Act, Drawn};
 use cf_chart::Chart;
 use std::alloc::AllocError;
@@ -29,7 +29,8 @@ impl Debt {
         ensures acts { self.new.acts ≡ self.old.acts }
     {
         match act {
-            Act::Issue(issue) => self.reserve_bond(issue),
+            Act::Issue(issue) => self.reserve_bond(issue.principals.as_slice().len()),
+            Act::Lease(lease) => self.reserve_bond(lease.principals.as_slice().len()),
             Act::Leave(leave) => match leave {
                 LeaveAct::Earn(part) => self.reserve_leave(part.fund, part.dept),
                 LeaveAct::Use(part) => self.reserve_leave(part.fund, part.dept),
@@ -39,12 +40,12 @@ impl Debt {
         }
     }
 
-    fn reserve_bond(&mut self, issue: &BondIssue) -> Result<(), AllocError>
-        ensures ok { OnOk result (HasRoomToIssue (length issue.now.principals) self.new) }
+    fn reserve_bond(&mut self, count: usize) -> Result<(), AllocError>
+        ensures ok { OnOk result (HasRoomToIssue count self.new) }
         ensures debts { self.new.debts ≡ self.old.debts }
         ensures acts { self.new.acts ≡ self.old.acts }
     {
-        self.payments.reserve(issue.principals.as_slice().len())?;
+        self.payments.reserve(count)?;
         self.live.reserve(1)?;
         self.bonds.reserve(1)
     }
@@ -75,7 +76,8 @@ impl Debt {
     {
         let drawn = self.draws(act);
         match act {
-            Act::Issue(issue) => self.enter_bond(chart, on, drawn.number, issue),
+            Act::Issue(issue) => self.enter_issue(chart, on, drawn.number, issue),
+            Act::Lease(lease) => self.enter_lease(chart, on, drawn.second, lease),
             Act::PayDue(payment) => self.pay(payment),
             Act::Leave(leave) => self.change_leave(chart, on, leave),
             Act::Close(period) => self.close(chart, period),

@@ -26,7 +26,7 @@ use std::alloc::Global;
 use std::collections::BTreeMap;
 use std::marker::Model;
 
-/// Bonds with their payments, and the leave of departments' people. Bonds have the numbers 1, 2, 3 ..; the leave
+/// Bonds and leases with their payments, and the leave of departments' people. Bonds have the numbers 1, 2, 3 ..; the leave
 /// left, the bonds with payments to come and the sums by fiscal year are kept as they run.
 #[derive(Drop)]
 pub struct Debt {
@@ -39,10 +39,14 @@ pub struct Debt {
     pub(crate) left: BTreeMap<LeaveKey, u64>,
     /// How many months are closed.
     pub(crate) closed: u16,
-    /// The amounts of bonds, by the fiscal year of their issue, from 1970.
+    /// The amounts of bonds and of leases, by the fiscal year of their issue, from 1970.
     pub(crate) issued: [u128; YEARS],
+    /// Those of leases alone.
+    pub(crate) leased: [u128; YEARS],
     /// The principal of paid payments, by the fiscal year in which they were due, from the chart's first.
     pub(crate) repaid: [u128; YEARS],
+    /// That of leases alone.
+    pub(crate) leases_repaid: [u128; YEARS],
     /// The interest of paid payments, by the same year.
     pub(crate) coupons: [u128; YEARS],
     /// The interest charged, by the fiscal year of the closed month, from the chart's first.
@@ -69,6 +73,7 @@ impl Model for Debt {
 /// What is due next of a bond.
 #[derive(Clone, Copy)]
 pub struct Due {
+    pub is_lease: bool,
     /// The payment's number, from 1.
     pub payment: u16,
     pub day: Day,
@@ -101,7 +106,9 @@ impl Debt {
             left: BTreeMap::new(alloc),
             closed: 0,
             issued: [0; YEARS],
+            leased: [0; YEARS],
             repaid: [0; YEARS],
+            leases_repaid: [0; YEARS],
             coupons: [0; YEARS],
             charged: [0; YEARS],
             earned: [0; YEARS],
@@ -162,7 +169,7 @@ impl Debt {
     /// to come.
     pub fn month_interest(&self) -> u128
         ensures value { result ≡ sum_by (interest_charge self.now.debts.closed) self.now.debts.bonds }
-        ensures most { result ≤ 20971520000000000000 }
+        ensures most { result ≤ 30000000000000000000 }
     {
         interest_of(&self.payments, &self.bonds, &self.live, self.closed)
     }
@@ -174,17 +181,17 @@ impl Debt {
         amount_in(&self.left, LeaveKey { fund, dept })
     }
 
-    /// The numbers that an act draws: the next bond's, from 1, or that of the next payment of the bond that is paid,
-    /// and 0 where nothing is left to pay.
+    /// The numbers that an act draws: the next bond's, from 1, which is a lease's second number, or that of the next
+    /// payment of the bond that is paid, and 0 where nothing is left to pay.
     pub fn draws(&self, act: &Act) -> Drawn
         ensures { result ≡ debt_draws self.now.debts.bonds act.now }
     {
-        let number = match act {
-            Act::Issue(_) => self.bonds.len() as u32 + 1,
-            Act::PayDue(payment) => self.payment_number(payment.bond),
-            _ => 0,
-        };
-        Drawn { number, second: 0 }
+        match act {
+            Act::Issue(_) => drawn(self.bonds.len() as u32 + 1, 0),
+            Act::Lease(_) => drawn(0, self.bonds.len() as u32 + 1),
+            Act::PayDue(payment) => drawn(self.payment_number(payment.bond), 0),
+            _ => drawn(0, 0),
+        }
     }
 
     fn payment_number(&self, bond: u32) -> u32
@@ -198,6 +205,12 @@ impl Debt {
             },
         }
     }
+}
+
+fn drawn(number: u32, second: u32) -> Drawn
+    ensures { result ≡ record { number = number; second = second } }
+{
+    Drawn { number, second }
 }
 
 /// The day on which a payment of a bond is due.
@@ -221,6 +234,7 @@ fn due_of(chart: &Chart, bond: &BondRow, payment: &Payment) -> Due
     ensures { (all : List Dues) → result ≡ spec_due_of chart.now (view_bond all bond.now) (view_payment payment.now) }
 {
     Due {
+        is_lease: bond.is_lease,
         payment: bond.paid + 1,
         day: due_day(chart, bond, payment),
         year: year_at(chart, payment.month),
@@ -240,7 +254,7 @@ pub(crate) fn interest_of(
     requires few { length bonds.now ≤ most_entries }
     requires months { closed < 65535 }
     ensures value { result ≡ sum_by (interest_charge closed) (view_bonds (view_payments payments.now) bonds.now) }
-    ensures most { result ≤ 20971520000000000000 }
+    ensures most { result ≤ 30000000000000000000 }
 {
     let mut interest = 0;
     for number in live {

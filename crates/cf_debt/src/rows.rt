@@ -11,10 +11,24 @@ pub struct Terms {
     pub rate_bp: u16,
 }
 
-/// A bond. Bonds stand by number, from 1.
+/// Debt that is entered: bonds that are issued, or a lease.
+#[derive(Clone, Copy)]
+pub struct NewDebt {
+    pub is_lease: bool,
+    pub fund: u16,
+    /// In cents.
+    pub amount: u64,
+    /// The yearly rate, in basis points.
+    pub rate_bp: u16,
+    /// The months between payments.
+    pub every: u16,
+}
+
+/// A bond, or a lease. They stand by number, from 1.
 #[derive(Clone, Copy)]
 pub struct BondRow {
     pub number: u32,
+    pub is_lease: bool,
     pub fund: u16,
     pub amount: u64,
     /// The fiscal year of its issue.

@@ -9,9 +9,11 @@ ghost use Rattle.cf_calls.specs.declared.acts.Act.TheVariants as act;
 ghost use Rattle.cf_debt.specs.Register.{HasRoomToIssue, HasRoomForLeave, unpaid_of};
 ghost use Rattle.cf_debt.specs.RegisterView.{live_of};
 ghost use Rattle.cf_debt.specs.Rows.{view_leave};
-ghost use Rattle.cf_debt.specs.Steps.{AreNumbered, CanPay, bond_row, paid_row};
+ghost use Rattle.cf_debt.specs.Steps.{AreNumbered, CanPay, bond_row, issue_of, paid_row};
 ghost use Rattle.cf_debt.specs.declared.rows.BondRow.{BondRow as Row};
+ghost use Rattle.cf_calls.specs.Acts.{schedule_of};
 ghost use Rattle.cf_model.specs.Bonds.{bond_step, bonds_by};
+ghost use Rattle.cf_model.specs.Bonds.{new_bond as spec_new_bond};
 ghost use Rattle.cf_model.specs.Leave.{leave_of};
 ghost use Rattle.cf_model.specs.Months.{number_of_day};
 ghost use Rattle.cf_model.specs.RegisterRules.{month_at};
@@ -21,11 +23,11 @@ use crate::accounts::{LeaveKey, amount_in, put_in};
 use crate::debt::{Debt, interest_of};
 use crate::interest::coupon;
 use crate::months::{number_of, number_of_month, year_of};
-use crate::rows::{BondRow, LeaveRow, Terms};
+use crate::rows::{BondRow, LeaveRow, NewDebt, Terms};
 use crate::schedule::{add_schedule, push_within};
-use crate::years::add_at;
+use crate::years::{add_at, lease_part};
 use cf_base::{Day, Month};
-use cf_calls::acts::{BondIssue, DebtPayment};
+use cf_calls::acts::{BondIssue, DebtPayment, NewLease};
 use cf_chart::Chart;
 
 impl Debt {
@@ -38,8 +40,8 @@ impl Debt {
         self.acts += 1;
     }
 
-    /// Enters a bond with its payments.
-    pub(crate) fn enter_bond(&mut self, chart: &Chart, on: Day, number: u32, issue: &BondIssue)
+    /// Enters bonds that are issued.
+    pub(crate) fn enter_issue(&mut self, chart: &Chart, on: Day, number: u32, issue: &BondIssue)
         requires day { is_day on ≡ true }
         requires form { IsIssueForm on issue.now }
         requires number { number ≡ length self.old.debts.bonds + 1 }
@@ -52,18 +54,68 @@ impl Debt {
         } }
         ensures acts { self.new.acts ≡ self.old.acts + 1 }
     {
-        let row = new_bond(chart, on, number, issue, self.payments.len());
-        let principals = issue.principals.as_slice();
+        let debt = NewDebt {
+            is_lease: false,
+            fund: issue.fund,
+            amount: issue.amount,
+            rate_bp: issue.rate_bp,
+            every: issue.every,
+        };
+        self.enter_debt(chart, on, number, debt, issue.principals.as_slice());
+    }
+
+    /// Enters what is owed for a lease (GASB Statement 87).
+    pub(crate) fn enter_lease(&mut self, chart: &Chart, on: Day, number: u32, lease: &NewLease)
+        requires day { is_day on ≡ true }
+        requires form { IsIssueForm on (schedule_of lease.now) }
+        requires number { number ≡ length self.old.debts.bonds + 1 }
+        requires amount { lease.now.account.amount ≤ 10000000000000 }
+        requires early { self.old.debts.closed ≤ number_of_day chart.now on }
+        requires room { HasRoomToIssue (length lease.now.principals) self.old }
+        requires few { self.old.acts < most_entries }
+        ensures debts { self.new.debts ≡ record self.old.debts {
+          bonds = self.old.debts.bonds ++ bonds_by chart.now on (act.Lease lease.now) (record { number = 0; second = number });
+        } }
+        ensures acts { self.new.acts ≡ self.old.acts + 1 }
+    {
+        let debt = NewDebt {
+            is_lease: true,
+            fund: lease.account.fund,
+            amount: lease.account.amount,
+            rate_bp: lease.rate_bp,
+            every: lease.every,
+        };
+        self.enter_debt(chart, on, number, debt, lease.principals.as_slice());
+    }
+
+    /// Enters a bond or a lease with its payments.
+    fn enter_debt(&mut self, chart: &Chart, on: Day, number: u32, debt: NewDebt, principals: &[u64])
+        requires day { is_day on ≡ true }
+        requires form { IsIssueForm on (issue_of debt principals.now) }
+        requires number { number ≡ length self.old.debts.bonds + 1 }
+        requires amount { debt.amount ≤ 10000000000000 }
+        requires early { self.old.debts.closed ≤ number_of_day chart.now on }
+        requires room { HasRoomToIssue (length principals.now) self.old }
+        requires few { self.old.acts < most_entries }
+        ensures debts { self.new.debts ≡ record self.old.debts {
+          bonds = self.old.debts.bonds ++ spec_new_bond chart.now on number debt.is_lease (issue_of debt principals.now) ∷ [];
+        } }
+        ensures acts { self.new.acts ≡ self.old.acts + 1 }
+    {
+        let row = new_bond(chart, on, number, debt, principals, self.payments.len());
         add_schedule(
             &mut self.payments,
-            issue.every,
+            debt.every,
             row.month,
             row.amount,
             principals,
         );
         push_within(&mut self.bonds, row);
         push_within(&mut self.live, number);
-        add_at(&mut self.issued, row.year - 1970, u128::from(row.amount));
+        let year = row.year - 1970;
+        let leased = lease_part(debt.is_lease, debt.amount);
+        add_at(&mut self.issued, year, u128::from(row.amount));
+        add_at(&mut self.leased, year, leased);
         self.acts += 1;
     }
 
@@ -82,7 +134,9 @@ impl Debt {
         let payment = self.payments[row.start + usize::from(row.paid)];
         let interest = coupon(row.terms, &payment);
         let year = payment.month / 12;
+        let of_lease = lease_part(row.is_lease, payment.principal);
         add_at(&mut self.repaid, year, u128::from(payment.principal));
+        add_at(&mut self.leases_repaid, year, of_lease);
         add_at(&mut self.coupons, year, u128::from(interest));
         count_payment(&mut self.bonds, place);
         self.acts += 1;
@@ -151,29 +205,37 @@ impl Debt {
     }
 }
 
-/// The row of a new bond, whose payments begin at a place.
-fn new_bond(chart: &Chart, on: Day, number: u32, issue: &BondIssue, start: usize) -> BondRow
+/// The row of a new bond or lease, whose payments begin at a place.
+fn new_bond(
+    chart: &Chart,
+    on: Day,
+    number: u32,
+    debt: NewDebt,
+    principals: &[u64],
+    start: usize,
+) -> BondRow
     requires day { is_day on ≡ true }
-    requires form { IsIssueForm on issue.now }
-    ensures row { result ≡ bond_row chart.now on number issue.now start }
+    requires form { IsIssueForm on (issue_of debt principals.now) }
+    ensures row { result ≡ bond_row chart.now on number debt.is_lease (issue_of debt principals.now) start }
     ensures last { result.last ≤ 2759 }
 {
     let month = number_of(chart, on);
-    let count = issue.principals.as_slice().len() as u16;
+    let count = principals.len() as u16;
     BondRow {
         number,
-        fund: issue.fund,
-        amount: issue.amount,
+        is_lease: debt.is_lease,
+        fund: debt.fund,
+        amount: debt.amount,
         year: year_of(chart, on),
         month,
         terms: Terms {
-            every: issue.every,
+            every: debt.every,
             day: on.day,
-            rate_bp: issue.rate_bp,
+            rate_bp: debt.rate_bp,
         },
         start,
         count,
-        last: month + issue.every * count,
+        last: month + debt.every * count,
         paid: 0,
     }
 }

@@ -15,21 +15,36 @@ use cf_chart::Chart;
 pub struct DebtChanges {
     /// Of bonds issued in the year: below zero.
     pub proceeds: i128,
+    /// Of leases that began in the year: below zero.
+    pub leases_issued: i128,
     /// The principal of paid payments that were due in the year.
     pub principal_paid: i128,
 }
 
 impl Debt {
     /// Bonds payable through a fiscal year up to 2200, in cents: what was issued, less the principal paid of payments
-    /// that were due.
+    /// that were due, and without leases.
     pub fn principal_left(&self, chart: &Chart, year: u16) -> i128
         requires { year ≤ last_fiscal_year }
         ensures value { result ≡ items.bonds chart.now year (registers_with self.now.debts) }
         ensures small { unsigned_abs result < 2 ^ 100 }
     {
         let issued = total_of(&self.issued, year.saturating_sub(1969));
+        let leased = total_of(&self.leased, year.saturating_sub(1969));
         let repaid = total_of(&self.repaid, years_to(chart, year));
-        difference(issued, repaid)
+        let leases_repaid = total_of(&self.leases_repaid, years_to(chart, year));
+        difference(issued + leases_repaid, repaid + leased)
+    }
+
+    /// Leases payable through a fiscal year up to 2200, in cents (GASB Statement 87).
+    pub fn leases_left(&self, chart: &Chart, year: u16) -> i128
+        requires { year ≤ last_fiscal_year }
+        ensures value { result ≡ items.leases chart.now year (registers_with self.now.debts) }
+        ensures small { unsigned_abs result < 2 ^ 100 }
+    {
+        let leased = total_of(&self.leased, year.saturating_sub(1969));
+        let leases_repaid = total_of(&self.leases_repaid, years_to(chart, year));
+        difference(leased, leases_repaid)
     }
 
     /// Accrued interest through a fiscal year up to 2200, in cents: what was charged for its closed months, less the
@@ -62,10 +77,13 @@ impl Debt {
     {
         let issued = total_of(&self.issued, year - 1969);
         let issued_before = total_of(&self.issued, year - 1970);
+        let leased = total_of(&self.leased, year - 1969);
+        let leased_before = total_of(&self.leased, year - 1970);
         let repaid = total_of(&self.repaid, years_to(chart, year));
         let repaid_before = total_of(&self.repaid, years_to(chart, year).saturating_sub(1));
         DebtChanges {
-            proceeds: difference(issued_before, issued),
+            proceeds: difference(issued_before + leased, issued + leased_before),
+            leases_issued: difference(leased_before, leased),
             principal_paid: difference(repaid, repaid_before),
         }
     }

@@ -2,6 +2,7 @@
 
 ghost use Rattle.std.specs.Prelude.{◌≡◌, ◌<◌, ◌+◌, ◌^◌, ℕ, sum, length, nat_lt, if◌then◌else◌};
 ghost use Rattle.cf_debt.specs.Years.{sum_of};
+ghost use Rattle.cf_debt.specs.Years as spec;
 
 /// How many fiscal years there are from 1970 to 2200.
 pub const YEARS: usize = 231;
@@ -19,6 +20,13 @@ pub fn total_of(cells: &[u128; YEARS], count: u16) -> u128
     ensures { result ≡ sum_of count cells.now }
 {
     total(&cells[..usize::from(count).min(YEARS)])
+}
+
+/// An amount where it is of a lease, and else nothing.
+pub fn lease_part(is_lease: bool, amount: u64) -> u128
+    ensures { result ≡ spec.lease_part is_lease amount }
+{
+    if is_lease { u128::from(amount) } else { 0 }
 }
 
 /// Adds an amount to the year at a place.

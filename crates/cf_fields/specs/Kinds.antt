@@ -1,12 +1,12 @@
 -- The kinds of entry, each by its number.
-use Rattle.std.specs.Prelude.{ℕ, ◌==◌, List, [], ◌∷◌, Option, option_map, find}
+use Rattle.std.specs.Prelude.{ℕ, ◌==◌, Bool, true, not, List, [], ◌∷◌, Option, option_map, find}
 use Rattle.cf_calls.specs.declared.acts.Act.{Act}
 use Rattle.cf_calls.specs.declared.acts.Act.TheVariants as act
 use Rattle.cf_calls.specs.declared.acts.FundMoveKind.{FundMoveKind}
 use Rattle.cf_calls.specs.declared.acts.FundMoveKind.TheVariants as move
 use Rattle.cf_calls.specs.declared.kind.ActKind.{ActKind}
-use Rattle.cf_calls.specs.declared.kind.ActKind.TheVariants.{Adopt, Amend, Transfer, Requisition, Withdraw, Order, ChangeOrder, CancelOrder, Voucher, VoidVoucher, Pay, Bill, Collect, Receive, WriteOff, Asset, Issue, PayDue, Leave, Interfund, Close}
-use Rattle.cf_fields.specs.Formats.{Format, converted}
+use Rattle.cf_calls.specs.declared.kind.ActKind.TheVariants.{Adopt, Amend, Transfer, Requisition, Withdraw, Order, ChangeOrder, CancelOrder, Voucher, VoidVoucher, Pay, Bill, Collect, Receive, WriteOff, Asset, Issue, PayDue, Leave, Interfund, Close, Lease}
+use Rattle.cf_fields.specs.Formats.{Format, converted, kept}
 use Rattle.cf_fields.specs.Fields.{byte}
 
 abbrev pub kind_of : Act → ActKind
@@ -31,12 +31,13 @@ kind_of (act.PayDue a) = PayDue
 kind_of (act.Leave a) = Leave
 kind_of (act.Interfund a) = Interfund
 kind_of (act.Close a) = Close
+kind_of (act.Lease a) = Lease
 
 abbrev pub kinds : List (ℕ × ActKind)
 kinds =
     (1, Adopt) ∷ (2, Amend) ∷ (3, Transfer) ∷ (4, Requisition) ∷ (5, Withdraw) ∷ (6, Order) ∷ (7, ChangeOrder) ∷ (8, CancelOrder) ∷ (9, Voucher)
     ∷ (10, VoidVoucher) ∷ (11, Pay) ∷ (12, Bill) ∷ (13, Collect) ∷ (14, Receive) ∷ (15, WriteOff) ∷ (16, Asset) ∷ (17, Issue) ∷ (18, PayDue)
-    ∷ (19, Leave) ∷ (20, Interfund) ∷ (21, Close) ∷ []
+    ∷ (19, Leave) ∷ (20, Interfund) ∷ (21, Close) ∷ (22, Lease) ∷ []
 
 -- the value of a number in a table
 abbrev pub value_in : {A : Type 0} → List (ℕ × A) → ℕ → Option A
@@ -67,9 +68,18 @@ kind_code PayDue = 18
 kind_code Leave = 19
 kind_code Interfund = 20
 kind_code Close = 21
+kind_code Lease = 22
 
 abbrev pub kind : Format ActKind
 kind = converted kind_value kind_code byte
+
+-- a lease is of version 2 of the grammar alone, and every other kind of both
+abbrev pub is_of : ℕ → ActKind → Bool
+is_of version Lease = not (version == 1)
+is_of version _ = true
+
+abbrev pub kind_in : ℕ → Format ActKind
+kind_in version = kept (is_of version) kind
 
 -- how cash moves between two funds
 abbrev pub moves : List (ℕ × FundMoveKind)

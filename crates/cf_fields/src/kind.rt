@@ -32,6 +32,7 @@ pub fn kind_of(act: &Act) -> ActKind
         Act::Leave(_) => ActKind::Leave,
         Act::Interfund(_) => ActKind::Interfund,
         Act::Close(_) => ActKind::Close,
+        Act::Lease(_) => ActKind::Lease,
     }
 }
 
@@ -61,6 +62,7 @@ pub fn kind_code(kind: ActKind) -> u8
         ActKind::Leave => 19,
         ActKind::Interfund => 20,
         ActKind::Close => 21,
+        ActKind::Lease => 22,
     }
 }
 
@@ -91,7 +93,18 @@ pub fn kind_value(number: u8) -> Option<ActKind>
         19 => Some(ActKind::Leave),
         20 => Some(ActKind::Interfund),
         21 => Some(ActKind::Close),
+        22 => Some(ActKind::Lease),
         _ => None,
+    }
+}
+
+/// Whether the grammar of a version has a kind: version 1 has no leases.
+pub fn is_of(version: u8, kind: ActKind) -> bool
+    ensures { result ≡ spec.is_of version kind }
+{
+    match kind {
+        ActKind::Lease => version != 1,
+        _ => true,
     }
 }
 

@@ -50,6 +50,7 @@ use Rattle.cf_calls.specs.contracts.acts.NewOrder as NewOrder
 use Rattle.cf_calls.specs.contracts.acts.NewVoucher as NewVoucher
 use Rattle.cf_calls.specs.contracts.acts.Payment as Payment
 use Rattle.cf_calls.specs.contracts.acts.BondIssue as BondIssue
+use Rattle.cf_calls.specs.contracts.acts.NewLease as NewLease
 use Rattle.cf_calls.specs.contracts.acts.OrderChange as OrderChange
 use Rattle.cf_calls.specs.contracts.acts.AssetAct as AssetAct
 use Rattle.cf_calls.specs.contracts.acts.LeaveAct as LeaveAct
@@ -167,7 +168,7 @@ pub fund_sync : IsSync Fund.the_row
 fund_sync = search (text_sync, sendable) depth 40
 
 pub fund_send : IsSend Fund.the_row
-fund_send = search (text_send, sendable) depth 40
+fund_send = recorded_send Fund.the_field.row _ _ Fund.the_type.to_one (struct_send (shape Fund.the_type) (search sendable, (text_send, (search sendable depth 20, (search sendable depth 20, (search sendable depth 20, (search sendable depth 20, (search sendable depth 20, tt))))))))
 
 pub function_sync : IsSync Function.the_row
 function_sync = search (text_sync, sendable) depth 40
@@ -265,6 +266,9 @@ payment_send = search (sendable, list_send) depth 20
 pub issue_send : IsSend BondIssue.the_field.row
 issue_send = search (sendable, list_send) depth 20
 
+pub lease_send : IsSend NewLease.the_field.row
+lease_send = search (account_send, sendable, list_send) depth 20
+
 pub asset_send : IsSend AssetAct.the_field.row
 asset_send = search sendable depth 30
 
@@ -290,10 +294,10 @@ pub desk_sync : IsSync Desk.the_row
 desk_sync = recorded_sync Desk.the_field.row _ _ Desk.the_type.to_one (struct_sync (shape Desk.the_type) (search sendable, (text_sync, (list_sync Role.the_row (search sendable depth 20), tt))))
 
 pub bond_send : IsSend BondRow.the_row
-bond_send = recorded_send BondRow.the_field.row _ _ BondRow.the_type.to_one (struct_send (shape BondRow.the_type) (search sendable, (search sendable, (search sendable, (search sendable, (search sendable, (search sendable depth 20, (search sendable, (search sendable, (search sendable, (search sendable, tt)))))))))))
+bond_send = recorded_send BondRow.the_field.row _ _ BondRow.the_type.to_one (struct_send (shape BondRow.the_type) (search sendable, (search sendable, (search sendable, (search sendable, (search sendable, (search sendable, (search sendable depth 20, (search sendable, (search sendable, (search sendable, (search sendable, tt))))))))))))
 
 pub bond_field_send : IsSend BondRow.the_field.row
-bond_field_send = struct_send (shape BondRow.the_type) (search sendable, (search sendable, (search sendable, (search sendable, (search sendable, (search sendable depth 20, (search sendable, (search sendable, (search sendable, (search sendable, tt))))))))))
+bond_field_send = struct_send (shape BondRow.the_type) (search sendable, (search sendable, (search sendable, (search sendable, (search sendable, (search sendable, (search sendable depth 20, (search sendable, (search sendable, (search sendable, (search sendable, tt)))))))))))
 
 pub asset_row_send : IsSend AssetRow.the_row
 asset_row_send = search (sendable, crosses) depth 40
@@ -302,7 +306,7 @@ pub inventory_send : IsSend inventory.the_row
 inventory_send = view_send _ _ _ _ _ (recorded_send inventory_inside.the_field.row _ _ inventory_inside.the_type.to_one (struct_send (shape inventory_inside.the_type) (heap.Vec-send _ asset_row_send, (heap.Vec-send _ (search sendable), (heap.Vec-send _ (search sendable), (search sendable, (search sendable, (search sendable, tt))))))))
 
 pub assets_send : IsSend assets.the_row
-assets_send = view_send _ _ _ _ _ (recorded_send assets_inside.the_field.row _ _ assets_inside.the_type.to_one (struct_send (shape assets_inside.the_type) (inventory_send, (heap.Vec-send _ (search sendable depth 20), (search sendable, tt)))))
+assets_send = view_send _ _ _ _ _ (recorded_send assets_inside.the_field.row _ _ assets_inside.the_type.to_one (struct_send (shape assets_inside.the_type) (inventory_send, (heap.Vec-send _ (search sendable depth 20), (search sendable, (heap.Vec-send _ (search sendable), (search sendable, tt)))))))
 
 pub chart_send : IsSend chart.the_row
 chart_send = view_send _ _ _ _ _ (recorded_send chart_inside.the_field.row _ _ chart_inside.the_type.to_one (struct_send (shape chart_inside.the_type) (text_send, (search sendable, (search sendable, (list_send _ function_send, (list_send _ fund_send, (list_send _ department_send, (list_send _ object_send, (list_send _ source_send, (list_send _ line_send, (maps.BTreeMap-send _ _ _ line_key_eq.ghosts line_key_partial.ghosts line_key_send u16_send, (list_send _ desk_send, tt)))))))))))))
@@ -310,11 +314,11 @@ chart_send = view_send _ _ _ _ _ (recorded_send chart_inside.the_field.row _ _ c
 pub chart_sync : IsSync chart.the_row
 chart_sync = view_sync _ _ _ _ _ (recorded_sync chart_inside.the_field.row _ _ chart_inside.the_type.to_one (struct_sync (shape chart_inside.the_type) (text_sync, (search sendable, (search sendable, (list_sync _ function_sync, (list_sync _ fund_sync, (list_sync _ department_sync, (list_sync _ object_sync, (list_sync _ source_sync, (list_sync _ line_sync, (maps.BTreeMap-sync _ _ _ line_key_eq.ghosts line_key_partial.ghosts line_key_sync u16_sync, (list_sync _ desk_sync, tt)))))))))))))
 
-pub act_send : IsSend act.the_row
-act_send = search (adoption_send, requisition_send, order_send, change_send, voucher_field_send, payment_send, issue_send, asset_send, leave_act_send, sendable) depth 60 fits 100000
-
 pub act_field_send : IsSend act.the_field.row
-act_field_send = search (adoption_send, requisition_send, order_send, change_send, voucher_field_send, payment_send, issue_send, asset_send, leave_act_send, sendable) depth 60 fits 100000
+act_field_send = search (adoption_send, requisition_send, order_send, change_send, voucher_field_send, payment_send, issue_send, lease_send, asset_send, leave_act_send, sendable) depth 60 fits 100000
+
+pub act_send : IsSend act.the_row
+act_send = recorded_send act.the_field.row _ _ act.the_type.to_one act_field_send
 
 pub call_change_send : IsSend change.the_row
 call_change_send = recorded_send change.the_field.row _ _ change.the_type.to_one (struct_send (shape change.the_type) (search sendable, (text_send, (search sendable, (search sendable depth 20, (act_field_send, tt))))))
@@ -335,7 +339,7 @@ pub revenue_send : IsSend revenue.the_row
 revenue_send = view_send _ _ _ _ _ (recorded_send revenue_inside.the_field.row _ _ revenue_inside.the_type.to_one (struct_send (shape revenue_inside.the_type) (search (sendable, crosses) depth 20, (search (sendable, crosses) depth 20, (search (sendable, crosses) depth 20, (search (sendable, crosses) depth 20, (maps.BTreeMap-send _ _ _ pair_eq.ghosts pair_partial.ghosts pair_send u64_send, (search sendable, (search sendable, (search sendable, tt))))))))))
 
 pub debt_send : IsSend debt.the_row
-debt_send = view_send _ _ _ _ _ (recorded_send debt_inside.the_field.row _ _ debt_inside.the_type.to_one (struct_send (shape debt_inside.the_type) (heap.Vec-send _ bond_send, (search (sendable, crosses) depth 20, (search (sendable, crosses) depth 20, (heap.Vec-send _ leave_send, (maps.BTreeMap-send _ _ _ leave_key_eq.ghosts leave_key_partial.ghosts leave_key_send u64_send, (search sendable, (search sendable, (search sendable, (search sendable, (search sendable, (search sendable, (search sendable, (search sendable, tt)))))))))))))))
+debt_send = view_send _ _ _ _ _ (recorded_send debt_inside.the_field.row _ _ debt_inside.the_type.to_one (struct_send (shape debt_inside.the_type) (heap.Vec-send _ bond_send, (search (sendable, crosses) depth 20, (search (sendable, crosses) depth 20, (heap.Vec-send _ leave_send, (maps.BTreeMap-send _ _ _ leave_key_eq.ghosts leave_key_partial.ghosts leave_key_send u64_send, (search sendable, (search sendable, (search sendable, (search sendable, (search sendable, (search sendable, (search sendable, (search sendable, (search sendable, (search sendable, tt)))))))))))))))))
 
 pub registers_send : IsSend registers.the_row
 registers_send = view_send _ _ _ _ _ (recorded_send registers_inside.the_field.row _ _ registers_inside.the_type.to_one (struct_send (shape registers_inside.the_type) (orders_send, (revenue_send, (assets_send, (debt_send, tt))))))

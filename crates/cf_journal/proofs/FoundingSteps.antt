@@ -8,6 +8,7 @@ use Rattle.std.proofs.lemmas.Bool.{cases_eq, cases_lt}
 use Rattle.std.proofs.lemmas.Bool.Decides.{nat_tests}
 use Rattle.cf_chart.specs.Reading.{chart_of}
 use Rattle.cf_disk.specs.Images.{written, Torn, HalfCut, AddsNone}
+use Rattle.cf_codec.specs.Entries.{IsOf}
 use Rattle.cf_journal.specs.Records.{HasRecord}
 use Rattle.cf_journal.specs.Frames.{is_founded}
 use Rattle.cf_journal.specs.Layout.{head_of, front_of, IsValid, IsAtRest}
@@ -80,19 +81,19 @@ body_written body old new old_is new_is =
     new_is ∙ ap (λ (l : List ℕ). written 1 body l) old_is ∙ written_behind [] 0 [] body
     ∙ ap (λ (l : List ℕ). 0 ∷ (body ++ l)) (drop_all (length body) [] (omega arith)) ∙ ap (λ (l : List ℕ). 0 ∷ l) (append-nil body)
 
-module _ (chart : List ℕ) (accepted : IsOk (chart_of chart)) (body : List ℕ) (body_is : body ≡ head_of chart ++ 0 ∷ []) where
-  valid : IsValid chart []
-  valid = record { accepted = accepted; records = All-nil HasRecord }
+module _ (chart : List ℕ) (accepted : IsOk (chart_of chart)) (body : List ℕ) (body_is : body ≡ head_of 2 chart ++ 0 ∷ []) where
+  valid : IsValid 2 chart []
+  valid = record { accepted = accepted; records = All-nil HasRecord; of = All-nil (IsOf 2) }
 
-  founded_is : 1 ∷ body ≡ front_of chart [] ++ 0 ∷ []
+  founded_is : 1 ∷ body ≡ front_of 2 chart [] ++ 0 ∷ []
   founded_is =
       ap (λ (l : List ℕ). 1 ∷ l) body_is
-      ∙ ap (λ (l : List ℕ). 1 ∷ 1 ∷ l) (append_assoc (to_be_bytes w32 (length chart)) chart (0 ∷ []))
-      ∙ ap (λ (l : List ℕ). 1 ∷ 1 ∷ (to_be_bytes w32 (length chart) ++ (chart ++ l))) (sym (records_none (0 ∷ [])))
-      ∙ sym (front_split chart [] (0 ∷ []))
+      ∙ ap (λ (l : List ℕ). 1 ∷ 2 ∷ l) (append_assoc (to_be_bytes w32 (length chart)) chart (0 ∷ []))
+      ∙ ap (λ (l : List ℕ). 1 ∷ 2 ∷ (to_be_bytes w32 (length chart) ++ (chart ++ l))) (sym (records_none (0 ∷ [])))
+      ∙ sym (front_split 2 chart [] (0 ∷ []))
 
-  pub founded_at_rest : (image : List ℕ) → image ≡ 1 ∷ body → IsAtRest chart [] image
-  founded_at_rest image is = at_rest chart [] 0 [] image valid (omega arith) (is ∙ founded_is)
+  pub founded_at_rest : (image : List ℕ) → image ≡ 1 ∷ body → IsAtRest 2 chart [] image
+  founded_at_rest image is = at_rest 2 2 (λ one. one) chart [] 0 [] image valid (omega arith) (is ∙ founded_is)
 
   -- a crash in the write that opens the founding gate
   pub torn_opening : (old image : List ℕ) → old ≡ 0 ∷ body → Torn 0 1 old image → IsUnfoundedOr chart image
@@ -104,7 +105,7 @@ module _ (chart : List ℕ) (accepted : IsOk (chart_of chart)) (body : List ℕ)
         | inr shut ↦ inl (closed_unfounded image shut)
       ]
 
-  pub opening_written : (old new : List ℕ) → old ≡ 0 ∷ body → new ≡ written 0 (1 ∷ []) old → IsAtRest chart [] new
+  pub opening_written : (old new : List ℕ) → old ≡ 0 ∷ body → new ≡ written 0 (1 ∷ []) old → IsAtRest 2 chart [] new
   opening_written old new old_is new_is = founded_at_rest new (new_is ∙ ap (λ (l : List ℕ). written 0 (1 ∷ []) l) old_is)
 
 -- ---- images before the first sync

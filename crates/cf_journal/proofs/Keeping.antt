@@ -1,6 +1,8 @@
 -- What a reservation keeps.
-use Rattle.std.proofs.Common.{ℕ, List, Bool, ◌∙◌}
+use Rattle.std.proofs.Common.{ℕ, List, Bool, sym, subst, ◌∙◌}
 use Rattle.cf_calls.specs.declared.entry.Entry.{Entry}
+use Rattle.cf_codec.specs.Entries.{IsOf}
+use Rattle.cf_journal.specs.Layout.{IsValid, IsAtRest, IsStaged}
 use Rattle.cf_journal.specs.Journal.{IsSettled, IsInDoubt, SamePlace}
 use Rattle.cf_journal.specs.declared.journal.Journal.{Journal}
 
@@ -9,15 +11,16 @@ module _ {D : Type 0} (tells : Bool) (is_image : D → List ℕ → Type 0) (old
   settled_kept settled = record {
     clear = same.doubt ∙ settled.clear;
     stands = record { gate = same.gate ∙ settled.stands.gate; count = same.count ∙ settled.stands.count };
-    valid = settled.valid;
-    images = settled.images;
+    valid = subst (λ (v : ℕ). IsValid v chart history) (sym same.version) settled.valid;
+    images = λ told image is. subst (λ (v : ℕ). IsAtRest v chart history image) (sym same.version) (settled.images told image is);
   }
 
   pub doubt_kept : (entry : Entry) → IsInDoubt tells is_image old disk chart history entry → IsInDoubt tells is_image new disk chart history entry
   doubt_kept entry doubt = record {
     doubt = same.doubt ∙ doubt.doubt;
     stands = record { gate = same.gate ∙ doubt.stands.gate; count = same.count ∙ doubt.stands.count };
-    valid = doubt.valid;
+    valid = subst (λ (v : ℕ). IsValid v chart history) (sym same.version) doubt.valid;
     has = doubt.has;
-    images = doubt.images;
+    of = subst (λ (v : ℕ). IsOf v entry) (sym same.version) doubt.of;
+    images = λ told image is. subst (λ (v : ℕ). IsStaged v chart history entry image) (sym same.version) (doubt.images told image is);
   }

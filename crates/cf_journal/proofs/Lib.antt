@@ -4,6 +4,7 @@ pub mod Keeping
 pub mod Layouts
 pub mod Lists
 pub mod Moments
+pub mod Raising
 pub mod Reading
 pub mod RecordLaws
 pub mod Whole

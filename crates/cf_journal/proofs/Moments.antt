@@ -18,3 +18,7 @@ module _ {D : Type 0} (moment : D → ℕ) (was_image : D → ℕ → List ℕ �
     images = λ image was. ⊎_elim (first.images image) (λ p. p) (second.since (moment old) image first.later was);
     since = λ t image le was. ⊎_elim (first.since t image le) (λ p. inr p) (second.since t image (omega (arith, le, first.later)) was);
   }
+
+  -- nothing was done
+  pub unmoved : (disk : D) (P : List ℕ → Type 0) → ((image : List ℕ) → was_image disk (moment disk) image → P image) → AtEachMoment moment was_image disk disk P
+  unmoved disk P now = record { later = omega arith; images = now; since = λ t image le was. inl was }

@@ -7,7 +7,7 @@ use Rattle.std.proofs.lemmas.List.{take_at, take-take, drop-drop, drop_more, app
 use Rattle.std.proofs.lemmas.Bool.{cases_lt, cases_eq}
 use Rattle.std.proofs.lemmas.Bool.Decides.{nat_tests}
 use Rattle.cf_calls.specs.declared.entry.Entry.{Entry}
-use Rattle.cf_codec.specs.Entries.{payload, read_of}
+use Rattle.cf_codec.specs.Entries.{payload, read_of, IsOf}
 use Rattle.cf_journal.specs.Records.{HasRecord, of_length, stated_len, entry_behind, in_front, entries_from, record_of, records_of}
 use Rattle.cf_codec.proofs.EntriesExact.{was_written}
 use Rattle.cf_journal.proofs.RecordLaws.{skipped, at_closed, at_open, records_none, records_push, length-records_push}
@@ -29,29 +29,29 @@ front_push es e at (Ok later) = ap (λ (l : List Entry). Ok l) (sym (append_asso
 front_push es e at (Err place) = refl
 
 -- an open gate with an entry behind it
-pub steps_on : (records : List ℕ) (place at n : ℕ) (e : Entry) → place < length records → get_or records place 0 ≡ 1 → entry_behind (drop (place + 1) records) ≡ Some e → n ≡ stated_len (drop (place + 1) records)
-    → entries_from 0 at (drop place records) ≡ in_front (Some e) at (entries_from 0 (5 + n + at) (drop (place + (5 + n)) records))
-steps_on records place at n e within is_open is_entry n_is =
+pub steps_on : (version : ℕ) (records : List ℕ) (place at n : ℕ) (e : Entry) → place < length records → get_or records place 0 ≡ 1 → entry_behind version (drop (place + 1) records) ≡ Some e → n ≡ stated_len (drop (place + 1) records)
+    → entries_from version 0 at (drop place records) ≡ in_front (Some e) at (entries_from version 0 (5 + n + at) (drop (place + (5 + n)) records))
+steps_on version records place at n e within is_open is_entry n_is =
     let behind = drop (place + 1) records in
     let here : drop place records ≡ 1 ∷ behind = drop_more records place 0 within ∙ ap (λ (g : ℕ). g ∷ behind) is_open in
     let where_ : place + 1 + (4 + n) ≡ place + (5 + n) = omega arith in
     let rest : drop (4 + n) behind ≡ drop (place + (5 + n)) records = drop-drop (4 + n) (place + 1) records ∙ ap (λ (k : ℕ). drop k records) where_ in
-    ap (λ (l : List ℕ). entries_from 0 at l) here ∙ at_open at behind
-    ∙ ap (λ (o : Option Entry). in_front o at (entries_from (4 + stated_len behind) (5 + stated_len behind + at) behind)) is_entry
-    ∙ ap (λ (k : ℕ). in_front (Some e) at (entries_from (4 + k) (5 + k + at) behind)) (sym n_is)
-    ∙ ap (λ (r : Result (List Entry) ℕ). in_front (Some e) at r) (skipped (4 + n) (5 + n + at) behind ∙ ap (λ (l : List ℕ). entries_from 0 (5 + n + at) l) rest)
+    ap (λ (l : List ℕ). entries_from version 0 at l) here ∙ at_open version at behind
+    ∙ ap (λ (o : Option Entry). in_front o at (entries_from version (4 + stated_len behind) (5 + stated_len behind + at) behind)) is_entry
+    ∙ ap (λ (k : ℕ). in_front (Some e) at (entries_from version (4 + k) (5 + k + at) behind)) (sym n_is)
+    ∙ ap (λ (r : Result (List Entry) ℕ). in_front (Some e) at r) (skipped version (4 + n) (5 + n + at) behind ∙ ap (λ (l : List ℕ). entries_from version 0 (5 + n + at) l) rest)
 
 -- one without
-pub stops_at : (records : List ℕ) (place at : ℕ) → place < length records → get_or records place 0 ≡ 1 → entry_behind (drop (place + 1) records) ≡ None → entries_from 0 at (drop place records) ≡ Err at
-stops_at records place at within is_open none =
+pub stops_at : (version : ℕ) (records : List ℕ) (place at : ℕ) → place < length records → get_or records place 0 ≡ 1 → entry_behind version (drop (place + 1) records) ≡ None → entries_from version 0 at (drop place records) ≡ Err at
+stops_at version records place at within is_open none =
     let behind = drop (place + 1) records in
     let here : drop place records ≡ 1 ∷ behind = drop_more records place 0 within ∙ ap (λ (g : ℕ). g ∷ behind) is_open in
-    ap (λ (l : List ℕ). entries_from 0 at l) here ∙ at_open at behind
-    ∙ ap (λ (o : Option Entry). in_front o at (entries_from (4 + stated_len behind) (5 + stated_len behind + at) behind)) none
+    ap (λ (l : List ℕ). entries_from version 0 at l) here ∙ at_open version at behind
+    ∙ ap (λ (o : Option Entry). in_front o at (entries_from version (4 + stated_len behind) (5 + stated_len behind + at) behind)) none
 
 -- a closed gate
-pub ends_at : (records : List ℕ) (place at : ℕ) → place < length records → get_or records place 0 ≢ 1 → entries_from 0 at (drop place records) ≡ Ok []
-ends_at records place at within shut = ap (λ (l : List ℕ). entries_from 0 at l) (drop_more records place 0 within) ∙ at_closed at (get_or records place 0) (drop (place + 1) records) shut
+pub ends_at : (version : ℕ) (records : List ℕ) (place at : ℕ) → place < length records → get_or records place 0 ≢ 1 → entries_from version 0 at (drop place records) ≡ Ok []
+ends_at version records place at within shut = ap (λ (l : List ℕ). entries_from version 0 at l) (drop_more records place 0 within) ∙ at_closed version at (get_or records place 0) (drop (place + 1) records) shut
 
 -- ---- what an entry that was read says of the bytes
 
@@ -86,24 +86,27 @@ back_bytes n bytes are i = let same = get_or-drop n bytes i 0 in omega (arith, s
 pub stated_small : (behind : List ℕ) → ((i : ℕ) → get_or behind i 0 < 256) → stated_len behind < 2 ^ 32
 stated_small behind are = omega (arith, front_bytes 4 behind are 0, front_bytes 4 behind are 1, front_bytes 4 behind are 2, front_bytes 4 behind are 3)
 
-pub record Lies (behind : List ℕ) (e : Entry) : Type 0 where
+pub record Lies (version : ℕ) (behind : List ℕ) (e : Entry) : Type 0 where
   pub form : HasRecord e
+  pub of : IsOf version e
   pub size : stated_len behind ≡ length (payload e)
   pub bytes : behind ≡ record_of e ++ drop (4 + stated_len behind) behind
 
-pub lies : (behind : List ℕ) (e : Entry) → ((i : ℕ) → get_or behind i 0 < 256) → entry_behind behind ≡ Some e → Lies behind e
-lies behind e are_bytes is =
+pub lies : (version : ℕ) (behind : List ℕ) (e : Entry) → ((i : ℕ) → get_or behind i 0 < 256) → entry_behind version behind ≡ Some e → Lies version behind e
+lies version behind e are_bytes is =
     let n = stated_len behind in
-    let tests = not_short (nat_lt (length behind) (5 + n)) (of_length n (read_of (take n (drop 4 behind)))) e is in
+    let tests = not_short (nat_lt (length behind) (5 + n)) (of_length n (read_of version (take n (drop 4 behind)))) e is in
     let long : 5 + n ≤ length behind = let t = tests.0 in grind (arith, nat_tests) in
-    let read = of_length-some n (read_of (take n (drop 4 behind))) e tests.1 in
+    let read = of_length-some n (read_of version (take n (drop 4 behind))) e tests.1 in
     let are : (i : ℕ) → get_or (take n (drop 4 behind)) i 0 < 256 = front_bytes n (drop 4 behind) (back_bytes 4 behind are_bytes) in
-    let is_read = was_written (take n (drop 4 behind)) e n are read in
+    let was = was_written version (take n (drop 4 behind)) e n are read in
+    let is_read = was.0 in
     let text : take n (drop 4 behind) ≡ payload e = sym (take-take n n (drop 4 behind) (omega arith)) ∙ is_read.front in
     let number : to_be_bytes w32 n ≡ take 4 behind = be_bytes_4 (take 4 behind) n (length-take-le 4 behind (omega (arith, long))) (front_bytes 4 behind are_bytes) refl in
     let sized : to_be_bytes w32 (length (payload e)) ≡ take 4 behind = ap (λ (k : ℕ). to_be_bytes w32 k) (sym is_read.count) ∙ number in
     record {
       form = record { has = is_read.entry; short = omega (arith, is_read.count, stated_small behind are_bytes) };
+      of = was.1;
       size = is_read.count;
       bytes =
           sym (take-append-drop 4 behind)
@@ -114,10 +117,10 @@ lies behind e are_bytes is =
 
 -- ---- a payload of another length
 
-pub none_behind : (behind : List ℕ) (n len : ℕ) (e : Entry) → n ≡ stated_len behind → read_of (take n (drop 4 behind)) ≡ Ok (e, len) → (len ≡ n → ⊥) → entry_behind behind ≡ None
-none_behind behind n len e n_is read other =
-    ap (λ (k : ℕ). if nat_lt (length behind) (5 + k) then None else of_length k (read_of (take k (drop 4 behind)))) (sym n_is)
-    ∙ either (nat_lt (length behind) (5 + n)) (of_length n (read_of (take n (drop 4 behind)))) (ap (of_length n) read ∙ ap (λ (b : Bool). if b then Some e else None) unequal)
+pub none_behind : (version : ℕ) (behind : List ℕ) (n len : ℕ) (e : Entry) → n ≡ stated_len behind → read_of version (take n (drop 4 behind)) ≡ Ok (e, len) → (len ≡ n → ⊥) → entry_behind version behind ≡ None
+none_behind version behind n len e n_is read other =
+    ap (λ (k : ℕ). if nat_lt (length behind) (5 + k) then None else of_length k (read_of version (take k (drop 4 behind)))) (sym n_is)
+    ∙ either (nat_lt (length behind) (5 + n)) (of_length n (read_of version (take n (drop 4 behind)))) (ap (of_length n) read ∙ ap (λ (b : Bool). if b then Some e else None) unequal)
   where
     unequal : (len == n) ≡ false
     unequal = grind (arith, nat_tests)
@@ -132,9 +135,9 @@ pub nothing_read : records_of [] ≡ []
 nothing_read = sym (append-nil (records_of [])) ∙ records_none []
 
 -- the front that was read has a record more
-pub front_more : (records : List ℕ) (place n : ℕ) (es : List Entry) (e : Entry) → place < length records → get_or records place 0 ≡ 1 → n ≡ stated_len (drop (place + 1) records) → Lies (drop (place + 1) records) e
+pub front_more : (version : ℕ) (records : List ℕ) (place n : ℕ) (es : List Entry) (e : Entry) → place < length records → get_or records place 0 ≡ 1 → n ≡ stated_len (drop (place + 1) records) → Lies version (drop (place + 1) records) e
     → take place records ≡ records_of es → take (place + (5 + n)) records ≡ records_of (es ++ e ∷ [])
-front_more records place n es e within is_open n_is lie front =
+front_more version records place n es e within is_open n_is lie front =
     let behind = drop (place + 1) records in
     let rest = drop (4 + stated_len behind) behind in
     let here : drop place records ≡ 1 ∷ (record_of e ++ rest) = drop_more records place 0 within ∙ ap (λ (g : ℕ). g ∷ behind) is_open ∙ ap (λ (l : List ℕ). 1 ∷ l) lie.bytes in
@@ -145,18 +148,20 @@ front_more records place n es e within is_open n_is lie front =
     ap (λ (l : List ℕ). take (place + (5 + n)) l) whole ∙ take_at (records_of (es ++ e ∷ [])) rest (place + (5 + n)) size
 
 -- a refusal of one entry is that of all
-pub refuses_all : (e : OpenRefused) (at first : ℕ) (behind records : List ℕ) → GivesEntry (Err e) at behind → (entry_behind behind ≡ None → entries_from 0 first records ≡ Err at) → GivesEntries (Err e) first records
-refuses_all NoMemory at first behind records gives stops = tt
-refuses_all Disk at first behind records gives stops = absurd (cc (gives.0))
-refuses_all (NotFounded len byte) at first behind records gives stops = absurd (cc (gives.0))
-refuses_all (Damaged offset) at first behind records gives stops = let same : offset ≡ at = cc (gives.0) in stops gives.1 ∙ ap (λ (k : ℕ). Err k) (sym same)
+pub refuses_all : (e : OpenRefused) (version at first : ℕ) (behind records : List ℕ) → GivesEntry (Err e) version at behind → (entry_behind version behind ≡ None → entries_from version 0 first records ≡ Err at) → GivesEntries (Err e) version first records
+refuses_all NoMemory version at first behind records gives stops = tt
+refuses_all Disk version at first behind records gives stops = absurd (cc (gives.0))
+refuses_all (NotFounded len byte) version at first behind records gives stops = absurd (cc (gives.0))
+refuses_all (Damaged offset) version at first behind records gives stops = let same : offset ≡ at = cc (gives.0) in stops gives.1 ∙ ap (λ (k : ℕ). Err k) (sym same)
 
 -- the first gate that isn't open
-pub ends : (records : List ℕ) (place first : ℕ) (es : List Entry) → place < length records → (get_or records place 0 ≡ 1 → ⊥) → All HasRecord es → take place records ≡ records_of es → EndsAt first records es (first + place)
-ends records place first es within shut all front =
+pub ends : (version : ℕ) (records : List ℕ) (place first : ℕ) (es : List Entry) → place < length records → (get_or records place 0 ≡ 1 → ⊥) → All HasRecord es → All (IsOf version) es → take place records ≡ records_of es
+    → EndsAt version first records es (first + place)
+ends version records place first es within shut all of_version front =
     let so_far : length (records_of es) ≡ place = sym (ap length front) ∙ length-take-le place records (omega arith) in
     record {
       all = all;
+      of = of_version;
       gate = get_or records place 0;
       behind = drop (place + 1) records;
       closed = shut;

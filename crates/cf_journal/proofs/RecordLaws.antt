@@ -7,25 +7,26 @@ use Rattle.std.proofs.lemmas.List.{take_at, drop_at, append-nil}
 use Rattle.std.proofs.lemmas.List.Elements.{All-head, All-tail}
 use Rattle.std.proofs.lemmas.Bool.Decides.{nat_tests}
 use Rattle.cf_calls.specs.declared.entry.Entry.{Entry}
-use Rattle.cf_codec.specs.Entries.{payload, read_of}
+use Rattle.cf_codec.specs.Entries.{payload, read_of, IsOf}
 use Rattle.cf_journal.specs.Records.{HasRecord, of_length, stated_len, entry_behind, in_front, entries_from, record_of, records_of, record_len, gate_after}
 use Rattle.cf_codec.proofs.EntriesExact.{reads_back}
 
 -- ---- steps of the reading
 
-pub skipped : (k at : ℕ) (bytes : List ℕ) → entries_from k at bytes ≡ entries_from 0 at (drop k bytes)
-unfolding entries_from
-skipped zero at bytes = refl
-skipped (suc k) at [] = refl
-skipped (suc k) at (b ∷ bytes) = skipped k at bytes
+module _ (version : ℕ) where
+  pub skipped : (k at : ℕ) (bytes : List ℕ) → entries_from version k at bytes ≡ entries_from version 0 at (drop k bytes)
+  unfolding entries_from
+  skipped zero at bytes = refl
+  skipped (suc k) at [] = refl
+  skipped (suc k) at (b ∷ bytes) = skipped k at bytes
 
-pub at_closed : (at gate : ℕ) (behind : List ℕ) → gate ≢ 1 → entries_from 0 at (gate ∷ behind) ≡ Ok []
-unfolding entries_from
-at_closed at gate behind shut = grind (arith, nat_tests)
+  pub at_closed : (at gate : ℕ) (behind : List ℕ) → gate ≢ 1 → entries_from version 0 at (gate ∷ behind) ≡ Ok []
+  unfolding entries_from
+  at_closed at gate behind shut = grind (arith, nat_tests)
 
-pub at_open : (at : ℕ) (behind : List ℕ) → entries_from 0 at (1 ∷ behind) ≡ in_front (entry_behind behind) at (entries_from (4 + stated_len behind) (5 + stated_len behind + at) behind)
-unfolding entries_from
-at_open at behind = refl
+  pub at_open : (at : ℕ) (behind : List ℕ) → entries_from version 0 at (1 ∷ behind) ≡ in_front (entry_behind version behind) at (entries_from version (4 + stated_len behind) (5 + stated_len behind + at) behind)
+  unfolding entries_from
+  at_open at behind = refl
 
 -- ---- one record
 
@@ -64,23 +65,24 @@ module _ (e : Entry) (form : HasRecord e) where
     long_enough : 0 < length tail → nat_lt (length behind) (5 + size) ≡ false
     long_enough some = let le : 5 + size ≤ length behind = omega (arith, length-append (record_of e) tail, length-record_of) in grind (arith, nat_tests)
 
-    exact : of_length size (read_of (payload e)) ≡ Some e
-    exact = ap (λ (l : List ℕ). of_length size (read_of l)) (sym (append-nil (payload e))) ∙ ap (of_length size) (reads_back e [] form.has) ∙ grind (arith, nat_tests)
+    module _ (version : ℕ) (of_version : IsOf version e) where
+      exact : of_length size (read_of version (payload e)) ≡ Some e
+      exact = ap (λ (l : List ℕ). of_length size (read_of version l)) (sym (append-nil (payload e))) ∙ ap (of_length size) (reads_back version e [] form.has of_version) ∙ grind (arith, nat_tests)
 
-    entry_is : 0 < length tail → entry_behind behind ≡ Some e
-    entry_is some =
-        ap (λ (n : ℕ). if nat_lt (length behind) (5 + n) then None else of_length n (read_of (take n (drop 4 behind)))) stated_is
-        ∙ ap (λ (b : Bool). if b then None else of_length size (read_of (take size (drop 4 behind)))) (long_enough some)
-        ∙ ap (λ (l : List ℕ). of_length size (read_of l)) payload_is
-        ∙ exact
+      entry_is : 0 < length tail → entry_behind version behind ≡ Some e
+      entry_is some =
+          ap (λ (n : ℕ). if nat_lt (length behind) (5 + n) then None else of_length n (read_of version (take n (drop 4 behind)))) stated_is
+          ∙ ap (λ (b : Bool). if b then None else of_length size (read_of version (take size (drop 4 behind)))) (long_enough some)
+          ∙ ap (λ (l : List ℕ). of_length size (read_of version l)) payload_is
+          ∙ exact
 
-    -- an open record, and then what the rest reads as
-    pub read_one : (at : ℕ) → 0 < length tail → entries_from 0 at (1 ∷ behind) ≡ in_front (Some e) at (entries_from 0 (5 + size + at) tail)
-    read_one at some =
-        at_open at behind
-        ∙ ap (λ (o : Option Entry). in_front o at (entries_from (4 + stated_len behind) (5 + stated_len behind + at) behind)) (entry_is some)
-        ∙ ap (λ (n : ℕ). in_front (Some e) at (entries_from (4 + n) (5 + n + at) behind)) stated_is
-        ∙ ap (λ (r : Result (List Entry) ℕ). in_front (Some e) at r) (skipped (4 + size) (5 + size + at) behind ∙ ap (λ (l : List ℕ). entries_from 0 (5 + size + at) l) tail_is)
+      -- an open record, and then what the rest reads as
+      pub read_one : (at : ℕ) → 0 < length tail → entries_from version 0 at (1 ∷ behind) ≡ in_front (Some e) at (entries_from version 0 (5 + size + at) tail)
+      read_one at some =
+          at_open version at behind
+          ∙ ap (λ (o : Option Entry). in_front o at (entries_from version (4 + stated_len behind) (5 + stated_len behind + at) behind)) (entry_is some)
+          ∙ ap (λ (n : ℕ). in_front (Some e) at (entries_from version (4 + n) (5 + n + at) behind)) stated_is
+          ∙ ap (λ (r : Result (List Entry) ℕ). in_front (Some e) at r) (skipped version (4 + size) (5 + size + at) behind ∙ ap (λ (l : List ℕ). entries_from version 0 (5 + size + at) l) tail_is)
 
 -- ---- all records
 
@@ -92,15 +94,16 @@ pub records_none : (rest : List ℕ) → records_of [] ++ rest ≡ rest
 unfolding records_of
 records_none rest = refl
 
--- open records before a closed gate read as their entries
-pub read_records : (at : ℕ) (es : List Entry) (gate : ℕ) (behind : List ℕ) → All HasRecord es → gate ≢ 1 → entries_from 0 at (records_of es ++ gate ∷ behind) ≡ Ok es
-read_records at [] gate behind forms shut = ap (λ (l : List ℕ). entries_from 0 at l) (records_none (gate ∷ behind)) ∙ at_closed at gate behind shut
-read_records at (e ∷ es) gate behind forms shut =
+-- open records before a closed gate read as their entries, in a version that all of them are of
+pub read_records : (version at : ℕ) (es : List Entry) (gate : ℕ) (behind : List ℕ) → All HasRecord es → All (IsOf version) es → gate ≢ 1 → entries_from version 0 at (records_of es ++ gate ∷ behind) ≡ Ok es
+read_records version at [] gate behind forms of_version shut = ap (λ (l : List ℕ). entries_from version 0 at l) (records_none (gate ∷ behind)) ∙ at_closed version at gate behind shut
+read_records version at (e ∷ es) gate behind forms of_version shut =
     let rest = records_of es ++ gate ∷ behind in
     let some : 0 < length rest = omega (arith, length-append (records_of es) (gate ∷ behind)) in
-    ap (λ (l : List ℕ). entries_from 0 at l) (records_front e es (gate ∷ behind))
-    ∙ read_one e (All-head HasRecord e es forms) rest at some
-    ∙ ap (λ (r : Result (List Entry) ℕ). in_front (Some e) at r) (read_records (5 + length (payload e) + at) es gate behind (All-tail HasRecord e es forms) shut)
+    ap (λ (l : List ℕ). entries_from version 0 at l) (records_front e es (gate ∷ behind))
+    ∙ read_one e (All-head HasRecord e es forms) rest version (All-head (IsOf version) e es of_version) at some
+    ∙ ap (λ (r : Result (List Entry) ℕ). in_front (Some e) at r)
+    (read_records version (5 + length (payload e) + at) es gate behind (All-tail HasRecord e es forms) (All-tail (IsOf version) e es of_version) shut)
 
 pub records_push : (es : List Entry) (e : Entry) (rest : List ℕ) → records_of (es ++ e ∷ []) ++ rest ≡ records_of es ++ 1 ∷ (record_of e ++ rest)
 records_push [] e rest = records_front e [] rest ∙ ap (λ (l : List ℕ). 1 ∷ (record_of e ++ l)) (records_none rest) ∙ sym (records_none (1 ∷ (record_of e ++ rest)))

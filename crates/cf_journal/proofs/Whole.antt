@@ -1,6 +1,6 @@
 -- A whole file, as it is opened.
 use Rattle.std.proofs.Common.{◌≡◌, inl, inr, ⊎_elim, ℕ, ◌+◌, ◌-◌, ◌<◌, ◌≤◌, List, ◌∷◌, ◌++◌, length, take, drop, refl, sym, ◌∙◌, ap, arith, length-drop, take-append-drop, Bool, false, Result, Ok, Err}
-use Rattle.std.specs.Prelude.{IsOk, IsErr, is_ok, if◌then◌else◌}
+use Rattle.std.specs.Prelude.{IsOk, IsErr, is_ok, if◌then◌else◌, slice_index}
 use Rattle.std.specs.Int.{w32, to_be_bytes}
 use Rattle.std.proofs.lemmas.List.{take_all, drop-drop, length-take-le}
 use Rattle.cf_calls.specs.declared.entry.Entry.{Entry}
@@ -8,7 +8,7 @@ use Rattle.cf_chart.specs.Reading.{chart_of}
 use Rattle.cf_disk.specs.Images.{AddsNone}
 use Rattle.cf_disk.specs.Moments.{Advances, AtEachMoment}
 use Rattle.cf_journal.specs.Records.{entries_from, records_of}
-use Rattle.cf_journal.specs.Frames.{chart_len, with_chart, behind_head, frames}
+use Rattle.cf_journal.specs.Frames.{version_by, stated_head, with_chart, behind_head, frames}
 use Rattle.cf_journal.specs.Layout.{IsValid, IsAtRest}
 use Rattle.cf_journal.specs.Answers.{Accepts, EndsAt, Opens}
 use Rattle.cf_journal.specs.declared.refused.OpenRefused.{OpenRefused}
@@ -25,7 +25,7 @@ still moment is_image was_image only old new time none = record {
 }
 
 -- a head, a chart and records, as they were read one after another
-module _ (bytes chart records : List ℕ) (n len : ℕ) (sizes : len ≡ length bytes) (within : 7 + n ≤ len) (chart_is : chart ≡ take n (drop 6 bytes)) (records_are : records ≡ take (len - (6 + n)) (drop (6 + n) bytes)) where
+module _ (version : ℕ) (bytes chart records : List ℕ) (n len : ℕ) (sizes : len ≡ length bytes) (within : 7 + n ≤ len) (chart_is : chart ≡ take n (drop 6 bytes)) (records_are : records ≡ take (len - (6 + n)) (drop (6 + n) bytes)) where
   pub all_records : records ≡ drop (6 + n) bytes
   all_records = records_are ∙ take_all (len - (6 + n)) (drop (6 + n) bytes) (omega (arith, length-drop (6 + n) bytes, sizes))
 
@@ -36,24 +36,26 @@ module _ (bytes chart records : List ℕ) (n len : ℕ) (sizes : len ≡ length 
   some_records = omega (arith, ap length all_records, length-drop (6 + n) bytes, sizes, within)
 
   -- what the bytes stand for
-  pub frames_read : chart_len (length bytes) (take 6 bytes) ≡ Ok n → IsOk (chart_of chart) → frames bytes ≡ with_chart chart (entries_from 0 (6 + n) records)
+  pub frames_read : stated_head (length bytes) (take 6 bytes) ≡ Ok (version, n) → IsOk (chart_of chart) → frames bytes ≡ with_chart chart (entries_from version 0 (6 + n) records)
   frames_read head accepted =
-      ap (λ (r : Result ℕ OpenRefused). behind_head r bytes) head
-      ∙ ap (λ (c : List ℕ). if is_ok (chart_of c) then with_chart c (entries_from 0 (6 + n) (drop (6 + n) bytes)) else Err (Damaged 6)) (sym chart_is)
-      ∙ ap (λ (b : Bool). if b then with_chart chart (entries_from 0 (6 + n) (drop (6 + n) bytes)) else Err (Damaged 6)) accepted
-      ∙ ap (λ (l : List ℕ). with_chart chart (entries_from 0 (6 + n) l)) (sym all_records)
+      ap (λ (r : Result (ℕ × ℕ) OpenRefused). behind_head r bytes) head
+      ∙ ap (λ (c : List ℕ). if is_ok (chart_of c) then with_chart c (entries_from version 0 (6 + n) (drop (6 + n) bytes)) else Err (Damaged 6)) (sym chart_is)
+      ∙ ap (λ (b : Bool). if b then with_chart chart (entries_from version 0 (6 + n) (drop (6 + n) bytes)) else Err (Damaged 6)) accepted
+      ∙ ap (λ (l : List ℕ). with_chart chart (entries_from version 0 (6 + n) l)) (sym all_records)
 
   -- how they lie
-  pub whole_at_rest : take 6 bytes ≡ 1 ∷ 1 ∷ to_be_bytes w32 n → IsOk (chart_of chart) → (entries : List Entry) (place : ℕ) → EndsAt (6 + n) records entries place → IsAtRest chart entries bytes
-  whole_at_rest head accepted entries place ends =
-      let valid : IsValid chart entries = record { accepted = accepted; records = ends.all } in
+  pub whole_at_rest : version ≡ version_by (slice_index (take 6 bytes) 1) → take 6 bytes ≡ 1 ∷ slice_index (take 6 bytes) 1 ∷ to_be_bytes w32 n → IsOk (chart_of chart)
+      → (entries : List Entry) (place : ℕ) → EndsAt version (6 + n) records entries place → IsAtRest version chart entries bytes
+  whole_at_rest version_is head accepted entries place ends =
+      let byte = slice_index (take 6 bytes) 1 in
+      let valid : IsValid version chart entries = record { accepted = accepted; records = ends.all; of = ends.of } in
       let behind : drop 6 bytes ≡ chart ++ records =
       sym (take-append-drop n (drop 6 bytes)) ∙ ap (λ (l : List ℕ). l ++ drop n (drop 6 bytes)) (sym chart_is) ∙ ap (λ (l : List ℕ). chart ++ l) (drop-drop n 6 bytes ∙ sym all_records) in
-      let whole : bytes ≡ 1 ∷ 1 ∷ (to_be_bytes w32 (length chart) ++ (chart ++ (records_of entries ++ ends.gate ∷ ends.behind))) =
+      let whole : bytes ≡ 1 ∷ byte ∷ (to_be_bytes w32 (length chart) ++ (chart ++ (records_of entries ++ ends.gate ∷ ends.behind))) =
       sym (take-append-drop 6 bytes)
-      ∙ ap (λ (l : List ℕ). l ++ drop 6 bytes) (head ∙ ap (λ (k : ℕ). 1 ∷ 1 ∷ to_be_bytes w32 k) (sym length-chart))
-      ∙ ap (λ (l : List ℕ). 1 ∷ 1 ∷ (to_be_bytes w32 (length chart) ++ l)) (behind ∙ ap (λ (l : List ℕ). chart ++ l) ends.layout) in
-      at_rest chart entries ends.gate ends.behind bytes valid ends.closed (whole ∙ sym (front_split chart entries (ends.gate ∷ ends.behind)))
+      ∙ ap (λ (l : List ℕ). l ++ drop 6 bytes) (head ∙ ap (λ (k : ℕ). 1 ∷ byte ∷ to_be_bytes w32 k) (sym length-chart))
+      ∙ ap (λ (l : List ℕ). 1 ∷ byte ∷ (to_be_bytes w32 (length chart) ++ l)) (behind ∙ ap (λ (l : List ℕ). chart ++ l) ends.layout) in
+      at_rest version byte (λ is. version_is ∙ ap version_by is) chart entries ends.gate ends.behind bytes valid ends.closed (whole ∙ sym (front_split byte chart entries (ends.gate ∷ ends.behind)))
 
 -- ---- a chart that is refused
 
@@ -61,11 +63,11 @@ is_err-false : {A E : Type 0} (r : Result A E) → IsErr r → is_ok r ≡ false
 is_err-false (Ok a) err = absurd (cc err)
 is_err-false (Err e) err = refl
 
-pub frames_refused : (bytes chart : List ℕ) (n : ℕ) → chart ≡ take n (drop 6 bytes) → chart_len (length bytes) (take 6 bytes) ≡ Ok n → IsErr (chart_of chart) → frames bytes ≡ Err (Damaged 6)
-frames_refused bytes chart n chart_is head refused =
+pub frames_refused : (version : ℕ) (bytes chart : List ℕ) (n : ℕ) → chart ≡ take n (drop 6 bytes) → stated_head (length bytes) (take 6 bytes) ≡ Ok (version, n) → IsErr (chart_of chart) → frames bytes ≡ Err (Damaged 6)
+frames_refused version bytes chart n chart_is head refused =
     let unaccepted : is_ok (chart_of (take n (drop 6 bytes))) ≡ false = ap (λ (c : List ℕ). is_ok (chart_of c)) (sym chart_is) ∙ is_err-false (chart_of chart) refused in
-    ap (λ (r : Result ℕ OpenRefused). behind_head r bytes) head
-    ∙ ap (λ (b : Bool). if b then with_chart (take n (drop 6 bytes)) (entries_from 0 (6 + n) (drop (6 + n) bytes)) else Err (Damaged 6)) unaccepted
+    ap (λ (r : Result (ℕ × ℕ) OpenRefused). behind_head r bytes) head
+    ∙ ap (λ (b : Bool). if b then with_chart (take n (drop 6 bytes)) (entries_from version 0 (6 + n) (drop (6 + n) bytes)) else Err (Damaged 6)) unaccepted
 
 -- a refusal of the chart is one of the whole
 pub refuses_whole : {A E : Type 0} (J : Type 0) (e : OpenRefused) (read : Result A E) (whole : Result (List ℕ × List Entry) OpenRefused) → Accepts (Err e) read → (IsErr read → whole ≡ Err (Damaged 6)) → Opens {J = J} (Err e) whole

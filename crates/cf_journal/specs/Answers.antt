@@ -3,6 +3,7 @@ use Rattle.std.specs.Prelude.{◌≡◌, ◌≢◌, ◌⊎◌, ⊤, ℕ, ◌+◌
 use Rattle.std.specs.declared.alloc.Global.{Global}
 use Rattle.cf_base.specs.Causes.{Rose}
 use Rattle.cf_calls.specs.declared.entry.Entry.{Entry}
+use Rattle.cf_codec.specs.Entries.{IsOf}
 use Rattle.cf_disk.specs.Images.{HalfCut, IsOnlyImage}
 use Rattle.cf_disk.specs.Moments.{AtEachMoment}
 use Rattle.cf_journal.specs.Records.{HasRecord, stated_len, entry_behind, entries_from, records_of}
@@ -59,8 +60,8 @@ Refuses open_refused.NoMemory x = ⊤
 Refuses (open_refused.NotFounded len byte) x = x ≡ Err (open_refused.NotFounded len byte)
 Refuses (open_refused.Damaged offset) x = x ≡ Err (open_refused.Damaged offset)
 
-abbrev pub GivesHead : Result ℕ OpenRefused → Result ℕ OpenRefused → Type 0
-GivesHead (Ok n) x = x ≡ Ok n
+abbrev pub GivesHead : Result (ℕ × ℕ) OpenRefused → Result (ℕ × ℕ) OpenRefused → Type 0
+GivesHead (Ok h) x = x ≡ Ok h
 GivesHead (Err e) x = Refuses e x
 
 -- a chart that is refused is damage at its place
@@ -70,21 +71,22 @@ Accepts (Err open_refused.NoMemory) chart = ⊤
 Accepts (Err e) chart = (e ≡ open_refused.Damaged 6) × IsErr chart
 
 -- the entry behind the gate at a place, with its payload's length
-abbrev pub GivesEntry : Result (ℕ × Entry) OpenRefused → ℕ → List ℕ → Type 0
-GivesEntry (Ok x) at behind = (x.0 ≡ stated_len behind) × (entry_behind behind ≡ Some x.1) × (5 + x.0 ≤ length behind)
-GivesEntry (Err open_refused.NoMemory) at behind = ⊤
-GivesEntry (Err e) at behind = (e ≡ open_refused.Damaged at) × (entry_behind behind ≡ None)
+abbrev pub GivesEntry : Result (ℕ × Entry) OpenRefused → ℕ → ℕ → List ℕ → Type 0
+GivesEntry (Ok x) version at behind = (x.0 ≡ stated_len behind) × (entry_behind version behind ≡ Some x.1) × (5 + x.0 ≤ length behind)
+GivesEntry (Err open_refused.NoMemory) version at behind = ⊤
+GivesEntry (Err e) version at behind = (e ≡ open_refused.Damaged at) × (entry_behind version behind ≡ None)
 
 -- the entries, and the place of the first gate that isn't open
-abbrev pub GivesEntries : Result (ℕ × Vec Entry Global) OpenRefused → ℕ → List ℕ → Type 0
-GivesEntries (Ok x) first records = entries_from 0 first records ≡ Ok x.1.items
-GivesEntries (Err open_refused.NoMemory) first records = ⊤
-GivesEntries (Err (open_refused.Damaged at)) first records = entries_from 0 first records ≡ Err at
-GivesEntries (Err e) first records = ⊥
+abbrev pub GivesEntries : Result (ℕ × Vec Entry Global) OpenRefused → ℕ → ℕ → List ℕ → Type 0
+GivesEntries (Ok x) version first records = entries_from version 0 first records ≡ Ok x.1.items
+GivesEntries (Err open_refused.NoMemory) version first records = ⊤
+GivesEntries (Err (open_refused.Damaged at)) version first records = entries_from version 0 first records ≡ Err at
+GivesEntries (Err e) version first records = ⊥
 
--- the records of these entries stand in front of the first gate that isn't open, whose place this is
-pub record EndsAt (first : ℕ) (bytes : List ℕ) (entries : List Entry) (place : ℕ) : Type 0 where
+-- the records of these entries, all of the version, stand in front of the first gate that isn't open, whose place this is
+pub record EndsAt (version first : ℕ) (bytes : List ℕ) (entries : List Entry) (place : ℕ) : Type 0 where
   pub all : All HasRecord entries
+  pub of : All (IsOf version) entries
   pub gate : ℕ
   pub behind : List ℕ
   pub closed : gate ≢ 1

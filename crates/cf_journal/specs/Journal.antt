@@ -1,6 +1,9 @@
 -- What a journal is, on its disk.
 use Rattle.std.specs.Prelude.{◌≡◌, ℕ, ◌+◌, Bool, true, false, IsTrue, List, [], ◌∷◌, ◌++◌, length}
+use Rattle.cf_calls.specs.declared.acts.Act.{Act}
 use Rattle.cf_calls.specs.declared.entry.Entry.{Entry}
+use Rattle.cf_codec.specs.Entries.{IsOf}
+use Rattle.cf_fields.specs.Kinds.{is_of, kind_of}
 use Rattle.cf_journal.specs.Records.{HasRecord, record_of, gate_after}
 use Rattle.cf_journal.specs.Layout.{IsValid, IsAtRest, IsStaged}
 use Rattle.cf_journal.specs.declared.journal.Journal.{Journal}
@@ -13,6 +16,14 @@ in_doubt journal = journal.doubt
 abbrev pub count_of : Journal → ℕ
 count_of journal = journal.count
 
+-- the version of the grammar of its entries, 1 or 2
+abbrev pub version_of : Journal → ℕ
+version_of journal = journal.version
+
+-- whether its version has entries of an act
+abbrev pub has_act : Journal → Act → Bool
+has_act journal act = is_of (version_of journal) (kind_of act)
+
 -- an entry is reserved
 pub record Reserves (journal : Journal) (entry : Entry) : Type 0 where
   pub has : HasRecord entry
@@ -23,28 +34,31 @@ pub record StandsBehind (journal : Journal) (chart : List ℕ) (history : List E
   pub gate : journal.gate ≡ gate_after (6 + length chart) history
   pub count : journal.count ≡ length history
 
--- Nothing is in doubt. Where the disk tells its bytes, every image recovers to the chart and the history.
+-- Nothing is in doubt, and the entries are of the journal's version. Where the disk tells its bytes, every image recovers to
+-- the chart and the history, and at version 2 every image tells version 2.
 pub record IsSettled {D : Type 0} (tells : Bool) (is_image : D → List ℕ → Type 0) (journal : Journal) (disk : D) (chart : List ℕ) (history : List Entry) : Type 0 where
   pub clear : in_doubt journal ≡ false
   pub stands : StandsBehind journal chart history
-  pub valid : IsValid chart history
-  pub images : IsTrue tells → (image : List ℕ) → is_image disk image → IsAtRest chart history image
+  pub valid : IsValid (version_of journal) chart history
+  pub images : IsTrue tells → (image : List ℕ) → is_image disk image → IsAtRest (version_of journal) chart history image
 
 -- The entry is in doubt. Where the disk tells its bytes, every image recovers to the history, or to it and the entry.
 pub record IsInDoubt {D : Type 0} (tells : Bool) (is_image : D → List ℕ → Type 0) (journal : Journal) (disk : D) (chart : List ℕ) (history : List Entry) (entry : Entry) : Type 0 where
   pub doubt : in_doubt journal ≡ true
   pub stands : StandsBehind journal chart history
-  pub valid : IsValid chart history
+  pub valid : IsValid (version_of journal) chart history
   pub has : HasRecord entry
-  pub images : IsTrue tells → (image : List ℕ) → is_image disk image → IsStaged chart history entry image
+  pub of : IsOf (version_of journal) entry
+  pub images : IsTrue tells → (image : List ℕ) → is_image disk image → IsStaged (version_of journal) chart history entry image
 
 -- After a failed append the entry is in doubt, or nothing is and the journal is as before.
 pub record AfterFailure {D : Type 0} (tells : Bool) (is_image : D → List ℕ → Type 0) (journal : Journal) (disk : D) (chart : List ℕ) (history : List Entry) (entry : Entry) : Type 0 where
   pub clear : in_doubt journal ≡ false → IsSettled tells is_image journal disk chart history
   pub doubt : in_doubt journal ≡ true → IsInDoubt tells is_image journal disk chart history entry
 
--- the next entry goes to the same place, and what is in doubt still is
+-- the next entry goes to the same place in the same version, and what is in doubt still is
 pub record SamePlace (old new : Journal) : Type 0 where
   pub gate : new.gate ≡ old.gate
   pub count : count_of new ≡ count_of old
   pub doubt : in_doubt new ≡ in_doubt old
+  pub version : version_of new ≡ version_of old

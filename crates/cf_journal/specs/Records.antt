@@ -16,11 +16,12 @@ of_length n (Err offset) = None
 abbrev pub stated_len : List ℕ → ℕ
 stated_len behind = from_be_bytes w32 (take 4 behind)
 
--- The entry behind an open gate. A length, a payload of exactly that length and a following gate must stand there.
-abbrev pub entry_behind : List ℕ → Option Entry
-entry_behind behind =
+-- The entry behind an open gate. A length, a payload of exactly that length in the grammar of the version, and a following
+-- gate must stand there.
+abbrev pub entry_behind : ℕ → List ℕ → Option Entry
+entry_behind version behind =
     if nat_lt (length behind) (5 + stated_len behind) then None
-    else of_length (stated_len behind) (read_of (take (stated_len behind) (drop 4 behind)))
+    else of_length (stated_len behind) (read_of version (take (stated_len behind) (drop 4 behind)))
 
 -- an entry in front of those behind it; without one, the place of its gate
 abbrev pub in_front : Option Entry → ℕ → Result (List Entry) ℕ → Result (List Entry) ℕ
@@ -29,14 +30,14 @@ in_front (Some e) at (Ok es) = Ok (e ∷ es)
 in_front (Some e) at (Err place) = Err place
 
 -- The entries of the records before the first gate that isn't open, or the place of the first open gate with no entry
--- behind it. The first gate stands `skip` bytes on, and `at` is the place of that gate.
-unfoldable pub entries_from : ℕ → ℕ → List ℕ → Result (List Entry) ℕ
-entries_from skip at [] = Ok []
-entries_from (suc skip) at (byte ∷ rest) = entries_from skip at rest
-entries_from zero at (gate ∷ behind) =
-    if gate == 1 then in_front (entry_behind behind) at (entries_from (4 + stated_len behind) (5 + stated_len behind + at) behind) else Ok []
+-- behind it, in the grammar of a version. The first gate stands `skip` bytes on, and `at` is the place of that gate.
+unfoldable pub entries_from : ℕ → ℕ → ℕ → List ℕ → Result (List Entry) ℕ
+entries_from version skip at [] = Ok []
+entries_from version (suc skip) at (byte ∷ rest) = entries_from version skip at rest
+entries_from version zero at (gate ∷ behind) =
+    if gate == 1 then in_front (entry_behind version behind) at (entries_from version (4 + stated_len behind) (5 + stated_len behind + at) behind) else Ok []
 
--- ---- writing
+-- ---- writing, which is the same in both versions
 
 -- an entry that a record can hold: it has a payload, whose length fits its four bytes
 pub record HasRecord (e : Entry) : Type 0 where

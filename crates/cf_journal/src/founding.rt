@@ -16,7 +16,7 @@ use cf_base::Failed;
 use cf_disk::Disk;
 use std::alloc::{AllocError, Global};
 
-/// Founds a journal with a chart that `Chart::read` accepts, and with no entry. It takes its memory first.
+/// Founds a journal of version 2 with a chart that `Chart::read` accepts, and with no entry. It takes its memory first.
 /// Then it asks the length and, where this is above 1, the first byte; where that is 1 nothing is written.
 /// Else it cuts the file to 1 byte, writes the founding gate as closed, writes the version, the chart and the
 /// closed gate of the first record, and opens the founding gate, each with a sync of its own. So a crash at
@@ -25,7 +25,7 @@ pub fn found<D: Disk>(alloc: Global, disk: &mut D, chart: &[u8]) -> Result<(), F
     requires { IsOk (chart_of chart.now) }
 
     ensures answer { IsTrue D.tells → Founds result (D.content disk.old) }
-    ensures founded { IsTrue D.tells → OnOk result ((image : List ℕ) → D.is_image disk.new image → IsAtRest chart.now [] image) }
+    ensures founded { IsTrue D.tells → OnOk result ((image : List ℕ) → D.is_image disk.new image → IsAtRest 2 chart.now [] image) }
 
     // A founded journal and want of memory leave the disk as it is.
     ensures keeps { IsTrue D.tells → is_founded (length (D.content disk.old)) (D.content disk.old) ≡ true
@@ -53,10 +53,10 @@ pub fn found<D: Disk>(alloc: Global, disk: &mut D, chart: &[u8]) -> Result<(), F
 /// What stands behind the founding gate: the version, the chart's length, the chart and a closed gate.
 fn body_of(alloc: Global, chart: &[u8]) -> Result<Vec<u8>, AllocError>
     requires { length chart.now < 2 ^ 32 }
-    ensures { IfOk result (λ body. body.items ≡ head_of chart.now ++ 0 ∷ []) }
+    ensures { IfOk result (λ body. body.items ≡ head_of 2 chart.now ++ 0 ∷ []) }
 {
     let mut body = Vec::new(alloc);
-    body.push(1)?;
+    body.push(2)?;
     body.extend_from_slice(&(chart.len() as u32).to_be_bytes())?;
     body.extend_from_slice(chart)?;
     body.push(0)?;
@@ -101,10 +101,10 @@ fn cut_synced<D: Disk>(disk: &mut D, len: u64) -> Result<(), Failed>
 
 /// Closes the founding gate, writes what stands behind it, and opens it, each with a sync.
 fn lay<D: Disk>(disk: &mut D, body: &[u8]) -> Result<(), Failed>
-    ensures founded { IsTrue D.tells → (chart : List ℕ) → IsOk (chart_of chart) → body.now ≡ head_of chart ++ 0 ∷ []
+    ensures founded { IsTrue D.tells → (chart : List ℕ) → IsOk (chart_of chart) → body.now ≡ head_of 2 chart ++ 0 ∷ []
         → length (D.content disk.old) ≤ 1 → IsOnlyImage (D.content disk.old) (D.is_image disk.old)
-        → OnOk result ((image : List ℕ) → D.is_image disk.new image → IsAtRest chart [] image) }
-    ensures any_moment { IsTrue D.tells → (chart : List ℕ) → IsOk (chart_of chart) → body.now ≡ head_of chart ++ 0 ∷ []
+        → OnOk result ((image : List ℕ) → D.is_image disk.new image → IsAtRest 2 chart [] image) }
+    ensures any_moment { IsTrue D.tells → (chart : List ℕ) → IsOk (chart_of chart) → body.now ≡ head_of 2 chart ++ 0 ∷ []
         → length (D.content disk.old) ≤ 1 → IsOnlyImage (D.content disk.old) (D.is_image disk.old)
         → AtEachMoment D.moment D.was_image disk.old disk.new (IsUnfoundedOr chart) }
     ensures cause { HasCause (D.faults disk.old) (D.faults disk.new) result }

@@ -5,17 +5,19 @@
 
 ghost use Rattle.std.specs.Prelude.{◌≡◌, ◌+◌, ◌*◌, ◌<◌, ◌≤◌, ◌^◌, [], ◌∷◌, ◌++◌, true, false, List, ℕ, IsTrue, OnOk, OnErr, is_ok, if◌then◌else◌, vec_len};
 ghost use Rattle.cf_base.specs.Causes.{HasCause};
+ghost use Rattle.cf_calls.specs.declared.acts.Act.{Act as ActOf};
 ghost use Rattle.cf_calls.specs.declared.entry.Entry.{Entry as EntryOf};
 ghost use Rattle.cf_calls.specs.Form.{IsEntryInForm};
 ghost use Rattle.cf_disk.specs.Moments.{AtEachMoment};
-ghost use Rattle.cf_journal.specs.Layout.{RecoversToEither};
+ghost use Rattle.cf_journal.specs.Layout.{RecoversTo, RecoversToEither};
 ghost use Rattle.cf_journal.specs.Records as records;
 
 use crate::refused::Disk_;
 use crate::steps::write_synced;
-use cf_calls::Entry;
+use cf_calls::{Act, Entry};
 use cf_codec::{NoMemory, payload_len, write_entry};
 use cf_disk::Disk;
+use cf_fields::kind::{is_of, kind_of};
 use std::alloc::Global;
 
 /// The end of a journal, where the next entry is written.
@@ -25,12 +27,15 @@ pub struct Journal {
     gate: u64,
     // How many entries stand before it.
     count: u64,
+    // The version of the grammar of its entries.
+    version: u8,
     // What is to stand behind the gate, up to the next one, which is closed; empty where nothing is reserved.
     reserved: Vec<u8>,
     // Whether the gate may be open all the same.
     doubt: bool,
     // A record has less than 2 ^ 26 bytes.
     ghost small: { vec_len reserved ≤ 2 ^ 26 },
+    ghost known: { (1 ≤ version) × (version ≤ 2) },
     ghost room: { gate ≤ 2 ^ 63 + 2 ^ 33 + 2 ^ 26 * count },
 }
 
@@ -43,11 +48,13 @@ pub fn record_len(entry: &Entry) -> u64
 }
 
 impl Journal {
-    ghost use Rattle.cf_journal.specs.Journal.{in_doubt, count_of, Reserves, IsSettled, IsInDoubt, AfterFailure, SamePlace};
+    ghost use Rattle.cf_journal.specs.Journal.{in_doubt, count_of, version_of, has_act, Reserves, IsSettled, IsInDoubt, AfterFailure, SamePlace};
 
-    /// The journal whose next gate stands at this place, behind so many entries.
-    pub(crate) fn at(alloc: Global, gate: u64, count: u64) -> Self
-        requires { gate ≤ 2 ^ 63 + 2 ^ 33 }
+    /// The journal of a version whose next gate stands at this place, behind so many entries.
+    pub(crate) fn at(alloc: Global, version: u8, gate: u64, count: u64) -> Self
+        requires known { (1 ≤ version) × (version ≤ 2) }
+        requires fits { gate ≤ 2 ^ 63 + 2 ^ 33 }
+        ensures version { version_of result ≡ version }
         ensures gate { result.gate ≡ gate }
         ensures count { result.count ≡ count }
         ensures clear { in_doubt result ≡ false }
@@ -55,6 +62,7 @@ impl Journal {
         Journal {
             gate,
             count,
+            version,
             reserved: Vec::new(alloc),
             doubt: false,
         }
@@ -74,12 +82,12 @@ impl Journal {
         Ok(())
     }
 
-    /// Writes the reserved entry. From the start on a crash at any moment leaves the history, or the history
-    /// and the entry; after `Ok` it leaves both. After `Disk_` the entry is in doubt exactly where the write
-    /// of its gate, or the sync after that, failed. Where nothing is in doubt a crash leaves the history, and
-    /// the next entry is written to the same place.
+    /// Writes the reserved entry, whose act the journal's version has. From the start on a crash at any moment
+    /// leaves the history, or the history and the entry; after `Ok` it leaves both. After `Disk_` the entry is in
+    /// doubt exactly where the write of its gate, or the sync after that, failed. Where nothing is in doubt a
+    /// crash leaves the history, and the next entry is written to the same place.
     pub fn append<D: Disk>(&mut self, disk: &mut D) -> Result<(), Disk_>
-        requires reserved { (e : EntryOf) × Reserves self.old e }
+        requires reserved { (e : EntryOf) × Reserves self.old e × (has_act self.old e.change.act ≡ true) }
         requires clear { in_doubt self.old ≡ false }
         requires room { count_of self.old < 2 ^ 31 }
 
@@ -98,6 +106,7 @@ impl Journal {
         ensures reserved { OnErr result ((e : EntryOf) → Reserves self.old e → Reserves self.new e) }
         ensures none { OnOk result ((e : EntryOf) → Reserves self.new e → ⊥) }
         ensures count { count_of self.new ≡ (if is_ok result then count_of self.old + 1 else count_of self.old) }
+        ensures version { version_of self.new ≡ version_of self.old }
         ensures clear { OnOk result (in_doubt self.new ≡ false) }
         ensures cause { HasCause (D.faults disk.old) (D.faults disk.new) result }
         ensures quiet { OnOk result (D.faults disk.new ≡ D.faults disk.old) }
@@ -131,6 +140,7 @@ impl Journal {
 
         ensures reserved { (e : EntryOf) → Reserves self.old e → Reserves self.new e }
         ensures count { count_of self.new ≡ count_of self.old }
+        ensures version { version_of self.new ≡ version_of self.old }
         ensures clear { OnOk result (in_doubt self.new ≡ false) }
         ensures doubt { OnErr result (in_doubt self.new ≡ true) }
         ensures cause { HasCause (D.faults disk.old) (D.faults disk.new) result }
@@ -139,6 +149,53 @@ impl Journal {
         write_synced(disk, self.gate, &[0])?;
         self.doubt = false;
         Ok(())
+    }
+
+    /// Makes a journal of version 1 one of version 2, by a write of byte 1 and a sync; at version 2 it does
+    /// nothing. A crash at any moment leaves the history, for its entries read alike in both versions, and byte
+    /// 1 with any value. After `Disk_` the version is 1 still, and it may be called again.
+    pub fn raise<D: Disk>(&mut self, disk: &mut D) -> Result<(), Disk_>
+        requires { in_doubt self.old ≡ false }
+
+        ensures settled { (chart : List ℕ) (history : List EntryOf)
+            → IsSettled D.tells D.is_image self.old disk.old chart history
+            → IsSettled D.tells D.is_image self.new disk.new chart history }
+        ensures version { version_of self.new ≡ (if is_ok result then 2 else 1) }
+        ensures has { OnOk result ((act : ActOf) → has_act self.new act ≡ true) }
+        ensures already { version_of self.old ≡ 2 → (is_ok result ≡ true) × (disk.new ≡ disk.old) }
+
+        // What a crash leaves at any moment of the call.
+        ensures any_moment { IsTrue D.tells → (chart : List ℕ) (history : List EntryOf)
+            → IsSettled D.tells D.is_image self.old disk.old chart history
+            → AtEachMoment D.moment D.was_image disk.old disk.new (RecoversTo chart history) }
+
+        ensures reserved { (e : EntryOf) → Reserves self.old e → Reserves self.new e }
+        ensures count { count_of self.new ≡ count_of self.old }
+        ensures clear { in_doubt self.new ≡ false }
+        ensures cause { HasCause (D.faults disk.old) (D.faults disk.new) result }
+        ensures quiet { OnOk result (D.faults disk.new ≡ D.faults disk.old) }
+    {
+        if self.version == 2 {
+            return Ok(());
+        }
+        write_synced(disk, 1, &[2])?;
+        self.version = 2;
+        Ok(())
+    }
+
+    /// The version of the grammar of its entries, 1 or 2.
+    pub fn version(&self) -> u8
+        ensures value { result ≡ version_of self.now }
+        ensures known { (1 ≤ result) × (result ≤ 2) }
+    {
+        self.version
+    }
+
+    /// Whether its version has entries of this act: version 1 has no leases.
+    pub fn has(&self, act: &Act) -> bool
+        ensures { result ≡ has_act self.now act.now }
+    {
+        is_of(self.version, kind_of(act))
     }
 
     /// The number of entries of the history.

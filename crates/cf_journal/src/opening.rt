@@ -1,13 +1,13 @@
 //! Opening a journal.
 
-ghost use Rattle.std.specs.Prelude.{◌≡◌, ◌⊎◌, ◌+◌, ◌≤◌, ◌<◌, ◌^◌, ◌∷◌, ℕ, min, IsTrue, IsOk, IfOk, IfErr, OnOk, vec_len, length, take, drop};
+ghost use Rattle.std.specs.Prelude.{◌≡◌, ◌⊎◌, ◌+◌, ◌≤◌, ◌<◌, ◌^◌, ◌∷◌, ℕ, min, IsTrue, IsOk, IfOk, IfErr, OnOk, vec_len, length, take, drop, slice_index};
 ghost use Rattle.std.specs.Int.{w32, to_be_bytes};
 ghost use Rattle.cf_chart.specs.Reading.{chart_of};
 ghost use Rattle.cf_disk.specs.Images.{AddsNone, IsOnlyImage};
 ghost use Rattle.cf_disk.specs.Moments.{Advances, AtEachMoment};
 ghost use Rattle.cf_journal.specs.Answers.{HasDiskCause, Opens, GivesHead, Accepts, GivesEntry, GivesEntries, EndsAt};
 ghost use Rattle.cf_journal.specs.Frames.{frames};
-ghost use Rattle.cf_journal.specs.Journal.{IsSettled};
+ghost use Rattle.cf_journal.specs.Journal.{version_of, IsSettled};
 ghost use Rattle.cf_journal.specs.Frames as spec;
 ghost use Rattle.cf_journal.specs.Records as records;
 ghost use Rattle.cf_journal.specs.declared.refused.OpenRefused.TheVariants as open_refused;
@@ -20,13 +20,14 @@ use cf_codec::{CodecRefused, read_entry};
 use cf_disk::Disk;
 use std::alloc::Global;
 
-/// Opens the journal on a disk: its end, its chart and its entries. It syncs, then reads, and writes nothing.
+/// Opens the journal on a disk, in either version: its end, its chart and its entries. It syncs, then reads, and writes nothing.
 pub fn open<D: Disk>(
     alloc: Global,
     disk: &mut D,
 ) -> Result<(Journal, Vec<u8>, Vec<Entry>), OpenRefused>
     ensures answer { IsTrue D.tells → Opens result (frames (D.content disk.old)) }
     ensures settled { IfOk result (λ x. IsSettled D.tells D.is_image x.0 disk.new x.1.items x.2.items) }
+    ensures version { IsTrue D.tells → IfOk result (λ x. version_of x.0 ≡ spec.version_by (slice_index (D.content disk.old) 1)) }
 
     // It changes nothing, and at its end a crash leaves what a read gives.
     ensures content { IsTrue D.tells → D.content disk.new ≡ D.content disk.old }
@@ -50,12 +51,13 @@ fn read_journal<D: Disk>(
     ensures answer { IsTrue D.tells → Opens result (frames (D.content disk.old)) }
     ensures settled { IfOk result (λ x. (IsTrue D.tells → IsOnlyImage (D.content disk.old) (D.is_image disk.old))
         → IsSettled D.tells D.is_image x.0 disk.new x.1.items x.2.items) }
+    ensures version { IsTrue D.tells → IfOk result (λ x. version_of x.0 ≡ spec.version_by (slice_index (D.content disk.old) 1)) }
     ensures content { IsTrue D.tells → D.content disk.new ≡ D.content disk.old }
     ensures images { AddsNone (D.is_image disk.old) (D.is_image disk.new) }
     ensures any_moment { AtEachMoment D.moment D.was_image disk.old disk.new (D.is_image disk.old) }
     ensures cause { HasDiskCause open_refused.Disk (D.faults disk.old) (D.faults disk.new) result }
 {
-    let chart_len = read_head(disk, len)?;
+    let (version, chart_len) = read_head(disk, len)?;
     let chart = read_piece(alloc, disk, 6, chart_len)?;
     match accept(alloc, &chart) {
         Ok(()) => {}
@@ -63,44 +65,56 @@ fn read_journal<D: Disk>(
     }
     let first = 6 + chart_len;
     let records = read_piece(alloc, disk, first, len - first)?;
-    let (gate, entries) = read_entries(alloc, &records, first)?;
+    let (gate, entries) = read_entries(alloc, version, &records, first)?;
     Ok((
-        Journal::at(alloc, gate, entries.len() as u64),
+        Journal::at(alloc, version, gate, entries.len() as u64),
         chart,
         entries,
     ))
 }
 
-/// The chart's length, by the length of the file and its first six bytes. The chart and the gate behind it
-/// lie within the file.
-fn chart_len(head: &[u8], len: u64) -> Result<u64, OpenRefused>
+/// The version that byte 1 tells.
+fn version_by(byte: u8) -> u8
+    ensures value { result ≡ spec.version_by byte }
+    ensures known { (1 ≤ result) × (result ≤ 2) }
+{
+    if byte == 1 { 1 } else { 2 }
+}
+
+/// The version and the chart's length, by the length of the file and its first six bytes. The chart and the
+/// gate behind it lie within the file.
+fn stated_head(head: &[u8], len: u64) -> Result<(u8, u64), OpenRefused>
     requires { length head.now ≡ min 6 len }
-    ensures answer { result ≡ spec.chart_len len head.now }
-    ensures bytes { IfOk result (λ n. head.now ≡ 1 ∷ 1 ∷ to_be_bytes w32 n) }
-    ensures within { IfOk result (λ n. 7 + n ≤ len) }
-    ensures small { IfOk result (λ n. n < 2 ^ 32) }
+    ensures answer { result ≡ spec.stated_head len head.now }
+    ensures version { IfOk result (λ h. h.0 ≡ spec.version_by (slice_index head.now 1)) }
+    ensures known { IfOk result (λ h. (1 ≤ h.0) × (h.0 ≤ 2)) }
+    ensures bytes { IfOk result (λ h. head.now ≡ 1 ∷ slice_index head.now 1 ∷ to_be_bytes w32 h.1) }
+    ensures within { IfOk result (λ h. 7 + h.1 ≤ len) }
+    ensures small { IfOk result (λ h. h.1 < 2 ^ 32) }
 {
     if len <= 1 || head[0] != 1 {
         let byte = head.first().copied();
         return Err(OpenRefused::NotFounded { len, byte });
     }
-    if len < 6 || head[1] != 1 {
+    if len < 6 {
         return Err(OpenRefused::Damaged { offset: 1 });
     }
     let n = u64::from(u32::from_be_bytes([head[2], head[3], head[4], head[5]]));
     if len < 7 + n {
         return Err(OpenRefused::Damaged { offset: 2 });
     }
-    Ok(n)
+    Ok((version_by(head[1]), n))
 }
 
-/// Reads the head of a file of this length.
-fn read_head<D: Disk>(disk: &mut D, len: u64) -> Result<u64, OpenRefused>
+/// Reads the head of a file of this length: its version, and the chart's length.
+fn read_head<D: Disk>(disk: &mut D, len: u64) -> Result<(u8, u64), OpenRefused>
     requires { IsTrue D.tells → len ≡ length (D.content disk.old) }
-    ensures answer { IsTrue D.tells → GivesHead result (spec.chart_len len (take 6 (D.content disk.old))) }
-    ensures bytes { IsTrue D.tells → IfOk result (λ n. take 6 (D.content disk.old) ≡ 1 ∷ 1 ∷ to_be_bytes w32 n) }
-    ensures within { IfOk result (λ n. 7 + n ≤ len) }
-    ensures small { IfOk result (λ n. n < 2 ^ 32) }
+    ensures answer { IsTrue D.tells → GivesHead result (spec.stated_head len (take 6 (D.content disk.old))) }
+    ensures version { IsTrue D.tells → IfOk result (λ h. h.0 ≡ spec.version_by (slice_index (take 6 (D.content disk.old)) 1)) }
+    ensures known { IfOk result (λ h. (1 ≤ h.0) × (h.0 ≤ 2)) }
+    ensures bytes { IsTrue D.tells → IfOk result (λ h. take 6 (D.content disk.old) ≡ 1 ∷ slice_index (take 6 (D.content disk.old)) 1 ∷ to_be_bytes w32 h.1) }
+    ensures within { IfOk result (λ h. 7 + h.1 ≤ len) }
+    ensures small { IfOk result (λ h. h.1 < 2 ^ 32) }
     ensures content { IsTrue D.tells → D.content disk.new ≡ D.content disk.old }
     ensures images { AddsNone (D.is_image disk.old) (D.is_image disk.new) }
     ensures time { Advances D.moment D.is_image D.was_image disk.old disk.new }
@@ -109,7 +123,7 @@ fn read_head<D: Disk>(disk: &mut D, len: u64) -> Result<u64, OpenRefused>
     let mut head = [0u8; 6];
     let known = len.min(6) as usize;
     disk.read(0, &mut head[..known])?;
-    chart_len(&head[..known], len)
+    stated_head(&head[..known], len)
 }
 
 /// Reads so many bytes from a place on.
@@ -154,9 +168,14 @@ fn stated_len(behind: &[u8]) -> u64
     u64::from(u32::from_be_bytes([behind[0], behind[1], behind[2], behind[3]]))
 }
 
-/// The entry of the record behind the open gate at a place, with its payload's length.
-fn entry_behind(alloc: Global, behind: &[u8], at: u64) -> Result<(u64, Entry), OpenRefused>
-    ensures { GivesEntry result at behind.now }
+/// The entry of the record behind the open gate at a place, in the grammar of the version, with its payload's length.
+fn entry_behind(
+    alloc: Global,
+    version: u8,
+    behind: &[u8],
+    at: u64,
+) -> Result<(u64, Entry), OpenRefused>
+    ensures { GivesEntry result version at behind.now }
 {
     if behind.len() < 5 {
         return Err(OpenRefused::Damaged { offset: at });
@@ -165,7 +184,7 @@ fn entry_behind(alloc: Global, behind: &[u8], at: u64) -> Result<(u64, Entry), O
     if (behind.len() as u64) < 5 + n {
         return Err(OpenRefused::Damaged { offset: at });
     }
-    match read_entry(alloc, &behind[4..4 + n as usize]) {
+    match read_entry(alloc, &behind[4..4 + n as usize], version) {
         Ok((entry, len)) if len as u64 == n => Ok((n, entry)),
         Ok(_) => Err(OpenRefused::Damaged { offset: at }),
         Err(CodecRefused::Fault(_)) => Err(OpenRefused::Damaged { offset: at }),
@@ -175,17 +194,22 @@ fn entry_behind(alloc: Global, behind: &[u8], at: u64) -> Result<(u64, Entry), O
 
 /// The entries of the records from the first gate on, which stands at `first`, and the place of the first
 /// gate that isn't open.
-fn read_entries(alloc: Global, records: &[u8], first: u64) -> Result<(u64, Vec<Entry>), OpenRefused>
+fn read_entries(
+    alloc: Global,
+    version: u8,
+    records: &[u8],
+    first: u64,
+) -> Result<(u64, Vec<Entry>), OpenRefused>
     requires some { 0 < length records.now }
     requires fits { first < 2 ^ 33 }
-    ensures answer { GivesEntries result first records.now }
-    ensures layout { IfOk result (λ x. EndsAt first records.now x.1.items x.0) }
+    ensures answer { GivesEntries result version first records.now }
+    ensures layout { IfOk result (λ x. EndsAt version first records.now x.1.items x.0) }
 {
     let mut entries = Vec::new(alloc);
     let mut place = 0;
     while records[place] == 1 {
         let behind = &records[place + 1..];
-        match entry_behind(alloc, behind, first + place as u64) {
+        match entry_behind(alloc, version, behind, first + place as u64) {
             Ok((n, entry)) => {
                 entries.push(entry)?;
                 place += 5 + n as usize;

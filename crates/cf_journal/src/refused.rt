@@ -30,8 +30,9 @@ pub enum OpenRefused {
     /// There is no journal: the length of the file in bytes, and its first byte. The length is at most 1, or
     /// the byte isn't 1.
     NotFounded { len: u64, byte: Option<u8> },
-    /// The file isn't what a journal leaves: the place of what is wrong. It is 1 for the version, 2 for the
-    /// length of the chart, 6 for the chart, and else the place of an open gate with no entry behind it.
+    /// The file isn't what a journal leaves: the place of what is wrong. It is 1 where the head is cut short,
+    /// 2 for the length of the chart, 6 for the chart, and else the place of an open gate with no entry
+    /// behind it.
     Damaged { offset: u64 },
     /// There was no memory for the chart or the entries.
     NoMemory,

@@ -1,11 +1,11 @@
 -- The fields of each changing call, in order, with the rules of form where they speak.
-use Rattle.std.specs.Prelude.{ℕ, ◌+◌, ◌*◌, ◌==◌, not, nat_le, sum, length, List, [], ◌∷◌, false, unwrap_or, Result, Ok, codes}
+use Rattle.std.specs.Prelude.{ℕ, ◌+◌, ◌*◌, ◌==◌, not, nat_le, nat_lt, sum, length, List, [], ◌∷◌, false, unwrap_or, Result, Ok, codes}
 use Rattle.serde_json.specs.Data.{Data}
 use Rattle.serde_json.specs.Find.{as_bool}
 use Rattle.cf_base.specs.declared.calendar.Day.{Day}
 use Rattle.cf_base.specs.Limits.{last_year}
 use Rattle.cf_calls.specs.declared.acts.Act.{Act}
-use Rattle.cf_calls.specs.declared.acts.Act.TheVariants.{Adopt, Amend, Transfer, Requisition, Withdraw, Order, ChangeOrder, CancelOrder, Voucher, VoidVoucher, Pay, Bill, Collect, Receive, WriteOff, Asset, Issue, PayDue, Leave, Interfund, Close}
+use Rattle.cf_calls.specs.declared.acts.Act.TheVariants.{Adopt, Amend, Transfer, Requisition, Withdraw, Order, ChangeOrder, CancelOrder, Voucher, VoidVoucher, Pay, Bill, Collect, Receive, WriteOff, Asset, Issue, PayDue, Leave, Interfund, Close, Lease}
 use Rattle.cf_calls.specs.declared.acts.Adoption.{Adoption}
 use Rattle.cf_calls.specs.declared.acts.Amendment.{Amendment}
 use Rattle.cf_calls.specs.declared.acts.LineTransfer.{LineTransfer}
@@ -25,6 +25,7 @@ use Rattle.cf_calls.specs.declared.acts.LeaveAct.TheVariants.{Earn, Use, Mature}
 use Rattle.cf_calls.specs.declared.acts.LeaveAmount.{LeaveAmount}
 use Rattle.cf_calls.specs.declared.acts.LeaveMaturity.{LeaveMaturity}
 use Rattle.cf_calls.specs.declared.acts.FundMove.{FundMove}
+use Rattle.cf_calls.specs.declared.acts.NewLease.{NewLease}
 use Rattle.cf_calls.specs.declared.acts.Period.{Period}
 use Rattle.cf_calls.specs.declared.acts.Period.TheVariants as period
 use Rattle.cf_calls.specs.declared.items.SourceAmount.{SourceAmount}
@@ -148,12 +149,9 @@ asset_act_by asset.Dispose d = disposal_of d
 abbrev pub asset_act_of : Data → Result AssetAct FormFault
 asset_act_of d = field (as_word asset_words) (codes "what") d >>= (λ what. asset_act_by what d)
 
--- the day of the month is at most 28, and the last payment is due by the end of 2199
-abbrev pub issue_of : Day → Data → Result BondIssue FormFault
-issue_of on d = do
-  _ ← must (nat_le on.day 28) (codes "on")
-  fund ← field as_n16 (codes "fund") d
-  amount ← field as_count (codes "amount") d
+-- an amount's rate and payments: the principals come to the amount, and the last payment is due by the end of 2199
+abbrev pub schedule_of : Day → ℕ → ℕ → Data → Result BondIssue FormFault
+schedule_of on fund amount d = do
   rate_bp ← field as_n16 (codes "rate_bp") d
   _ ← must (nat_le rate_bp 10000) (codes "rate_bp")
   every ← field as_n16 (codes "every") d
@@ -162,6 +160,27 @@ issue_of on d = do
   _ ← must (sum principals == amount) (codes "principals")
   _ ← must (nat_le (month_number on.year on.month + every * length principals) (month_number last_year 12)) (codes "principals")
   Ok (record { fund = fund; amount = amount; rate_bp = rate_bp; every = every; principals = principals })
+
+-- the day of the month is at most 28
+abbrev pub issue_of : Day → Data → Result BondIssue FormFault
+issue_of on d = do
+  _ ← must (nat_le on.day 28) (codes "on")
+  fund ← field as_n16 (codes "fund") d
+  amount ← field as_count (codes "amount") d
+  schedule_of on fund amount d
+
+-- the same, and the term is above 12 months (GASB Statement 87: a shorter lease is no lease liability)
+abbrev pub lease_of : Day → Data → Result NewLease FormFault
+lease_of on d = do
+  _ ← must (nat_le on.day 28) (codes "on")
+  vendor ← field as_n32 (codes "vendor") d
+  fund ← field as_n16 (codes "fund") d
+  dept ← field as_n16 (codes "dept") d
+  object ← field as_n16 (codes "object") d
+  amount ← field as_count (codes "amount") d
+  s ← schedule_of on fund amount d
+  _ ← must (nat_lt 12 (s.every * length s.principals)) (codes "principals")
+  Ok (record { vendor = vendor; account = record { fund = s.fund; dept = dept; object = object; amount = s.amount }; rate_bp = s.rate_bp; every = s.every; principals = s.principals })
 
 abbrev pub debt_payment_of : Data → Result DebtPayment FormFault
 debt_payment_of d = do
@@ -234,6 +253,7 @@ act_of word.PayDue on d = debt_payment_of d >>= (λ p. Ok (PayDue p))
 act_of word.Leave on d = leave_act_of d >>= (λ l. Ok (Leave l))
 act_of word.Interfund on d = fund_move_of d >>= (λ m. Ok (Interfund m))
 act_of word.Close on d = period_of d >>= (λ p. Ok (Close p))
+act_of word.Lease on d = lease_of on d >>= (λ l. Ok (Lease l))
 
 -- the fields of an act, beside those that every changing call has
 abbrev pub own_names : Act → List (List ℕ)
@@ -262,3 +282,4 @@ own_names (Leave (Mature m)) = codes "what" ∷ codes "fund" ∷ codes "dept" �
 own_names (Interfund m) = codes "what" ∷ codes "from" ∷ codes "to" ∷ codes "amount" ∷ []
 own_names (Close (period.Month m)) = codes "what" ∷ codes "month" ∷ []
 own_names (Close (period.Year y)) = codes "what" ∷ codes "year" ∷ []
+own_names (Lease l) = codes "vendor" ∷ codes "fund" ∷ codes "dept" ∷ codes "object" ∷ codes "amount" ∷ codes "rate_bp" ∷ codes "every" ∷ codes "principals" ∷ []

@@ -14,7 +14,7 @@ use Rattle.cf_json.specs.declared.words.LeaveWord.TheVariants as leave
 use Rattle.cf_json.specs.declared.words.PeriodWord.{PeriodWord}
 use Rattle.cf_json.specs.declared.words.PeriodWord.TheVariants as period
 use Rattle.cf_calls.specs.declared.kind.ActKind.{ActKind}
-use Rattle.cf_calls.specs.declared.kind.ActKind.TheVariants.{Adopt, Amend, Transfer, Requisition, Withdraw, Order, ChangeOrder, CancelOrder, Voucher, VoidVoucher, Pay, Bill, Collect, Receive, WriteOff, Asset, Issue, PayDue, Leave, Interfund, Close}
+use Rattle.cf_calls.specs.declared.kind.ActKind.TheVariants.{Adopt, Amend, Transfer, Requisition, Withdraw, Order, ChangeOrder, CancelOrder, Voucher, VoidVoucher, Pay, Bill, Collect, Receive, WriteOff, Asset, Issue, PayDue, Leave, Interfund, Close, Lease}
 use Rattle.cf_json.specs.declared.words.LookWord.{LookWord}
 use Rattle.cf_json.specs.declared.words.LookWord.TheVariants as look
 
@@ -28,7 +28,8 @@ change_words =
     (codes "adopt", Adopt) ∷ (codes "amend", Amend) ∷ (codes "transfer", Transfer) ∷ (codes "requisition", Requisition) ∷ (codes "withdraw", Withdraw)
     ∷ (codes "order", Order) ∷ (codes "change_order", ChangeOrder) ∷ (codes "cancel_order", CancelOrder) ∷ (codes "voucher", Voucher) ∷ (codes "void_voucher", VoidVoucher)
     ∷ (codes "pay", Pay) ∷ (codes "bill", Bill) ∷ (codes "collect", Collect) ∷ (codes "receive", Receive) ∷ (codes "write_off", WriteOff) ∷ (codes "asset", Asset)
-    ∷ (codes "issue", Issue) ∷ (codes "pay_due", PayDue) ∷ (codes "leave", Leave) ∷ (codes "interfund", Interfund) ∷ (codes "close", Close) ∷ []
+    ∷ (codes "issue", Issue) ∷ (codes "pay_due", PayDue) ∷ (codes "leave", Leave) ∷ (codes "interfund", Interfund) ∷ (codes "close", Close)
+    ∷ (codes "lease", Lease) ∷ []
 
 -- the words of the looks
 abbrev pub look_words : List (List ℕ × LookWord)

@@ -1,9 +1,9 @@
 //! The readers of the changing calls: the fields of each in order, with the rules of form where they speak.
 
-ghost use Rattle.std.specs.Prelude.{◌≡◌, ◌≢◌, ◌≤◌, ◌+◌, ◌*◌, true, nat_le, sum, length, map, IfOk};
+ghost use Rattle.std.specs.Prelude.{◌≡◌, ◌≢◌, ◌≤◌, ◌+◌, ◌*◌, true, nat_le, nat_lt, sum, length, map, IfOk};
 ghost use Rattle.cf_base.specs.Limits.{last_year};
 ghost use Rattle.serde_json.specs.View.{view};
-ghost use Rattle.cf_calls.specs.Form.{IsAdoptionForm, IsCount, IsYear, IsIssueForm, IsVoucherForm, IsPeriodForm, IsActInForm, is_by, is_distinct, is_period, month_number, same_number};
+ghost use Rattle.cf_calls.specs.Form.{IsAdoptionForm, IsCount, IsYear, IsIssueForm, IsLeaseForm, IsVoucherForm, IsPeriodForm, IsActInForm, is_by, is_distinct, is_period, month_number, same_number};
 ghost use Rattle.cf_members.specs.Faults.{Gives};
 ghost use Rattle.cf_json.specs.Acts as spec;
 
@@ -12,10 +12,10 @@ use crate::words::{AssetWord, LeaveWord, MoveWord, PeriodWord};
 use cf_base::{Day, LAST_YEAR};
 use cf_calls::acts::{
     Adoption, Amendment, AssetAct, BillAmount, BondIssue, DebtPayment, Disposal, Donation,
-    FundMove, LeaveAct, LeaveAmount, LeaveMaturity, LineTransfer, NewBill, NewOrder,
+    FundMove, LeaveAct, LeaveAmount, LeaveMaturity, LineTransfer, NewBill, NewLease, NewOrder,
     NewRequisition, NewVoucher, OrderChange, Payment, Period,
 };
-use cf_calls::items::SourceAmount;
+use cf_calls::items::{AccountItem, SourceAmount};
 use cf_calls::{Act, ActKind};
 use cf_members::CallRefused;
 use cf_members::fields::{may, must, need};
@@ -235,13 +235,18 @@ fn is_payment_period(months: u16) -> bool
     matches!(months, 1 | 2 | 3 | 4 | 6 | 12)
 }
 
-fn issue(alloc: Global, on: Day, value: &Value) -> Result<BondIssue, CallRefused>
-    ensures answer { Gives result (spec.issue_of on (view value.now)) }
+/// The rate and the payments of an amount that a fund owes from a day on.
+fn schedule(
+    alloc: Global,
+    on: Day,
+    fund: u16,
+    amount: u64,
+    value: &Value,
+) -> Result<BondIssue, CallRefused>
+    requires { on.day ≤ 28 }
+    ensures answer { Gives result (spec.schedule_of on fund amount (view value.now)) }
     ensures form { IfOk result (IsIssueForm on) }
 {
-    must(alloc, on.day <= 28, "on")?;
-    let fund = need::<N16>(alloc, value, "fund")?;
-    let amount = need::<Count>(alloc, value, "amount")?;
     let rate_bp = need::<N16>(alloc, value, "rate_bp")?;
     must(alloc, rate_bp <= 10000, "rate_bp")?;
     let every = need::<N16>(alloc, value, "every")?;
@@ -257,6 +262,61 @@ fn issue(alloc: Global, on: Day, value: &Value) -> Result<BondIssue, CallRefused
     Ok(BondIssue {
         fund,
         amount,
+        rate_bp,
+        every,
+        principals,
+    })
+}
+
+fn issue(alloc: Global, on: Day, value: &Value) -> Result<BondIssue, CallRefused>
+    ensures answer { Gives result (spec.issue_of on (view value.now)) }
+    ensures form { IfOk result (IsIssueForm on) }
+{
+    must(alloc, on.day <= 28, "on")?;
+    let fund = need::<N16>(alloc, value, "fund")?;
+    let amount = need::<Count>(alloc, value, "amount")?;
+    schedule(alloc, on, fund, amount, value)
+}
+
+/// Whether so many payments, `every` months apart, are for more than a year.
+fn is_above_a_year(every: u16, payments: usize) -> bool
+    requires { payments ≤ 120 }
+    ensures { result ≡ nat_lt 12 (every * payments) }
+{
+    u32::from(every) * (payments as u32) > 12
+}
+
+fn lease(alloc: Global, on: Day, value: &Value) -> Result<NewLease, CallRefused>
+    ensures answer { Gives result (spec.lease_of on (view value.now)) }
+    ensures form { IfOk result (IsLeaseForm on) }
+{
+    must(alloc, on.day <= 28, "on")?;
+    let vendor = need::<N32>(alloc, value, "vendor")?;
+    let fund = need::<N16>(alloc, value, "fund")?;
+    let dept = need::<N16>(alloc, value, "dept")?;
+    let object = need::<N16>(alloc, value, "object")?;
+    let amount = need::<Count>(alloc, value, "amount")?;
+    let BondIssue {
+        fund,
+        amount,
+        rate_bp,
+        every,
+        principals,
+    } = schedule(alloc, on, fund, amount, value)?;
+    must(
+        alloc,
+        is_above_a_year(every, principals.as_slice().len()),
+        "principals",
+    )?;
+    let account = AccountItem {
+        fund,
+        dept,
+        object,
+        amount,
+    };
+    Ok(NewLease {
+        vendor,
+        account,
         rate_bp,
         every,
         principals,
@@ -368,6 +428,7 @@ pub fn act_of(alloc: Global, word: ActKind, on: Day, value: &Value) -> Result<Ac
         ActKind::Leave => Ok(Act::Leave(leave_act(alloc, value)?)),
         ActKind::Interfund => Ok(Act::Interfund(fund_move(alloc, value)?)),
         ActKind::Close => Ok(Act::Close(period(alloc, value)?)),
+        ActKind::Lease => Ok(Act::Lease(lease(alloc, on, value)?)),
     }
 }
 
@@ -400,5 +461,15 @@ pub fn own_names(act: &Act) -> &'static [&'static str]
         Act::Interfund(_) => &["what", "from", "to", "amount"],
         Act::Close(Period::Month(_)) => &["what", "month"],
         Act::Close(Period::Year(_)) => &["what", "year"],
+        Act::Lease(_) => &[
+            "vendor",
+            "fund",
+            "dept",
+            "object",
+            "amount",
+            "rate_bp",
+            "every",
+            "principals",
+        ],
     }
 }

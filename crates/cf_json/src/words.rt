@@ -51,7 +51,7 @@ pub enum PeriodWord {
     Year,
 }
 
-const CHANGES: [(&str, ActKind); 21] = [
+const CHANGES: [(&str, ActKind); 22] = [
     ("adopt", ActKind::Adopt),
     ("amend", ActKind::Amend),
     ("transfer", ActKind::Transfer),
@@ -73,6 +73,7 @@ const CHANGES: [(&str, ActKind); 21] = [
     ("leave", ActKind::Leave),
     ("interfund", ActKind::Interfund),
     ("close", ActKind::Close),
+    ("lease", ActKind::Lease),
 ];
 
 const LOOKS: [(&str, LookWord); 11] = [

@@ -10,7 +10,7 @@ use Rattle.cf_model.specs.Step.{IsLegal}
 use Rattle.cf_model.proofs.Lawful.{IsWhole}
 use Rattle.cf_model.proofs.Sized.{posts_small}
 
-pub small_balance : (basis : Basis) (plan : Plan) (h : List Entry) (year fund account : ℕ) → IsWhole plan → IsLegal plan h → length h ≤ 1048576 →
+pub small_balance : (basis : Basis) (plan : Plan) (h : List Entry) (year fund account : ℕ) → IsWhole plan → IsLegal plan h → length h ≤ 1500000 →
     unsigned_abs (balance_of basis plan year fund account h) < 2 ^ 104
 small_balance basis plan h year fund account whole legal few =
     omega (arith, within_sizes (λ p. is_of fund account p && nat_le p.year year) (posts_in basis plan h), posts_small basis plan h whole.few_functions legal, few)

@@ -14,15 +14,17 @@ use cf_calls::{Body, Look, NameKind, Posted, Read, Refusal, Reply, Shown};
 use cf_rules::{History, ahead_rule, debt_of, leave_fault};
 use std::alloc::{AllocError, Global};
 
-/// The numbers of a line and year, or that there is no such line.
+/// The numbers of a line and year, or that there is no such line in the year.
 fn show_line<H: History>(history: &H, line: u16, year: u16) -> Body
     requires year { year < 2201 }
     requires lent { H.lends history.now line ≡ true }
     ensures { result ≡ step.line_shown (H.plan history.now) (H.entries history.now) line year }
 {
     match history.chart().line(line) {
-        Some(_) => Body::Shown(Shown::Line(history.numbers(line, year))),
-        None => Body::Refused(Refusal::UnknownName {
+        Some(row) if history.chart().is_of_year(row, year) => {
+            Body::Shown(Shown::Line(history.numbers(line, year)))
+        }
+        _ => Body::Refused(Refusal::UnknownName {
             kind: NameKind::Line,
             id: u32::from(line),
         }),

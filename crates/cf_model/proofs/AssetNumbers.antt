@@ -10,7 +10,7 @@ use Rattle.cf_calls.specs.declared.entry.Drawn.{Drawn}
 use Rattle.cf_calls.specs.declared.entry.Entry.{Entry}
 use Rattle.cf_calls.specs.declared.items.VoucherItem.{VoucherItem}
 use Rattle.cf_chart.specs.Plan.{Plan, object_at}
-use Rattle.cf_model.specs.Assets.{Asset, asset_step, assets_by, bought, disposed, new_asset, void}
+use Rattle.cf_model.specs.Assets.{Asset, asset_step, assets_by, bought, disposed, new_asset, void, voucher_of, purchase, life_of}
 use Rattle.cf_model.specs.Calendar.{document_year, year_of_day}
 use Rattle.cf_model.specs.Charted.{is_capital}
 use Rattle.cf_model.specs.Documents.{is_number}
@@ -36,7 +36,7 @@ numbered_push n (a ∷ assets) new numbered more = (numbered.0, numbered_push (n
 
 -- no act changes an asset's number
 number_kept : (plan : Plan) (closed : ℕ) (on : Day) (a : Act) (x : Asset) → (asset_step plan closed on a x).number ≡ x.number
-number_kept plan closed on (act.VoidVoucher n) x = by_test (is_number x.voucher n)
+number_kept plan closed on (act.VoidVoucher n) x = by_test (is_number (voucher_of x.origin) n)
   where
     by_test : (t : Bool) → (if t then record x { stage = void } else x).number ≡ x.number
     by_test true = refl
@@ -63,7 +63,7 @@ bought_numbered plan voucher on year n number (i ∷ items) is =
     by_test (is_capital (object_at plan i.account.object)) (bought_numbered plan voucher on year (n + 1) (number + 1) items (omega (arith, is))) (bought_numbered plan voucher on year n number items is)
   where
     by_test : (t : Bool) → AreNumbered (n + 1) (bought plan voucher on year (number + 1) items) → AreNumbered n (bought plan voucher on year number items) →
-        AreNumbered n (if t then new_asset plan (Some voucher) on year number i.account.dept i.account.object i.account.amount ∷ bought plan voucher on year (number + 1) items else bought plan voucher on year number items)
+        AreNumbered n (if t then new_asset plan (purchase voucher) on year number i.account.dept (life_of plan i.account.object) i.account.amount ∷ bought plan voucher on year (number + 1) items else bought plan voucher on year number items)
     by_test true next stay = (is, next)
     by_test false next stay = stay
 
@@ -72,6 +72,7 @@ numbered_new plan s on (act.Voucher v) drawn e =
     bought_numbered plan drawn.number on (document_year plan on (act.Voucher v)) (length s.assets) drawn.second v.items (ap (λ (d : Drawn). d.second) e)
 numbered_new plan s on (act.Asset (Donate d)) drawn e = (ap (λ (d : Drawn). d.number) e, tt)
 numbered_new plan s on (act.Asset (Dispose d)) drawn e = tt
+numbered_new plan s on (act.Lease l) drawn e = (ap (λ (d : Drawn). d.number) e, tt)
 numbered_new plan s on _ drawn e = tt
 
 abbrev IsNumbered : Plan → List Entry → Type 0

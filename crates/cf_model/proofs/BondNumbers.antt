@@ -1,4 +1,4 @@
--- The bonds of a legal history are numbered 1, 2, 3 .. in the order of their issue, so a number names at most one.
+-- The bonds and leases of a legal history are numbered 1, 2, 3 .. in the order of their issue, so a number names at most one.
 use Rattle.std.proofs.Common.{◌≡◌, ℕ, suc, ◌+◌, ◌≤◌, Bool, true, false, if◌then◌else◌, ◌==◌, List, [], ◌∷◌, ◌++◌, map, length, Option, Some, None, refl, sym, subst, ap, ◌∙◌, arith}
 use Rattle.std.specs.List.{filter}
 use Rattle.std.proofs.lemmas.Grind.{common_steps}
@@ -45,9 +45,10 @@ mapped_length : (a : Act) (bonds : List Bond) → length (map (bond_step a) bond
 mapped_length a [] = refl
 mapped_length a (b ∷ bonds) = ap suc (mapped_length a bonds)
 
--- an issue draws the next number
+-- an issue and a lease draw the next number
 numbered_new : (plan : Plan) (s : Registers) (on : Day) (a : Act) (drawn : Drawn) → drawn ≡ draws s a → AreNumbered (length s.bonds) (bonds_by plan on a drawn)
 numbered_new plan s on (act.Issue i) drawn e = (ap (λ (d : Drawn). d.number) e, tt)
+numbered_new plan s on (act.Lease l) drawn e = (ap (λ (d : Drawn). d.second) e, tt)
 numbered_new plan s on _ drawn e = tt
 
 abbrev pub IsNumbered : Plan → List Entry → Type 0

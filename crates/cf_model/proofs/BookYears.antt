@@ -22,6 +22,7 @@ use Rattle.cf_model.proofs.Posted.{IsBookYear, AreBookYears, all_filter}
 use Rattle.cf_model.proofs.Tidy.{all_append, all_map, all_new}
 use Rattle.cf_post.specs.declared.deed.Deed.TheVariants as deed
 use Rattle.cf_post.specs.declared.deed.FundsAmount.{FundsAmount}
+use Rattle.cf_model.specs.Assets.{leased, owned}
 use Rattle.cf_model.specs.Bonds.{Bond, Due, dues, dues_from, next_due, bond_step, bonds_by}
 use Rattle.cf_model.specs.Months.{start_month, number_of_day, year_at}
 use Rattle.cf_model.specs.Receivables.{Bill, bill_at, window_if}
@@ -39,7 +40,7 @@ year_at_most plan n c l = by_test (plan.first_month == 1) (eqb_tells plan.first_
     by_test true h l = omega (arith, l, c.year)
     by_test false h l = omega (arith, l, c.year, c.first)
 
--- ---- payments of bonds are due in such years
+-- ---- payments of bonds and leases are due in such years
 
 abbrev pub IsTimely : Plan → Bond → Type 0
 IsTimely plan b = AllByRecursion (λ (p : Due). year_at plan p.month ≤ 2200) (dues b)
@@ -60,6 +61,8 @@ timely_step _ plan b timely = timely
 
 pub timely_new : (plan : Plan) (on : Day) (a : Act) (drawn : Drawn) → HasCalendar plan → start_month plan ≤ month_number on.year on.month → IsActInForm on a → AllByRecursion (IsTimely plan) (bonds_by plan on a drawn)
 timely_new plan on (act.Issue i) drawn c from form = (timely_from plan i.every (number_of_day plan on) i.amount i.principals c (omega (arith, from, form.last_due)), tt)
+timely_new plan on (act.Lease l) drawn c from form =
+    (timely_from plan l.every (number_of_day plan on) l.account.amount l.principals c (omega (arith, from, form.schedule.last_due)), tt)
 timely_new plan on _ drawn c from form = tt
 
 -- ---- the years of each act
@@ -141,6 +144,9 @@ deeds_years plan s on (act.Leave (Mature l)) y more = ((y, tt), tt)
 deeds_years plan s on (act.Interfund m) y more = (between m.what _ y, tt)
 deeds_years plan s on (act.Close (period.Month m)) y more =
     let at : IsBookYear (year_at plan s.closed) = record { first = omega (arith, more.0); last = more.1 } in
-    all_append AreBookYears (map (λ (f : Function). deed.Depreciate (record { year = year_at plan s.closed; function = f.id; amount = function_charge s.closed s.assets f.id })) plan.functions) _
-    (all_new AreBookYears (λ (f : Function). deed.Depreciate (record { year = year_at plan s.closed; function = f.id; amount = function_charge s.closed s.assets f.id })) (λ f. (at, tt)) plan.functions) ((at, tt), tt)
+    let depreciate = λ (f : Function). deed.Depreciate (record { year = year_at plan s.closed; function = f.id; amount = function_charge s.closed (owned s.assets) f.id }) in
+    let amortize = λ (f : Function). deed.Amortize (record { year = year_at plan s.closed; function = f.id; amount = function_charge s.closed (leased s.assets) f.id }) in
+    all_append AreBookYears (map depreciate plan.functions) _ (all_new AreBookYears depreciate (λ f. (at, tt)) plan.functions)
+    (all_append AreBookYears (map amortize plan.functions) _ (all_new AreBookYears amortize (λ f. (at, tt)) plan.functions) ((at, tt), tt))
+deeds_years plan s on (act.Lease l) y more = ((y, tt), tt)
 deeds_years plan s on _ y more = tt

@@ -123,30 +123,30 @@ low_push plan h e are adds =
 abbrev amount_on : Plan → ℕ → ℕ → Carried → ℕ
 amount_on plan line year c = if counts plan line year c.account c.year then c.amount else 0
 
-carried_low : (plan : Plan) (line year : ℕ) (act : Act) (items : List OrderItem) → AllByRecursion (λ i. i.base ≤ 10485760000000000000) items → carried_sum plan line year (carried_of plan act items) ≤ length items * 10485760000000000000
+carried_low : (plan : Plan) (line year : ℕ) (act : Act) (items : List OrderItem) → AllByRecursion (λ i. i.base ≤ 15000000000000000000) items → carried_sum plan line year (carried_of plan act items) ≤ length items * 15000000000000000000
 carried_low plan line year act [] all = omega arith
 carried_low plan line year act (i ∷ items) all = by_test (rolls plan i.year act && is_live i && not (lapses plan i)) (carried_low plan line year act items all.1)
   where
     carry : Carried
     carry = record { account = i.account; year = i.year + 1; amount = open_of i }
 
-    at_most : (b : Bool) → (if b then open_of i else 0) ≤ 10485760000000000000
+    at_most : (b : Bool) → (if b then open_of i else 0) ≤ 15000000000000000000
     at_most true = omega (arith, open_base i, all.0)
     at_most false = omega arith
 
-    by_test : (b : Bool) → carried_sum plan line year (carried_of plan act items) ≤ length items * 10485760000000000000 →
-        carried_sum plan line year ((if b then carry ∷ [] else []) ++ carried_of plan act items) ≤ suc (length items) * 10485760000000000000
+    by_test : (b : Bool) → carried_sum plan line year (carried_of plan act items) ≤ length items * 15000000000000000000 →
+        carried_sum plan line year ((if b then carry ∷ [] else []) ++ carried_of plan act items) ≤ suc (length items) * 15000000000000000000
     by_test true rest = rw (sum_by-cons (amount_on plan line year) carry (carried_of plan act items)) (omega (arith, rest, at_most (counts plan line year i.account (i.year + 1))))
     by_test false rest = omega (arith, rest)
 
-weaker : (n : ℕ) (items : List OrderItem) → n ≤ 1048576 → AllByRecursion (λ i. i.base ≤ n * 10000000000000) items → AllByRecursion (λ i. i.base ≤ 10485760000000000000) items
+weaker : (n : ℕ) (items : List OrderItem) → n ≤ 1500000 → AllByRecursion (λ i. i.base ≤ n * 10000000000000) items → AllByRecursion (λ i. i.base ≤ 15000000000000000000) items
 weaker n [] l all = tt
 weaker n (i ∷ items) l all = (omega (arith, l, all.0), weaker n items l all.1)
 
 -- by the number of entries
 pub record IsCarriedLow (plan : Plan) (h : List Entry) : Type 0 where
   pub items : AreLow plan h
-  pub carried : (line year : ℕ) → carried_sum plan line year (carried_in plan h) ≤ length h * 351843720888320000000000000
+  pub carried : (line year : ℕ) → carried_sum plan line year (carried_in plan h) ≤ length h * 720000000000000000000000000
 
 carried_step : (plan : Plan) (h : List Entry) (e : Entry) → IsCarriedLow plan h → Adds plan h e → IsCarriedLow plan (h ++ e ∷ [])
 carried_step plan h e low adds =
@@ -159,7 +159,7 @@ carried_step plan h e low adds =
     }
 
 -- what was carried into a line and year
-pub carried_small : (plan : Plan) (h : List Entry) → IsLegal plan h → length h ≤ 1048576 → (line year : ℕ) → carried_sum plan line year (carried_in plan h) < 2 ^ 110
+pub carried_small : (plan : Plan) (h : List Entry) → IsLegal plan h → length h ≤ 1500000 → (line year : ℕ) → carried_sum plan line year (carried_in plan h) < 2 ^ 110
 carried_small plan h legal few line year =
     let low : IsCarriedLow plan h = legal_induction plan (IsCarriedLow plan) (record { items = record { bases = tt; few = omega arith }; carried = λ l y. omega arith }) (carried_step plan) h legal in
     omega (arith, few, low.carried line year)

@@ -85,6 +85,8 @@ deed_accounts (deed.Loan t) u = (due_from, (cash, (cash, (due_to, tt))))
 deed_accounts (deed.Repay t) u = (due_to, (cash, (cash, (due_from, tt))))
 deed_accounts (deed.Depreciate a) u = tt
 deed_accounts (deed.AccrueInterest a) u = tt
+deed_accounts (deed.Lease a) u = (outlay spent.Capital, (high 4, tt))
+deed_accounts (deed.Amortize a) u = tt
 
 each : (deeds : List Deed) → AllByRecursion (λ (d : Deed). Unit {0}) deeds
 each [] = tt

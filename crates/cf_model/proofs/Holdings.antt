@@ -13,7 +13,7 @@ use Rattle.cf_calls.specs.declared.items.VoucherItem.{VoucherItem}
 use Rattle.cf_calls.specs.declared.refusal.Refusal.TheVariants as refusal
 use Rattle.cf_calls.specs.Form.{IsActInForm, IsPaymentNumber, is_period}
 use Rattle.cf_chart.specs.Plan.{Plan, object_at}
-use Rattle.cf_model.specs.Assets.{Asset, asset_step, assets_by, bought, disposed, new_asset, void}
+use Rattle.cf_model.specs.Assets.{Asset, asset_step, assets_by, bought, disposed, new_asset, void, voucher_of, purchase, life_of}
 use Rattle.cf_model.specs.Bonds.{Bond, Due, bond_step, bonds_by, dues, dues_from}
 use Rattle.cf_model.specs.Calendar.{document_year, year_of_day}
 use Rattle.cf_model.specs.Charted.{is_capital}
@@ -39,7 +39,7 @@ abbrev pub IsLowCost : Asset → Type 0
 IsLowCost a = a.cost ≤ 10000000000000
 
 cost_kept : (plan : Plan) (closed : ℕ) (on : Day) (a : Act) (x : Asset) → IsLowCost x → IsLowCost (asset_step plan closed on a x)
-cost_kept plan closed on (act.VoidVoucher n) x l = by_test (is_number x.voucher n)
+cost_kept plan closed on (act.VoidVoucher n) x l = by_test (is_number (voucher_of x.origin) n)
   where
     by_test : (b : Bool) → IsLowCost (if b then record x { stage = void } else x)
     by_test true = l
@@ -59,7 +59,7 @@ bought_low plan voucher on year number (i ∷ items) none =
     by_test (is_capital (object_at plan i.account.object)) (small i.account.amount both.0) (bought_low plan voucher on year (number + 1) items both.1) (bought_low plan voucher on year number items both.1)
   where
     by_test : (b : Bool) → i.account.amount ≤ 10000000000000 → AllByRecursion IsLowCost (bought plan voucher on year (number + 1) items) → AllByRecursion IsLowCost (bought plan voucher on year number items) →
-        AllByRecursion IsLowCost (if b then new_asset plan (Some voucher) on year number i.account.dept i.account.object i.account.amount ∷ bought plan voucher on year (number + 1) items else bought plan voucher on year number items)
+        AllByRecursion IsLowCost (if b then new_asset plan (purchase voucher) on year number i.account.dept (life_of plan i.account.object) i.account.amount ∷ bought plan voucher on year (number + 1) items else bought plan voucher on year number items)
     by_test true l next stay = (l, next)
     by_test false l next stay = stay
 
@@ -68,7 +68,7 @@ bought_few plan voucher on year number [] = omega arith
 bought_few plan voucher on year number (i ∷ items) = by_test (is_capital (object_at plan i.account.object)) (bought_few plan voucher on year (number + 1) items) (bought_few plan voucher on year number items)
   where
     by_test : (b : Bool) → length (bought plan voucher on year (number + 1) items) ≤ length items → length (bought plan voucher on year number items) ≤ length items →
-        length (if b then new_asset plan (Some voucher) on year number i.account.dept i.account.object i.account.amount ∷ bought plan voucher on year (number + 1) items else bought plan voucher on year number items) ≤ suc (length items)
+        length (if b then new_asset plan (purchase voucher) on year number i.account.dept (life_of plan i.account.object) i.account.amount ∷ bought plan voucher on year (number + 1) items else bought plan voucher on year number items) ≤ suc (length items)
     by_test true l m = omega (arith, l)
     by_test false l m = omega (arith, m)
 
@@ -76,12 +76,14 @@ new_low : (plan : Plan) (on : Day) (a : Act) (drawn : Drawn) → amount_refusal 
 new_low plan on (act.Voucher v) drawn none = bought_low plan drawn.number on (document_year plan on (act.Voucher v)) drawn.second v.items none
 new_low plan on (act.Asset (Donate d)) drawn none = (small d.amount (or_else_none (bad_amount (amount d.amount)) None none).0, tt)
 new_low plan on (act.Asset (Dispose d)) drawn none = tt
+new_low plan on (act.Lease l) drawn none = (small l.account.amount (or_else_none (bad_amount (amount l.account.amount)) (first_refusal bad_amount (map amount_or_none l.principals)) none).0, tt)
 new_low plan on _ drawn none = tt
 
 new_few : (plan : Plan) (on : Day) (a : Act) (drawn : Drawn) → IsActInForm on a → length (assets_by plan on a drawn) ≤ 32
 new_few plan on (act.Voucher v) drawn form = omega (arith, bought_few plan drawn.number on (document_year plan on (act.Voucher v)) drawn.second v.items, form.count.to)
 new_few plan on (act.Asset (Donate d)) drawn form = omega arith
 new_few plan on (act.Asset (Dispose d)) drawn form = omega arith
+new_few plan on (act.Lease l) drawn form = omega arith
 new_few plan on _ drawn form = omega arith
 
 -- ---- bonds
@@ -121,10 +123,19 @@ new_bonds plan on (act.Issue i) drawn form none =
       },
       tt,
     )
+new_bonds plan on (act.Lease l) drawn form none =
+    let both = or_else_none (bad_amount (amount l.account.amount)) (first_refusal bad_amount (map amount_or_none l.principals)) none in (
+      record {
+        terms = record { amount = small l.account.amount both.0; rate = form.schedule.rate; every = period_most l.every form.schedule.every; count = form.schedule.principals.to };
+        principals = principals_low l.principals both.1;
+      },
+      tt,
+    )
 new_bonds plan on _ drawn form none = tt
 
 new_bond : (plan : Plan) (on : Day) (a : Act) (drawn : Drawn) → length (bonds_by plan on a drawn) ≤ 1
 new_bond plan on (act.Issue i) drawn = omega arith
+new_bond plan on (act.Lease l) drawn = omega arith
 new_bond plan on _ drawn = omega arith
 
 -- ---- both, by the number of entries

@@ -30,14 +30,14 @@ use Rattle.cf_model.specs.Charted.{is_capital, function_of}
 use Rattle.cf_model.specs.Rules.{first_refusal, refuse_if, period_refusal, name_refusal, unknown, unknown_if, account_name, voucher_names, charge_names}
 use Rattle.cf_model.proofs.First.{or_else_none, refuse_none, first_refusal-append}
 use Rattle.cf_model.proofs.Tidy.{all_append, all_map}
-use Rattle.cf_model.specs.Assets.{Asset, Stage, held, void, disposed, depreciation, asset_step, assets_by, new_asset, bought}
+use Rattle.cf_model.specs.Assets.{Asset, Stage, held, void, disposed, depreciation, asset_step, assets_by, new_asset, bought, voucher_of, Origin, purchase, gift, lease, is_leased, life_of, leased_life}
 use Rattle.cf_model.specs.Changes.{ChangesAddUp}
 use Rattle.cf_model.specs.Items.{Reconciles}
 use Rattle.cf_model.specs.Months.{number_of_day, year_at, months_to}
 use Rattle.cf_model.specs.Receivables.{Bill, bill_at, window_if, collected_year}
 use Rattle.cf_base.specs.Windows.{is_in_window, year_end}
 use Rattle.cf_model.specs.Recognition.{year_in}
-use Rattle.cf_model.specs.RegisterRules.{month_at, same_month, order_refusal, later_levy, levy_refusal, register_name_refusal, unknown_dept, is_gone, voided_asset, not_held, disposed_asset, asset_refusal}
+use Rattle.cf_model.specs.RegisterRules.{month_at, same_month, order_refusal, later_levy, levy_refusal, register_name_refusal, unknown_dept, unknown_fund, is_gone, voided_asset, not_held, disposed_asset, asset_refusal}
 use Rattle.cf_model.specs.Registers.{Registers, no_registers, registers_of, closed_after}
 use Rattle.cf_model.proofs.Allowed.{Allows}
 use Rattle.cf_model.proofs.Backed.{IsBacked, is_backed_by, agrees, is_void_state, backed_step}
@@ -105,7 +105,7 @@ year_le plan a b e = by_order (not_before a b e)
 -- ---- assets of a void, and of a disposal
 
 -- what is said of each element that passes
-passed : {A : Type 0} (f : A → Option Refusal) (p : A → Bool) (xs : List A) → first_refusal f (filter p xs) ≡ None → AllByRecursion (λ x. p x ≡ true → f x ≡ None) xs
+pub passed : {A : Type 0} (f : A → Option Refusal) (p : A → Bool) (xs : List A) → first_refusal f (filter p xs) ≡ None → AllByRecursion (λ x. p x ≡ true → f x ≡ None) xs
 passed f p [] e = tt
 passed f p (x ∷ xs) e = by_test (p x) refl e (passed f p xs)
   where
@@ -135,7 +135,7 @@ not_void xs n (Some m) is ok e = by_found (voucher_at n xs) ok (subst (λ k. agr
     by_found None ok e = cc
     by_found (Some x) ok e = by_state x.state ok e
 
-fresh : (xs : List Expenditure) (closed n : ℕ) → voided_state n (voucher_at n xs) ≡ None → (a : Asset) → IsBacked xs a → (is_number a.voucher n ≡ true → voided_asset closed a ≡ None) → is_number a.voucher n ≡ true → IsFresh closed a
+fresh : (xs : List Expenditure) (closed n : ℕ) → voided_state n (voucher_at n xs) ≡ None → (a : Asset) → IsBacked xs a → (is_number (voucher_of a.origin) n ≡ true → voided_asset closed a ≡ None) → is_number (voucher_of a.origin) n ≡ true → IsFresh closed a
 fresh xs closed n ok a backed rules is =
     let both : (refuse_if (nat_lt 0 (depreciation closed a)) (refusal.AssetState a.number fault.Charged) ≡ None) × (refuse_if (is_gone a.stage) (refusal.AssetState a.number fault.Disposed) ≡ None) =
     or_else_none _ _ (rules is) in
@@ -147,16 +147,16 @@ fresh xs closed n ok a backed rules is =
     nothing : (m : ℕ) → nat_lt 0 m ≡ false → m ≡ 0
     nothing m e = grind (arith, common_steps)
 
-    by_stage : (s : Stage) → is_backed_by s xs a.voucher ≡ true → is_gone s ≡ false → s ≡ held
+    by_stage : (s : Stage) → is_backed_by s xs (voucher_of a.origin) ≡ true → is_gone s ≡ false → s ≡ held
     by_stage held b e = refl
-    by_stage void b e = absurd (not_void xs n a.voucher is ok b)
+    by_stage void b e = absurd (not_void xs n (voucher_of a.origin) is ok b)
     by_stage (disposed y m) b e = cc
 
 are_fresh : (xs : List Expenditure) (closed n : ℕ) (assets : List Asset) → voided_state n (voucher_at n xs) ≡ None → AllByRecursion (IsBacked xs) assets →
-    first_refusal (voided_asset closed) (filter (λ a. is_number a.voucher n) assets) ≡ None → AreFresh closed n assets
+    first_refusal (voided_asset closed) (filter (λ a. is_number (voucher_of a.origin) n) assets) ≡ None → AreFresh closed n assets
 are_fresh xs closed n assets ok backed rule =
-    both_all (IsBacked xs) (λ a. is_number a.voucher n ≡ true → voided_asset closed a ≡ None) (λ a. is_number a.voucher n ≡ true → IsFresh closed a) (fresh xs closed n ok) assets backed
-    (passed (voided_asset closed) (λ a. is_number a.voucher n) assets rule)
+    both_all (IsBacked xs) (λ a. is_number (voucher_of a.origin) n ≡ true → voided_asset closed a ≡ None) (λ a. is_number (voucher_of a.origin) n ≡ true → IsFresh closed a) (fresh xs closed n ok) assets backed
+    (passed (voided_asset closed) (λ a. is_number (voucher_of a.origin) n) assets rule)
 
 -- an asset isn't acquired in a later year than that of its day
 abbrev pub IsDated : Plan → Asset → Type 0
@@ -164,10 +164,13 @@ IsDated plan a = a.year ≤ year_of_day plan a.on
 
 held_by : (plan : Plan) (on : Day) (n : ℕ) (a : Asset) → IsDated plan a → ((a.number == n) ≡ true → disposed_asset on a ≡ None) → (a.number == n) ≡ true → IsHeldBy (year_of_day plan on) a
 held_by plan on n a dated rules is =
-    let both : (not_held a.number a.stage ≡ None) × (refuse_if (is_before on a.on) (refusal.AssetState a.number fault.Later) ≡ None) = or_else_none (not_held a.number a.stage) _ (rules is) in
+    let both = or_else_none (not_held a.number a.stage) _ (rules is) in
+    let rest : (refuse_if (is_leased a.origin) (refusal.AssetState a.number fault.Leased) ≡ None) × (refuse_if (is_before on a.on) (refusal.AssetState a.number fault.Later) ≡ None) =
+    or_else_none _ _ both.1 in
     record {
       held = by_stage a.stage both.0;
-      acquired = omega (arith, dated, year_le plan a.on on (refuse_none (is_before on a.on) (refusal.AssetState a.number fault.Later) both.1));
+      owned = refuse_none (is_leased a.origin) (refusal.AssetState a.number fault.Leased) rest.0;
+      acquired = omega (arith, dated, year_le plan a.on on (refuse_none (is_before on a.on) (refusal.AssetState a.number fault.Later) rest.1));
     }
   where
     by_stage : (s : Stage) → not_held a.number s ≡ None → s ≡ held
@@ -205,8 +208,8 @@ HasFunctions plan = (dept : ℕ) → is_some (department_at plan dept) ≡ true 
 abbrev Known : Plan → VoucherItem → Type 0
 Known plan i = is_some (department_at plan i.account.dept) ≡ true
 
-known_item : (plan : Plan) (s : Documents) (a : AccountItem) → unknown plan s (account_name a) ≡ None → is_some (department_at plan a.dept) ≡ true
-known_item plan s a e =
+known_item : (plan : Plan) (s : Documents) (year : ℕ) (a : AccountItem) → unknown plan s (account_name year a) ≡ None → is_some (department_at plan a.dept) ≡ true
+known_item plan s year a e =
     let first = or_else_none (unknown_if (not (is_some (fund_at plan a.fund))) kind.Fund a.fund) _ e in
     let second = or_else_none (unknown_if (not (is_some (department_at plan a.dept))) kind.Dept a.dept) _ first.1 in
     turned (is_some (department_at plan a.dept)) (refuse_none (not (is_some (department_at plan a.dept))) (refusal.UnknownName kind.Dept a.dept) second.0)
@@ -215,21 +218,21 @@ known_item plan s a e =
     turned true e = refl
     turned false e = cc
 
-known_items : (plan : Plan) (s : Documents) (items : List VoucherItem) → first_refusal (unknown plan s) (voucher_names items) ≡ None → AllByRecursion (Known plan) items
-known_items plan s [] e = tt
-known_items plan s (i ∷ items) e =
-    let here = or_else_none (unknown plan s (account_name i.account)) (first_refusal (unknown plan s) (charge_names i.charge ++ voucher_names items)) e in
-    let rest = or_else_none (first_refusal (unknown plan s) (charge_names i.charge)) (first_refusal (unknown plan s) (voucher_names items))
-    (sym (first_refusal-append (unknown plan s) (charge_names i.charge) (voucher_names items)) ∙ here.1) in
-    (known_item plan s i.account here.0, known_items plan s items rest.1)
+known_items : (plan : Plan) (s : Documents) (year : ℕ) (items : List VoucherItem) → first_refusal (unknown plan s) (voucher_names year items) ≡ None → AllByRecursion (Known plan) items
+known_items plan s year [] e = tt
+known_items plan s year (i ∷ items) e =
+    let here = or_else_none (unknown plan s (account_name year i.account)) (first_refusal (unknown plan s) (charge_names i.charge ++ voucher_names year items)) e in
+    let rest = or_else_none (first_refusal (unknown plan s) (charge_names i.charge)) (first_refusal (unknown plan s) (voucher_names year items))
+    (sym (first_refusal-append (unknown plan s) (charge_names i.charge) (voucher_names year items)) ∙ here.1) in
+    (known_item plan s year i.account here.0, known_items plan s year items rest.1)
 
 -- what holds of an asset that is acquired: of its service, its function and its day
 abbrev IsNew : Plan → ℕ → Asset → Type 0
 IsNew plan closed a = IsSoundAsset plan closed a × (HasFunction plan a × IsDated plan a)
 
-new_one : (plan : Plan) (closed : ℕ) (o : Option ℕ) (on : Day) (year number dept object cost : ℕ) → HasFunctions plan → is_some (department_at plan dept) ≡ true → year ≤ year_of_day plan on →
-    year_at plan (number_of_day plan on) ≡ year_of_day plan on → IsNew plan closed (new_asset plan o on year number dept object cost)
-new_one plan closed o on year number dept object cost functions known le same = (record { served = omega (arith, le, same); stage = tt }, (functions dept known, le))
+new_one : (plan : Plan) (closed : ℕ) (o : Origin) (on : Day) (year number dept life cost : ℕ) → HasFunctions plan → is_some (department_at plan dept) ≡ true → year ≤ year_of_day plan on →
+    year_at plan (number_of_day plan on) ≡ year_of_day plan on → IsNew plan closed (new_asset plan o on year number dept life cost)
+new_one plan closed o on year number dept life cost functions known le same = (record { served = omega (arith, le, same); stage = tt; kept = λ leased. refl }, (functions dept known, le))
 
 all_new : (plan : Plan) (closed n : ℕ) (on : Day) (year first : ℕ) (items : List VoucherItem) → HasFunctions plan → AllByRecursion (Known plan) items → year ≤ year_of_day plan on →
     year_at plan (number_of_day plan on) ≡ year_of_day plan on → AllByRecursion (IsNew plan closed) (bought plan n on year first items)
@@ -238,8 +241,8 @@ all_new plan closed n on year first (i ∷ items) functions known le same =
     by_test (is_capital (object_at plan i.account.object)) (all_new plan closed n on year (first + 1) items functions known.1 le same) (all_new plan closed n on year first items functions known.1 le same)
   where
     by_test : (b : Bool) → AllByRecursion (IsNew plan closed) (bought plan n on year (first + 1) items) → AllByRecursion (IsNew plan closed) (bought plan n on year first items) →
-        AllByRecursion (IsNew plan closed) (if b then new_asset plan (Some n) on year first i.account.dept i.account.object i.account.amount ∷ bought plan n on year (first + 1) items else bought plan n on year first items)
-    by_test true next stay = (new_one plan closed (Some n) on year first i.account.dept i.account.object i.account.amount functions known.0 le same, next)
+        AllByRecursion (IsNew plan closed) (if b then new_asset plan (purchase n) on year first i.account.dept (life_of plan i.account.object) i.account.amount ∷ bought plan n on year (first + 1) items else bought plan n on year first items)
+    by_test true next stay = (new_one plan closed (purchase n) on year first i.account.dept (life_of plan i.account.object) i.account.amount functions known.0 le same, next)
     by_test false next stay = stay
 
 -- ---- legal histories
@@ -253,8 +256,8 @@ DrawsNext s drawn _ = Unit {0}
 pub record IsUnbroken (plan : Plan) (h : List Entry) (e : Entry) : Type 0 where
   pub day : is_day e.change.on ≡ true
   pub drawn : DrawsNext (registers_of plan h) e.drawn e.change.act
-  pub names : name_refusal plan (registers_of plan h).documents e.change.act ≡ None
-  pub register_names : register_name_refusal plan (registers_of plan h) e.change.act ≡ None
+  pub names : name_refusal plan (registers_of plan h).documents e.change.on e.change.act ≡ None
+  pub register_names : register_name_refusal plan (registers_of plan h) e.change.on e.change.act ≡ None
   pub period : period_refusal plan h e.change.on ≡ None
   pub levy : levy_refusal plan (registers_of plan h) e.change.on e.change.act ≡ None
   pub states : state_refusal plan (registers_of plan h).documents e.change.on e.change.act ≡ None
@@ -283,7 +286,7 @@ document_le plan on a = by_test (is_back a)
     by_test false = omega arith
 
 allowed : (plan : Plan) (h : List Entry) (on : Day) (drawn : Drawn) → IsWhole plan → IsLawful plan h → is_day on ≡ true → period_refusal plan h on ≡ None → (a : Act) → DrawsNext (registers_of plan h) drawn a →
-    register_name_refusal plan (registers_of plan h) a ≡ None → levy_refusal plan (registers_of plan h) on a ≡ None → state_refusal plan (registers_of plan h).documents on a ≡ None →
+    register_name_refusal plan (registers_of plan h) on a ≡ None → levy_refusal plan (registers_of plan h) on a ≡ None → state_refusal plan (registers_of plan h).documents on a ≡ None →
     asset_refusal (registers_of plan h) on a ≡ None → Allows plan (registers_of plan h) on drawn a
 allowed plan h on drawn whole is day period (act.Voucher v) next names levy states assets = early plan h on is.closed day period
 allowed plan h on drawn whole is day period (act.VoidVoucher n) next names levy states assets =
@@ -303,15 +306,16 @@ allowed plan h on drawn whole is day period (act.Asset (Dispose d)) next names l
           (registers_of plan h).assets is.dated (passed (disposed_asset on) (λ a. a.number == d.asset) (registers_of plan h).assets assets),
     )
 allowed plan h on drawn whole is day period (act.Issue i) next names levy states assets = (early plan h on is.closed day period, (parts on day).first_day)
+allowed plan h on drawn whole is day period (act.Lease l) next names levy states assets = (early plan h on is.closed day period, (parts on day).first_day)
 allowed plan h on drawn whole is day period _ next names levy states assets = tt
 
 acquired : (plan : Plan) (h : List Entry) (closed : ℕ) (on : Day) (drawn : Drawn) → IsWhole plan → year_at plan (number_of_day plan on) ≡ year_of_day plan on → (a : Act) →
-    name_refusal plan (registers_of plan h).documents a ≡ None → register_name_refusal plan (registers_of plan h) a ≡ None → AllByRecursion (IsNew plan closed) (assets_by plan on a drawn)
+    name_refusal plan (registers_of plan h).documents on a ≡ None → register_name_refusal plan (registers_of plan h) on a ≡ None → AllByRecursion (IsNew plan closed) (assets_by plan on a drawn)
 acquired plan h closed on drawn whole same (act.Voucher v) names others =
-    all_new plan closed drawn.number on (document_year plan on (act.Voucher v)) drawn.second v.items whole.functions (known_items plan (registers_of plan h).documents v.items names)
+    all_new plan closed drawn.number on (document_year plan on (act.Voucher v)) drawn.second v.items whole.functions (known_items plan (registers_of plan h).documents (document_year plan on (act.Voucher v)) v.items names)
     (document_le plan on (act.Voucher v)) same
 acquired plan h closed on drawn whole same (act.Asset (Donate d)) names others =
-    (new_one plan closed None on (year_of_day plan on) drawn.number d.dept d.object d.amount whole.functions (known (or_else_none (unknown_dept plan d.dept) _ others).0) (omega arith) same, tt)
+    (new_one plan closed gift on (year_of_day plan on) drawn.number d.dept (life_of plan d.object) d.amount whole.functions (known (or_else_none (unknown_dept plan d.dept) _ others).0) (omega arith) same, tt)
   where
     turned : (b : Bool) → not b ≡ false → b ≡ true
     turned true e = refl
@@ -320,6 +324,16 @@ acquired plan h closed on drawn whole same (act.Asset (Donate d)) names others =
     known : unknown_dept plan d.dept ≡ None → is_some (department_at plan d.dept) ≡ true
     known e = turned (is_some (department_at plan d.dept)) (refuse_none (not (is_some (department_at plan d.dept))) (refusal.UnknownName kind.Dept d.dept) e)
 acquired plan h closed on drawn whole same (act.Asset (Dispose d)) names others = tt
+acquired plan h closed on drawn whole same (act.Lease l) names others =
+    let fund = or_else_none (unknown_fund plan l.account.fund) _ others in
+    (new_one plan closed lease on (year_of_day plan on) drawn.number l.account.dept (leased_life plan l) l.account.amount whole.functions (known (or_else_none (unknown_dept plan l.account.dept) _ fund.1).0) (omega arith) same, tt)
+  where
+    turned : (b : Bool) → not b ≡ false → b ≡ true
+    turned true e = refl
+    turned false e = cc
+
+    known : unknown_dept plan l.account.dept ≡ None → is_some (department_at plan l.account.dept) ≡ true
+    known e = turned (is_some (department_at plan l.account.dept)) (refuse_none (not (is_some (department_at plan l.account.dept))) (refusal.UnknownName kind.Dept l.account.dept) e)
 acquired plan h closed on drawn whole same _ names others = tt
 
 -- the months that are closed are named in order
@@ -340,7 +354,7 @@ closes_next plan s c (act.Close (period.Year y)) e = tt
 closes_next plan s c _ e = tt
 
 on_kept : (plan : Plan) (closed : ℕ) (on : Day) (act : Act) (a : Asset) → IsDated plan a → IsDated plan (asset_step plan closed on act a)
-on_kept plan closed on (act.VoidVoucher n) a dated = by_test (is_number a.voucher n)
+on_kept plan closed on (act.VoidVoucher n) a dated = by_test (is_number (voucher_of a.origin) n)
   where
     by_test : (b : Bool) → IsDated plan (if b then record a { stage = void } else a)
     by_test true = dated

@@ -30,7 +30,7 @@ unbroken plan h e adds =
     record {
       day = adds.form.on;
       drawn = draws_next (registers_of plan h) e.drawn e.change.act (ap (λ (x : Entry). x.drawn) a.entry);
-      names = subst (λ d. name_refusal plan d e.change.act ≡ None) (sym (documents_are plan h)) a.names;
+      names = subst (λ d. name_refusal plan d e.change.on e.change.act ≡ None) (sym (documents_are plan h)) a.names;
       register_names = a.register_names;
       period = a.period;
       levy = a.levied;

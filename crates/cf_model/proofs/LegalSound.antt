@@ -10,7 +10,7 @@ use Rattle.cf_model.proofs.Lawful.{IsWhole}
 use Rattle.cf_model.proofs.LegalReconciled.{changes_at_each, reconciles_at_each}
 use Rattle.cf_model.proofs.Room.{room_always}
 
-pub sound_state : (plan : Plan) (history : List Entry) → IsWhole plan → IsLegal plan history → length history ≤ 1048576 → IsSoundState (record { plan = plan; entries = history })
+pub sound_state : (plan : Plan) (history : List Entry) → IsWhole plan → IsLegal plan history → length history ≤ 1500000 → IsSoundState (record { plan = plan; entries = history })
 sound_state plan history whole legal few = record {
   legal = legal;
   few = few;

@@ -31,12 +31,12 @@ plan = record blank_plan {
   first_year = 2026;
   first_month = 7;
   functions = record { id = 1; name = [] } ∷ [];
-  funds = record { id = 1; name = []; fund_type = fund_type.General; level = level.Department; policy = policy.Lapse }
-      ∷ record { id = 2; name = []; fund_type = fund_type.DebtService; level = level.Department; policy = policy.Lapse } ∷ [];
+  funds = record { id = 1; name = []; fund_type = fund_type.General; level = level.Department; policy = policy.Lapse; later = None; balance_class = None }
+      ∷ record { id = 2; name = []; fund_type = fund_type.DebtService; level = level.Department; policy = policy.Lapse; later = None; balance_class = None } ∷ [];
   departments = record { id = 10; name = []; function = 1 } ∷ [];
   objects = record { id = 510; name = []; class = 5; kind = object_kind.Current } ∷ record { id = 710; name = []; class = 7; kind = object_kind.Capital 3 }
       ∷ record { id = 810; name = []; class = 8; kind = object_kind.Principal } ∷ record { id = 820; name = []; class = 8; kind = object_kind.Interest } ∷ [];
-  lines = record { fund = 1; dept = 10; part = part.Department } ∷ [];
+  lines = record { fund = 1; dept = 10; part = part.Department; later = false } ∷ [];
   desks = record { id = 1; name = []; roles = role.Council ∷ role.Payables ∷ role.Treasury ∷ role.Assets ∷ role.Payroll ∷ role.Controller ∷ [] } ∷ [];
 }
 
@@ -151,3 +151,24 @@ leaves : (says (earned ∷ []) (day 2025 7 6) (act.Leave (Use (record { fund = 1
     × (says (earned ∷ []) (day 2025 7 6) (act.Leave (Mature (record { fund = 1; dept = 10; object = 510; amount = 501 }))) ≡ Refuse (refusal.NotAdopted 1 2026))
     × (says (earned ∷ adopts 1 2026 ∷ []) (day 2025 7 6) (act.Leave (Mature (record { fund = 1; dept = 10; object = 510; amount = 501 }))) ≡ Refuse (refusal.LeaveShort 500))
 leaves = (refl, refl, refl, refl, refl, refl, refl)
+
+-- ---- leases
+
+abbrev leases : ℕ → ℕ → ℕ → Act
+leases fund dept object =
+    act.Lease (record { vendor = 7; account = record { fund = fund; dept = dept; object = object; amount = 36000 }; rate_bp = 0; every = 12; principals = 18000 ∷ 18000 ∷ [] })
+
+-- a lease names its account, whose object is capital, and needs the budget of its fund
+lease_names : (says [] (day 2025 7 6) (leases 9 10 710) ≡ Refuse (refusal.UnknownName kind.Fund 9))
+    × (says [] (day 2025 7 6) (leases 1 9 710) ≡ Refuse (refusal.UnknownName kind.Dept 9))
+    × (says [] (day 2025 7 6) (leases 1 10 510) ≡ Refuse (refusal.UnknownName kind.Object 510))
+    × (says [] (day 2025 7 6) (leases 1 10 710) ≡ Refuse (refusal.NotAdopted 1 2026))
+lease_names = (refl, refl, refl, refl)
+
+-- a leased asset isn't disposed of: that it is leased speaks before the day
+abbrev leased : Entry
+leased = entry 1 1 (day 2025 8 10) (leases 1 10 710)
+
+lease_stays : (says (leased ∷ []) (day 2025 8 11) (sells 1 1) ≡ Refuse (refusal.AssetState 1 fault.Leased))
+    × (says (leased ∷ []) (day 2025 8 9) (sells 1 1) ≡ Refuse (refusal.AssetState 1 fault.Leased))
+lease_stays = (refl, refl)

@@ -37,6 +37,7 @@ few_spendings plan h on (act.PayDue d) legal =
 few_spendings plan h on (act.Leave (Earn l)) legal = omega arith
 few_spendings plan h on (act.Leave (Use l)) legal = omega arith
 few_spendings plan h on (act.Leave (Mature l)) legal = omega arith
+few_spendings plan h on (act.Lease l) legal = omega arith
 few_spendings plan h on _ legal = omega arith
 
 -- ---- in which years
@@ -62,4 +63,5 @@ spendings_within plan s on (act.PayDue d) day timely = bonds_within plan d (filt
 spendings_within plan s on (act.Leave (Mature l)) day timely = (document_within plan on (act.Leave (Mature l)) day, tt)
 spendings_within plan s on (act.Leave (Earn l)) day timely = tt
 spendings_within plan s on (act.Leave (Use l)) day timely = tt
+spendings_within plan s on (act.Lease l) day timely = (document_within plan on (act.Lease l) day, tt)
 spendings_within plan s on _ day timely = tt

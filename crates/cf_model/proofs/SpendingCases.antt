@@ -1,5 +1,5 @@
--- What debt payments and matured leave spend of control lines, on literal histories.
-use Rattle.std.proofs.Common.{◌≡◌, ℕ, true, List, [], ◌∷◌, None, refl}
+-- What debt payments, matured leave and leases spend of control lines, on literal histories.
+use Rattle.std.proofs.Common.{◌≡◌, ℕ, true, false, List, [], ◌∷◌, None, refl}
 use Rattle.cf_calls.specs.declared.acts.Act.{Act}
 use Rattle.cf_calls.specs.declared.acts.Act.TheVariants as act
 use Rattle.cf_calls.specs.declared.acts.LeaveAct.TheVariants.{Earn, Use, Mature}
@@ -20,9 +20,9 @@ city = record blank_plan {
       ∷ record { id = 810; name = []; class = 8; kind = object_kind.Principal }
       ∷ record { id = 820; name = []; class = 8; kind = object_kind.Interest }
       ∷ [];
-  lines = record { fund = 1; dept = 10; part = part.Class 5 }
-      ∷ record { fund = 1; dept = 10; part = part.Object 810 }
-      ∷ record { fund = 1; dept = 10; part = part.Object 820 }
+  lines = record { fund = 1; dept = 10; part = part.Class 5; later = false }
+      ∷ record { fund = 1; dept = 10; part = part.Object 810; later = false }
+      ∷ record { fund = 1; dept = 10; part = part.Object 820; later = false }
       ∷ [];
 }
 
@@ -65,3 +65,13 @@ matured =
 
 leave_spent : (expended_of matured 2026 ≡ 450 ∷ 0 ∷ 0 ∷ []) × (expended_of matured 2027 ≡ 200 ∷ 0 ∷ 0 ∷ [])
 leave_spent = (refl, refl)
+
+-- a lease is spent whole, in the year of its day, and its payments in the years in which they are due
+abbrev leases : Entry
+leases =
+    entry 1 2026 6 1 (act.Lease (record { vendor = 7; account = record { fund = 1; dept = 10; object = 520; amount = 36000 }; rate_bp = 1000; every = 12; principals = 18000 ∷ 18000 ∷ [] }))
+
+lease_spent : (expended_of (leases ∷ []) 2026 ≡ 36000 ∷ 0 ∷ 0 ∷ [])
+    × (expended_of (leases ∷ []) 2027 ≡ 0 ∷ 0 ∷ 0 ∷ [])
+    × (expended_of (leases ∷ pays 1 2027 6 1 ∷ []) 2027 ≡ 0 ∷ 18000 ∷ 3600 ∷ [])
+lease_spent = (refl, refl, refl)

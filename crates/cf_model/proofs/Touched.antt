@@ -6,7 +6,7 @@ use Rattle.std.proofs.lemmas.Int.{ints}
 use Rattle.std.proofs.lemmas.List.Sums.{sum_by-cons}
 use Rattle.cf_base.specs.declared.calendar.Day.{Day}
 use Rattle.cf_calls.specs.declared.acts.Act.{Act}
-use Rattle.cf_calls.specs.declared.acts.Act.TheVariants.{Adopt, Amend, Transfer, Requisition, Withdraw, Order, ChangeOrder, CancelOrder, Voucher, VoidVoucher, Pay, Bill, Collect, Receive, WriteOff, Asset, Issue, PayDue, Leave, Interfund, Close}
+use Rattle.cf_calls.specs.declared.acts.Act.TheVariants.{Adopt, Amend, Transfer, Requisition, Withdraw, Order, ChangeOrder, CancelOrder, Voucher, VoidVoucher, Pay, Bill, Collect, Receive, WriteOff, Asset, Issue, PayDue, Leave, Interfund, Close, Lease}
 use Rattle.cf_calls.specs.declared.acts.DebtPayment.{DebtPayment}
 use Rattle.cf_calls.specs.declared.acts.LeaveAct.TheVariants.{Mature}
 use Rattle.cf_calls.specs.declared.entry.Entry.{Entry}
@@ -17,7 +17,7 @@ use Rattle.cf_calls.specs.declared.items.LineAmount.{LineAmount}
 use Rattle.cf_calls.specs.declared.items.VoucherItem.{VoucherItem}
 use Rattle.cf_calls.specs.declared.refusal.Refusal.TheVariants as refusal
 use Rattle.cf_calls.specs.Form.{is_distinct}
-use Rattle.cf_chart.specs.Plan.{Plan, line_of}
+use Rattle.cf_chart.specs.Plan.{Plan, is_later, line_in}
 use Rattle.cf_model.specs.Bonds.{Bond, Due, next_due}
 use Rattle.cf_model.specs.Calendar.{document_year, rolled_year}
 use Rattle.cf_model.specs.OrderItems.{OrderItem, is_named, item_named, item_step}
@@ -157,13 +157,14 @@ documents_out plan s number on (Issue i) stripe apart none out = tt
 documents_out plan s number on (PayDue p) stripe apart none out = tt
 documents_out plan s number on (Leave l) stripe apart none out = tt
 documents_out plan s number on (Close p) stripe apart none out = tt
+documents_out plan s number on (Lease l) stripe apart none out = tt
 
 -- who closes a period touches every stripe
 pub not_rolled : (plan : Plan) (stripe : ℕ) (act : Act) → touches plan stripe act ≡ false → rolled_year plan act ≡ None
 not_rolled plan stripe (Close p) out = cc
 not_rolled plan stripe _ out = refl
 
--- debt payments and matured leave
+-- debt payments, matured leave and leases
 
 abbrev pub IsSpentOut : Plan → ℕ → Spending → Type 0
 IsSpentOut plan stripe x = is_item_in plan stripe x.account ≡ false
@@ -184,6 +185,7 @@ spendings_out plan s on (PayDue d) stripe out =
     let b = or_false (is_in plan stripe d.fund d.dept d.principal) (is_in plan stripe d.fund d.dept d.interest) out in
     bonds_out plan stripe d (filter (λ x. x.number == d.bond) s.bonds) b.0 b.1
 spendings_out plan s on (Leave (Mature l)) stripe out = (out, tt)
+spendings_out plan s on (Lease l) stripe out = (out, tt)
 spendings_out plan s on _ stripe out = tt
 
 pub moves_out : (plan : Plan) (s : Registers) (number : ℕ) (on : Day) (act : Act) (stripe : ℕ) → is_distinct same_place s.documents.items ≡ true → on_order_refusal s.documents act ≡ None →
@@ -210,10 +212,18 @@ not_line line (Some n) out = by_test (n == line) refl
         clash : true ≡ false → ⊥
         clash e = cc
 
+-- an account whose lines at both levels are of other stripes isn't on the line in any year
+pub off_line : (plan : Plan) (line year : ℕ) (a : AccountItem) → is_item_in plan (stripe_of line) a ≡ false → is_on plan line year a ≡ false
+off_line plan line year a out = by_level (is_later plan a.fund year)
+  where
+    by_level : (b : Bool) → is_line line (line_in plan a.fund a.dept a.object b) ≡ false
+    by_level false = not_line line (line_in plan a.fund a.dept a.object false) (or_false (is_line_in (stripe_of line) (line_in plan a.fund a.dept a.object false)) (is_line_in (stripe_of line) (line_in plan a.fund a.dept a.object true)) out).0
+    by_level true = not_line line (line_in plan a.fund a.dept a.object true) (or_false (is_line_in (stripe_of line) (line_in plan a.fund a.dept a.object false)) (is_line_in (stripe_of line) (line_in plan a.fund a.dept a.object true)) out).1
+
 pub out_sum : (f : Move → ℤ) (plan : Plan) (line year : ℕ) (moves : List Move) → AllByRecursion (IsOut plan (stripe_of line)) moves → moved_sum f plan line year moves ≡ pos 0
 out_sum f plan line year [] out = refl
 out_sum f plan line year (m ∷ moves) out =
-    let off : is_on plan line m.account ≡ false = not_line line (line_of plan m.account.fund m.account.dept m.account.object) out.0 in
+    let off : is_on plan line m.year m.account ≡ false = off_line plan line m.year m.account out.0 in
     let no : counts plan line year m.account m.year ≡ false = ap (λ b. (m.year == year) && b) off ∙ and_false (m.year == year) in
     (λ i. (if no i then f m else pos 0) +ℤ out_sum f plan line year moves out.1 i)
   where
@@ -278,6 +288,7 @@ still plan line year (Issue i) out = record { adopted = refl; added = refl; remo
 still plan line year (PayDue p) out = record { adopted = refl; added = refl; removed = refl }
 still plan line year (Leave l) out = record { adopted = refl; added = refl; removed = refl }
 still plan line year (Close p) out = cc
+still plan line year (Lease l) out = record { adopted = refl; added = refl; removed = refl }
 
 -- ---- one entry
 

@@ -1,22 +1,21 @@
 -- What an act moves of line numbers, item by item (own rule).
-use Rattle.std.specs.Prelude.{ℕ, ◌+◌, Bool, false, ◌&&◌, if◌then◌else◌, ◌==◌, List, [], ◌∷◌, ◌++◌, Option, Some, None, map, ℤ, pos, ◌+ℤ◌, ◌-ℤ◌}
+use Rattle.std.specs.Prelude.{ℕ, ◌+◌, Bool, false, not, ◌&&◌, if◌then◌else◌, ◌==◌, List, [], ◌∷◌, ◌++◌, Option, Some, None, map, sum_by, ℤ, pos, ◌+ℤ◌, ◌-ℤ◌}
 use Rattle.std.specs.List.{filter}
 use Rattle.cf_base.specs.declared.calendar.Day.{Day}
 use Rattle.cf_calls.specs.declared.acts.Act.{Act}
-use Rattle.cf_calls.specs.declared.acts.Act.TheVariants.{Requisition, Withdraw, Order, ChangeOrder, CancelOrder, Voucher, VoidVoucher, PayDue, Leave, Close}
+use Rattle.cf_calls.specs.declared.acts.Act.TheVariants.{Requisition, Withdraw, Order, ChangeOrder, CancelOrder, Voucher, VoidVoucher, PayDue, Leave, Close, Lease}
 use Rattle.cf_calls.specs.declared.items.AccountItem.{AccountItem}
 use Rattle.cf_calls.specs.declared.items.VoucherItem.{VoucherItem}
 use Rattle.cf_calls.specs.declared.items.Charge.{Charge}
 use Rattle.cf_calls.specs.declared.items.Charge.TheVariants.{Direct, OnOrder}
-use Rattle.cf_chart.specs.declared.rows.Line.{Line}
-use Rattle.cf_chart.specs.Plan.{Plan, fund_at}
+use Rattle.cf_chart.specs.Plan.{Plan}
 use Rattle.cf_model.specs.Calendar.{document_year, rolls}
-use Rattle.cf_model.specs.OrderItems.{OrderItem, is_live, lapses, open_of, carried_of, carries_fund, is_named, item_named, item_step}
+use Rattle.cf_model.specs.OrderItems.{OrderItem, is_live, lapses, open_of, carried_of, is_named, item_named, item_step}
 use Rattle.cf_model.specs.Documents.{Hold, Expenditure, Documents, is_number}
 use Rattle.cf_calls.specs.declared.entry.Entry.{Entry}
 use Rattle.cf_model.specs.Registers.{Registers}
 use Rattle.cf_model.specs.Spendings.{Spending, spendings_by}
-use Rattle.cf_model.specs.LineNumbers.{counts, carried_sum, held_amount, expended_amount, added_by, removed_by}
+use Rattle.cf_model.specs.LineNumbers.{counts, is_on, carried_sum, held_amount, expended_amount, added_by, removed_by}
 
 -- what one item moves of its account's line in a year
 pub record Move : Type 0 where
@@ -88,10 +87,13 @@ roll_moves plan act (i ∷ items) =
     else [])
     ++ roll_moves plan act items
 
--- whether the fund of a line carries its open encumbrances into the year after
-abbrev pub line_carries : Plan → Option Line → Bool
-line_carries plan None = false
-line_carries plan (Some l) = carries_fund (fund_at plan l.fund)
+-- whether the roll of a year carries an item onto a line of the year after
+abbrev pub goes_on : Plan → ℕ → ℕ → OrderItem → Bool
+goes_on plan line year i = (i.year == year) && is_live i && not (lapses plan i) && is_on plan line (i.year + 1) i.account
+
+-- what it carries onto the line
+abbrev pub carried_to : Plan → ℕ → ℕ → List OrderItem → ℕ
+carried_to plan line year items = sum_by (λ i. if goes_on plan line year i then open_of i else 0) items
 
 -- the moves of an act on documents that draws this number, at most 64, in the order of its documents' items
 abbrev pub document_moves : Plan → Documents → ℕ → Day → Act → List Move
@@ -108,7 +110,7 @@ document_moves plan s number on (VoidVoucher n) =
     ++ map (reopen_move (item_step plan number (VoidVoucher n)) s.items) (spent_by n s.expenditures)
 document_moves plan s number on _ = []
 
--- what a debt payment or matured leave spends
+-- what a debt payment, matured leave or a lease spends
 abbrev pub spending_move : Spending → Move
 spending_move x = record { account = x.account; year = x.year; held = pos 0; encumbered = pos 0; expended = pos x.account.amount }
 
@@ -117,6 +119,7 @@ abbrev pub moves_of : Plan → Registers → ℕ → Day → Act → List Move
 moves_of plan s number on (Close p) = lapses_of plan (Close p) s.documents.holds ++ roll_moves plan (Close p) s.documents.items
 moves_of plan s number on (PayDue d) = map spending_move (spendings_by plan s on (PayDue d))
 moves_of plan s number on (Leave l) = map spending_move (spendings_by plan s on (Leave l))
+moves_of plan s number on (Lease l) = map spending_move (spendings_by plan s on (Lease l))
 moves_of plan s number on act = document_moves plan s.documents number on act
 
 -- what moves make of one number of a line and year

@@ -46,8 +46,10 @@ abbrev pub recon_rows : ReconShown → List Row
 recon_rows r =
     single (codes "Total fund balances") r.fund_balances
     ∷ single (codes "Capital assets, net") r.capital_assets
+    ∷ single (codes "Right-to-use assets, net") r.right_to_use
     ∷ single (codes "Unavailable revenue") r.unavailable
     ∷ single (codes "Bonds payable") r.bonds
+    ∷ single (codes "Leases payable") r.leases
     ∷ single (codes "Accrued interest") r.accrued_interest
     ∷ single (codes "Compensated absences") r.leave
     ∷ single (codes "Net position") r.net_position
@@ -59,10 +61,13 @@ change_rows fund c gov =
     single (codes "Net change in fund balances") fund
     ∷ single (codes "Capital outlay") c.outlay
     ∷ single (codes "Donated capital assets") c.donated
+    ∷ single (codes "Right-to-use assets") c.right_to_use
     ∷ single (codes "Depreciation") c.depreciation
+    ∷ single (codes "Amortization") c.amortization
     ∷ single (codes "Book value of disposals") c.disposals
     ∷ single (codes "Change in unavailable revenue") c.deferred
     ∷ single (codes "Debt proceeds") c.proceeds
+    ∷ single (codes "Leases issued") c.leases_issued
     ∷ single (codes "Principal paid") c.principal
     ∷ single (codes "Change in accrued interest") c.accrued
     ∷ single (codes "Change in compensated absences") c.absences

@@ -2,6 +2,7 @@
 use Rattle.std.proofs.Common.{◌≡◌, ℕ, suc, ◌+◌, ◌-◌, ◌≤◌, Bool, true, false, not, if◌then◌else◌, ◌==◌, ◌&&◌, List, [], ◌∷◌, ◌++◌, map, Option, Some, None, find, slice_get, refl, sym, ap, ◌∙◌, arith}
 use Rattle.std.proofs.lemmas.Grind.{common_steps}
 use Rattle.std.proofs.lemmas.List.Sums.{sum_by_push}
+use Rattle.cf_base.specs.declared.calendar.Day.{Day}
 use Rattle.cf_calls.specs.declared.acts.Act.{Act}
 use Rattle.cf_calls.specs.declared.acts.Act.TheVariants.{Adopt}
 use Rattle.cf_calls.specs.declared.entry.Entry.{Entry}
@@ -92,15 +93,15 @@ own_sources plan s fund source (r ∷ rows) none other =
     by_test false is own later = later
 
 -- what an act that adopts no budget of the source's fund estimates of it
-others_none : (plan : Plan) (s : Documents) (act : Act) (source year : ℕ) → name_refusal plan s act ≡ None →
+others_none : (plan : Plan) (s : Documents) (on : Day) (act : Act) (source year : ℕ) → name_refusal plan s on act ≡ None →
     ((fund : ℕ) → is_source_of fund (source_at plan source) ≡ true → adopts fund year act ≡ false) → estimated_by source year act ≡ 0
-others_none plan s (Adopt a) source year none other = by_test (a.year == year) refl (is_source_of a.fund (source_at plan source)) refl
+others_none plan s on (Adopt a) source year none other = by_test (a.year == year) refl (is_source_of a.fund (source_at plan source)) refl
   where
     names : first_refusal (unknown plan s) (map (λ r. source_name a.fund r.source) a.estimates) ≡ None
     names =
-        let rest = or_else_none (unknown plan s (fund_name a.fund)) (first_refusal (unknown plan s) (map (λ r. line_name a.fund r.line) a.lines ++ map (λ r. source_name a.fund r.source) a.estimates)) none in
-        (or_else_none (first_refusal (unknown plan s) (map (λ r. line_name a.fund r.line) a.lines)) (first_refusal (unknown plan s) (map (λ r. source_name a.fund r.source) a.estimates))
-        (sym (first_refusal-append (unknown plan s) (map (λ r. line_name a.fund r.line) a.lines) (map (λ r. source_name a.fund r.source) a.estimates)) ∙ rest.1)).1
+        let rest = or_else_none (unknown plan s (fund_name a.fund)) (first_refusal (unknown plan s) (map (λ r. line_name a.fund a.year r.line) a.lines ++ map (λ r. source_name a.fund r.source) a.estimates)) none in
+        (or_else_none (first_refusal (unknown plan s) (map (λ r. line_name a.fund a.year r.line) a.lines)) (first_refusal (unknown plan s) (map (λ r. source_name a.fund r.source) a.estimates))
+        (sym (first_refusal-append (unknown plan s) (map (λ r. line_name a.fund a.year r.line) a.lines) (map (λ r. source_name a.fund r.source) a.estimates)) ∙ rest.1)).1
 
     alike : (n : ℕ) → (n == n) ≡ true
     alike n = grind (arith, common_steps)
@@ -111,7 +112,7 @@ others_none plan s (Adopt a) source year none other = by_test (a.year == year) r
     by_test true is true e =
         let here : ((a.fund == a.fund) && (a.year == year)) ≡ true = λ i. alike a.fund i && is i in
         absurd (let P : true ≡ false = sym here ∙ other a.fund e in cc)
-others_none plan s _ source year none other = refl
+others_none plan s on _ source year none other = refl
 
 adopting : (fund source year : ℕ) (act : Act) → adopts fund year act ≡ true → estimated_by source year act ≡ estimate_for source (estimates_of (adoption_of act))
 adopting fund source year (Adopt a) e = by_test (a.fund == fund) (a.year == year) e
@@ -138,7 +139,7 @@ estimates_push : (plan : Plan) (h : List Entry) (e : Entry) → HasEstimates pla
 estimates_push plan h e is adds = record {
   known = λ source year s there. sum_by_push (λ x. estimated_by source year x.change.act) h e ∙ by_test source year s there (adopts s.fund year e.change.act) refl;
   unknown = λ source year none. sum_by_push (λ x. estimated_by source year x.change.act) h e
-      ∙ none_more _ _ (is.unknown source year none) (others_none plan (documents_of plan h) e.change.act source year a.names (λ fund own. absurd (nobody fund source none own)));
+      ∙ none_more _ _ (is.unknown source year none) (others_none plan (documents_of plan h) e.change.on e.change.act source year a.names (λ fund own. absurd (nobody fund source none own)));
 }
   where
     a : IsUnbroken plan h e
@@ -163,7 +164,7 @@ estimates_push plan h e is adds = record {
     by_test source year s there false t =
         let p : Entry → Bool = λ x. adopts s.fund year x.change.act in
         let still : find p (h ++ e ∷ []) ≡ find p h = find_push p h e ∙ ap (λ b. or_last (find p h) (if b then Some e else None)) t ∙ or_none (find p h) in
-        let none : estimated_by source year e.change.act ≡ 0 = others_none plan (documents_of plan h) e.change.act source year a.names (λ fund own. ap (λ n. adopts n year e.change.act) (fund_is fund source s there own) ∙ t) in
+        let none : estimated_by source year e.change.act ≡ 0 = others_none plan (documents_of plan h) e.change.on e.change.act source year a.names (λ fund own. ap (λ n. adopts n year e.change.act) (fund_is fund source s there own) ∙ t) in
         same_sum _ _ none ∙ is.known source year s there ∙ sym (ap (estimated_in source) still)
       where
         or_none : (o : Option Entry) → or_last o None ≡ o

@@ -10,22 +10,22 @@ use Rattle.cf_calls.specs.declared.acts.Act.TheVariants.{Close}
 use Rattle.cf_calls.specs.declared.acts.Period.{Period}
 use Rattle.cf_calls.specs.declared.entry.Entry.{Entry}
 use Rattle.cf_calls.specs.Form.{is_distinct, IsActInForm}
-use Rattle.cf_chart.specs.Plan.{Plan, line_at}
+use Rattle.cf_chart.specs.Plan.{Plan}
 use Rattle.cf_budget.specs.declared.changes.LineChange.{LineChange}
 use Rattle.cf_budget.specs.declared.row.Row.{Row}
 use Rattle.cf_budget.specs.Changes.{change_at, changes_at, same_place}
 use Rattle.cf_budget.specs.Tables.{carry_row, row_plus, zero_row}
 use Rattle.cf_budget.proofs.Rows.{plus_zero, zero_plus, plus_regroup}
 use Rattle.cf_model.specs.Calendar.{is_year, rolled_year, rolls}
-use Rattle.cf_model.specs.Documents.{Documents}
+use Rattle.cf_model.specs.Documents.{Documents, documents_of}
 use Rattle.cf_model.specs.LineNumbers.{encumbered, encumbered_sum, held, held_sum}
-use Rattle.cf_model.specs.Moves.{Move, carried_by, lapses_of, line_carries, moved_sum, release_move, roll_moves}
+use Rattle.cf_model.specs.Moves.{Move, carried_by, carried_to, lapses_of, moved_sum, release_move, roll_moves}
 use Rattle.cf_model.specs.Registers.{Registers, registers_of}
 use Rattle.cf_model.proofs.Moved.{first, last, moved_append, moved_none, none_both, rolls_none}
 use Rattle.cf_model.proofs.Pushes.{documents_are}
-use Rattle.cf_model.proofs.RollMoves.{encumbers_to, carries_to, none_encumbered, none_held, roll_carries, roll_encumbers, roll_releases}
+use Rattle.cf_model.proofs.RollMoves.{encumbers_to, none_carried, none_encumbered, none_held, roll_carries, roll_encumbers, roll_releases}
 use Rattle.cf_registers.specs.Moved.{Make, is_inside, moved_by}
-use Rattle.cf_office.specs.Rolled.{carried_on, changes_to, cleared_row, line_changes}
+use Rattle.cf_office.specs.Rolled.{changes_to, cleared_row, line_changes}
 use Rattle.cf_model.proofs.Tidy.{all_append as all_both, distinct_append, rolled_below}
 use Rattle.cf_registers.proofs.Lending.{are_touched}
 use Rattle.cf_registers.proofs.Moved.{inside_at, less_none}
@@ -39,7 +39,7 @@ at_append (x ∷ xs) ys m z = ap (row_plus (change_at x m z)) (at_append xs ys m
 -- what a line's changes make of a line and year
 module _ (plan : Plan) (h : List Entry) (year : ℕ) where
   abbrev own : ℕ → ℕ → Row
-  own line z = if year == z then cleared_row (held plan line year h) (encumbered plan line year h) else (if year + 1 == z then carry_row (carried_on plan line (encumbered plan line year h)) else zero_row)
+  own line z = if year == z then cleared_row (held plan line year h) (encumbered plan line year h) else (if year + 1 == z then carry_row (carried_to plan line year (documents_of plan h).items) else zero_row)
 
   of_line : (line m z : ℕ) → changes_at (line_changes plan h year line) m z ≡ (if line == m then own line z else zero_row)
   of_line line m z = by_tests (line == m) (year == z) (year + 1 == z) (eqb_tells year z) (eqb_tells (year + 1) z)
@@ -48,7 +48,7 @@ module _ (plan : Plan) (h : List Entry) (year : ℕ) where
       a = cleared_row (held plan line year h) (encumbered plan line year h)
 
       b : Row
-      b = carry_row (carried_on plan line (encumbered plan line year h))
+      b = carry_row (carried_to plan line year (documents_of plan h).items)
 
       by_tests : (l y n : Bool) → ((y ≡ true) × (year ≡ z)) ⊎ ((y ≡ false) × (year ≡ z → ⊥)) → ((n ≡ true) × (year + 1 ≡ z)) ⊎ ((n ≡ false) × (year + 1 ≡ z → ⊥)) →
           row_plus (if l && y then a else zero_row) (row_plus (if l && n then b else zero_row) zero_row) ≡ (if l then (if y then a else (if n then b else zero_row)) else zero_row)
@@ -139,8 +139,11 @@ module _ (plan : Plan) (h : List Entry) (on : Day) (p : Period) (year : ℕ) (is
   abbrev rises : List Move
   rises = roll_moves plan (Close p) s.documents.items
 
-  abbrev carries : Bool
-  carries = line_carries plan (line_at plan line)
+  abbrev came : ℕ
+  came = carried_to plan line year (documents_of plan h).items
+
+  carried_now : carried_to plan line year s.documents.items ≡ came
+  carried_now = ap (λ (d : Documents). carried_to plan line year d.items) (documents_are plan h)
 
   encumbered_now : encumbered_sum plan line year s.documents.items ≡ encumbered plan line year h
   encumbered_now = ap (λ (d : Documents). encumbered_sum plan line year d.items) (documents_are plan h)
@@ -155,12 +158,12 @@ module _ (plan : Plan) (h : List Entry) (on : Day) (p : Period) (year : ℕ) (is
       ∙ last _
       ∙ ap (λ n. if z == year then pos 0 -ℤ pos n else pos 0) held_now
 
-  encumbered_is : moved_sum (λ m. m.encumbered) plan line z (falls ++ rises) ≡ encumbers_to (z == year) (z == year + 1) carries (encumbered plan line year h)
+  encumbered_is : moved_sum (λ m. m.encumbered) plan line z (falls ++ rises) ≡ encumbers_to (z == year) (encumbered plan line year h) (if z == year + 1 then came else 0)
   encumbered_is =
       moved_append (λ m. m.encumbered) plan line z falls rises
       ∙ (λ i. moved_none (λ m. m.encumbered) plan line z release_move (λ x. refl) (filter (λ x. rolls plan x.year (Close p)) s.documents.holds) i +ℤ roll_encumbers plan (Close p) year line z is s.documents.items i)
       ∙ first _
-      ∙ ap (encumbers_to (z == year) (z == year + 1) carries) encumbered_now
+      ∙ (λ i. encumbers_to (z == year) (encumbered_now i) (if z == year + 1 then carried_now i else 0))
 
   expended_is : moved_sum (λ m. m.expended) plan line z (falls ++ rises) ≡ pos 0
   expended_is =
@@ -168,19 +171,16 @@ module _ (plan : Plan) (h : List Entry) (on : Day) (p : Period) (year : ℕ) (is
       (moved_none (λ m. m.expended) plan line z release_move (λ x. refl) (filter (λ x. rolls plan x.year (Close p)) s.documents.holds))
       (rolls_none (λ m. m.expended) plan line z (Close p) (λ x y w. refl) s.documents.items)
 
-  carried_is : 0 + carried_by plan s.documents line z (Close p) ≡ carries_to (z == year + 1) carries (encumbered plan line year h)
-  carried_is = no_more (carried_by plan s.documents line z (Close p)) ∙ roll_carries plan (Close p) year line z is s.documents.items ∙ ap (carries_to (z == year + 1) carries) encumbered_now
+  carried_is : 0 + carried_by plan s.documents line z (Close p) ≡ (if z == year + 1 then came else 0)
+  carried_is = no_more (carried_by plan s.documents line z (Close p)) ∙ roll_carries plan (Close p) year line z is s.documents.items ∙ ap (λ (n : ℕ). if z == year + 1 then n else 0) carried_now
 
-  shape : (t n c : Bool) (a b : ℕ) → (t ≡ true → n ≡ false) →
-      (let r : Row = record { original = pos 0; appropriated = pos (carries_to n c b) -ℤ pos 0; held = if t then pos 0 -ℤ pos a else pos 0; encumbered = encumbers_to t n c b; expended = pos 0 } in r)
-      ≡ (if t then cleared_row a b else (if n then carry_row (if c then b else 0) else zero_row))
-  shape true true c a b e = let x : true ≡ false = e refl in cc
-  shape true false true a b e = refl
-  shape true false false a b e = refl
-  shape false true true a b e = λ i. record zero_row { appropriated = less_none b i; encumbered = pos b }
-  shape false true false a b e = refl
-  shape false false true a b e = refl
-  shape false false false a b e = refl
+  shape : (t n : Bool) (a b c : ℕ) → (t ≡ true → n ≡ false) →
+      (let r : Row = record { original = pos 0; appropriated = pos (if n then c else 0) -ℤ pos 0; held = if t then pos 0 -ℤ pos a else pos 0; encumbered = encumbers_to t b (if n then c else 0); expended = pos 0 } in r)
+      ≡ (if t then cleared_row a b else (if n then carry_row c else zero_row))
+  shape true true a b c e = let x : true ≡ false = e refl in cc
+  shape true false a b c e = refl
+  shape false true a b c e = λ i. record zero_row { appropriated = less_none c i; encumbered = less_none c i }
+  shape false false a b c e = refl
 
   flip : (m n : ℕ) → (m == n) ≡ (n == m)
   flip m n = grind (arith, common_steps)
@@ -191,21 +191,20 @@ module _ (plan : Plan) (h : List Entry) (on : Day) (p : Period) (year : ℕ) (is
   roll_row : moved_by plan s on (Close p) line z ≡ own plan h year line z
   roll_row =
       (λ i. record { original = pos 0; appropriated = pos (carried_is i) -ℤ pos 0; held = held_is i; encumbered = encumbered_is i; expended = expended_is i })
-      ∙ shape (z == year) (z == year + 1) carries (held plan line year h) (encumbered plan line year h) (not_next z year)
-      ∙ (λ i. if flip z year i then cleared_row (held plan line year h) (encumbered plan line year h) else (if flip z (year + 1) i then carry_row (carried_on plan line (encumbered plan line year h)) else zero_row))
+      ∙ shape (z == year) (z == year + 1) (held plan line year h) (encumbered plan line year h) came (not_next z year)
+      ∙ (λ i. if flip z year i then cleared_row (held plan line year h) (encumbered plan line year h) else (if flip z (year + 1) i then carry_row came else zero_row))
 
   -- a line that isn't there
   nothing_there : length plan.lines ≤ line → own plan h year line z ≡ zero_row
   nothing_there l =
       (λ i. if year == z then cleared_row ((sym held_now ∙ none_held plan line year l s.documents.holds) i) ((sym encumbered_now ∙ none_encumbered plan line year l s.documents.items) i)
-      else (if year + 1 == z then carry_row (carried_on plan line ((sym encumbered_now ∙ none_encumbered plan line year l s.documents.items) i)) else zero_row))
-      ∙ by_tests (year == z) (year + 1 == z) carries
+      else (if year + 1 == z then carry_row ((sym carried_now ∙ none_carried plan line year l s.documents.items) i) else zero_row))
+      ∙ by_tests (year == z) (year + 1 == z)
     where
-      by_tests : (a b c : Bool) → (if a then cleared_row 0 0 else (if b then carry_row (if c then 0 else 0) else zero_row)) ≡ zero_row
-      by_tests true b c = refl
-      by_tests false true true = refl
-      by_tests false true false = refl
-      by_tests false false c = refl
+      by_tests : (a b : Bool) → (if a then cleared_row 0 0 else (if b then carry_row 0 else zero_row)) ≡ zero_row
+      by_tests true b = refl
+      by_tests false true = refl
+      by_tests false false = refl
 
 -- the changes line by line make what an entry changes that rolls a year
 pub roll_make : (plan : Plan) (h : List Entry) (on : Day) (act : Act) (year : ℕ) → rolled_year plan act ≡ Some year → year < 2200 → Make plan (moved_by plan (registers_of plan h) on act) (changes_to plan h year (length plan.lines))

@@ -12,7 +12,7 @@ use Rattle.cf_model.proofs.Legal.{legal_push}
 use Rattle.cf_model.proofs.LegalReconciled.{changes_at_each, reconciles_at_each}
 use Rattle.cf_model.proofs.Room.{room_always}
 
-pub legal_sound : (plan : Plan) (h : List Entry) → IsWhole plan → IsLegal plan h → length h ≤ 1048576 → IsSoundState (record { plan = plan; entries = h })
+pub legal_sound : (plan : Plan) (h : List Entry) → IsWhole plan → IsLegal plan h → length h ≤ 1500000 → IsSoundState (record { plan = plan; entries = h })
 legal_sound plan h whole legal few = record {
   legal = legal;
   few = few;

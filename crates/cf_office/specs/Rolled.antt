@@ -1,26 +1,23 @@
 -- What the roll of a fiscal year changes of line numbers, line by line (own rule; GFOA Blue Book: encumbrances).
-use Rattle.std.specs.Prelude.{ℕ, zero, suc, ◌+◌, if◌then◌else◌, List, [], ◌∷◌, ◌++◌, pos, ◌-ℤ◌}
+use Rattle.std.specs.Prelude.{ℕ, zero, suc, ◌+◌, List, [], ◌∷◌, ◌++◌, pos, ◌-ℤ◌}
 use Rattle.cf_calls.specs.declared.entry.Entry.{Entry}
-use Rattle.cf_chart.specs.Plan.{Plan, line_at}
+use Rattle.cf_chart.specs.Plan.{Plan}
 use Rattle.cf_budget.specs.declared.changes.LineChange.{LineChange}
 use Rattle.cf_budget.specs.declared.row.Row.{Row}
 use Rattle.cf_budget.specs.Tables.{carry_row, zero_row}
 use Rattle.cf_model.specs.LineNumbers.{encumbered, held}
-use Rattle.cf_model.specs.Moves.{line_carries}
+use Rattle.cf_model.specs.Documents.{documents_of}
+use Rattle.cf_model.specs.Moves.{carried_to}
 use Rattle.cf_registers.specs.Moved.{change_of}
 
 -- nothing of the year stays held or encumbered
 abbrev pub cleared_row : ℕ → ℕ → Row
 cleared_row held encumbered = record zero_row { held = pos 0 -ℤ pos held; encumbered = pos 0 -ℤ pos encumbered }
 
--- what is carried of a line's encumbrances: all where its fund carries, and else nothing
-abbrev pub carried_on : Plan → ℕ → ℕ → ℕ
-carried_on plan line amount = if line_carries plan (line_at plan line) then amount else 0
-
 abbrev pub line_changes : Plan → List Entry → ℕ → ℕ → List LineChange
 line_changes plan history year line =
     change_of line year (cleared_row (held plan line year history) (encumbered plan line year history))
-    ∷ change_of line (year + 1) (carry_row (carried_on plan line (encumbered plan line year history)))
+    ∷ change_of line (year + 1) (carry_row (carried_to plan line year (documents_of plan history).items))
     ∷ []
 
 -- of the first so many lines

@@ -1,6 +1,6 @@
 //! The stripes of control lines that a call touches, as eight marks.
 
-ghost use Rattle.std.specs.Prelude.{◌≡◌, ◌==◌, ◌||◌, ◌<◌, ℕ};
+ghost use Rattle.std.specs.Prelude.{◌≡◌, ◌==◌, ◌||◌, ◌<◌, ℕ, option_map};
 ghost use Rattle.std.specs.List.{list_any};
 ghost use Rattle.cf_model.specs.Stripes as spec;
 ghost use Rattle.cf_office.specs.Marks.{mark_at};
@@ -23,13 +23,22 @@ fn mark(line: u16, marks: &mut [bool; 8])
     marks[stripe_of(LineId { number: line })] = true;
 }
 
-/// Marks the stripe of an account's line, where it has one.
+/// Marks the stripe of a line that may be there.
+fn mark_if(line: Option<LineId>, marks: &mut [bool; 8])
+    ensures { (k : ℕ) → k < 8 → mark_at marks.new k ≡ (mark_at marks.old k || spec.is_line_in k (option_map (λ l. l.number) line)) }
+{
+    if let Some(line) = line {
+        mark(line.number, marks);
+    }
+}
+
+/// Marks the stripes of an account's lines, of its fund's first level and of its later one. A call need not know in which
+/// year an item is to take them.
 fn mark_account(chart: &Chart, fund: u16, dept: u16, object: u16, marks: &mut [bool; 8])
     ensures { (k : ℕ) → k < 8 → mark_at marks.new k ≡ (mark_at marks.old k || spec.is_in chart.now k fund dept object) }
 {
-    if let Some(line) = chart.line_of(fund, dept, object) {
-        mark(line.number, marks);
-    }
+    mark_if(chart.line_in(fund, dept, object, false), marks);
+    mark_if(chart.line_in(fund, dept, object, true), marks);
 }
 
 /// Marks the stripes of lines.
@@ -70,7 +79,7 @@ fn mark_leave(chart: &Chart, act: &LeaveAct, marks: &mut [bool; 8])
 }
 
 /// The stripes that an act touches: those of its lines or of its accounts' lines, or all where documents tell which (own
-/// rule). An account without a line adds none.
+/// rule). An account has those of its lines at both levels of its fund, and without a line none.
 pub fn touched_stripes(chart: &Chart, act: &Act) -> [bool; 8]
     ensures { (k : ℕ) → k < 8 → mark_at result k ≡ spec.touches chart.now k act.now }
 {
@@ -93,6 +102,16 @@ pub fn touched_stripes(chart: &Chart, act: &Act) -> [bool; 8]
             mark_account(chart, p.fund, p.dept, p.interest, &mut marks);
         }
         Act::Leave(l) => mark_leave(chart, l, &mut marks),
+        Act::Lease(l) => {
+            let account = &l.account;
+            mark_account(
+                chart,
+                account.fund,
+                account.dept,
+                account.object,
+                &mut marks,
+            );
+        }
         Act::Order(_)
         | Act::Withdraw(_)
         | Act::CancelOrder(_)

@@ -1,6 +1,6 @@
 -- What the roll of a fiscal year in place makes of rows.
 use Rattle.std.proofs.Common.{◌≡◌, ℕ, zero, suc, ◌+◌, ◌<◌, ◌≤◌, Bool, true, false, if◌then◌else◌, ◌==◌, ◌&&◌, List, [], ◌∷◌, length, map, get_or, refl, sym, subst, arith, ◌∙◌, ap}
-use Rattle.std.proofs.lemmas.List.{get_or-map, get_or_default}
+use Rattle.std.proofs.lemmas.List.{get_or_default}
 use Rattle.std.specs.List.{AllByRecursion}
 use Rattle.cf_calls.specs.declared.shown.RequisitionState.TheVariants as requisition
 use Rattle.cf_chart.specs.Plan.{Plan}
@@ -12,13 +12,13 @@ use Rattle.cf_orders.specs.declared.rows.ExpenditureRow.{ExpenditureRow}
 use Rattle.cf_orders.specs.declared.rows.HoldRow.{HoldRow}
 use Rattle.cf_orders.specs.declared.rows.ItemRow.{ItemRow}
 use Rattle.cf_orders.specs.Extents.{AreExtents}
-use Rattle.cf_orders.specs.RowRolls.{ended_in, ended_row, lapsed_hold, lapses_row, rolled_row, rolls_row}
+use Rattle.cf_orders.specs.RowRolls.{ended_in, ended_row, lapsed_hold, lapses_row, rolls_row}
 use Rattle.cf_orders.specs.Rows.{view_hold, view_holds, view_item, view_items, AreRows, IsRow}
 use Rattle.cf_orders.specs.Steps.{IsChangedIn}
-use Rattle.cf_orders.proofs.Lapsing.{lapse_of}
+use Rattle.cf_orders.proofs.Closing.{lapse_of, roll_of}
 use Rattle.cf_orders.proofs.Lists.{map_each}
 use Rattle.cf_orders.proofs.Ranges.{changed_extents}
-use Rattle.cf_orders.proofs.Rolled.{Keeps, lapses_seen, roll_of, rolled_keeps, rolls_seen, view_carried}
+use Rattle.cf_orders.proofs.Rolled.{Keeps, ended_keeps, lapses_seen, rolls_seen, view_carried}
 
 -- rows that were all changed
 pub record IsChangedWhole {R : Type 0} (f : R → R) (old new : List R) : Type 0 where
@@ -63,7 +63,7 @@ amounts_lapsed year old new changed all k d l =
 
 module _ (plan : Plan) (year : ℕ) (orders : List Extent) (uses : List ExpenditureRow) where
   keeps : (old : List ItemRow) → AreRows orders uses old → (k : ℕ) (d : ItemRow) → k < length old → Keeps orders uses k (get_or old k d) (ended_in plan year (get_or old k d))
-  keeps old rows k d l = rolled_keeps orders uses k year (lapses_row plan (get_or old k d)) (get_or old k d) (rows k d l)
+  keeps old rows k d l = ended_keeps orders uses k plan year (get_or old k d) (rows k d l)
 
   pub rows_ended : (old new : List ItemRow) → IsChangedWhole (ended_in plan year) old new → AreRows orders uses old → AreRows orders uses new
   rows_ended old new changed rows k d l =

@@ -69,7 +69,7 @@ pub fn release_move(row: &HoldRow) -> LineMove
 }
 
 /// Whether a requisition still holds its amounts.
-pub fn is_open(state: RequisitionState) -> bool
+fn is_open(state: RequisitionState) -> bool
     ensures { result ≡ spec.is_open state }
 {
     match state {

@@ -117,12 +117,13 @@ impl Disposal {
     }
 }
 
-/// A payment of a bond, with the year that it is due in.
+/// A payment of a bond or of a lease, with the year that it is due in.
 #[derive(Clone, Copy)]
 pub struct DuePayment {
     pub due_year: u16,
     pub year: u16,
     pub fund: u16,
+    pub is_lease: bool,
     pub principal: u64,
     pub interest: u64,
 }
@@ -161,7 +162,7 @@ pub struct FunctionTotal {
     pub amount: u128,
 }
 
-/// What is charged to the city as a whole for all bonds.
+/// What is charged to the city as a whole for all bonds and leases.
 #[derive(Clone, Copy)]
 pub struct CityTotal {
     pub year: u16,
@@ -169,7 +170,7 @@ pub struct CityTotal {
 }
 
 /// A row of the posting table. Entries of other kinds have no posts. A voucher, a void and a payment of vouchers have a
-/// deed for each item; the closing of a month has one for each function with depreciation, and one for interest. So each
+/// deed for each item; the closing of a month has two for each function, of depreciation and of amortization, and one for interest. So each
 /// deed has at most five posts, and holds no list.
 #[derive(Clone, Copy)]
 pub enum Deed {
@@ -193,7 +194,7 @@ pub enum Deed {
     Dispose(Disposal),
     /// A bond is issued.
     Issue(FundAmount),
-    /// A payment of a bond falls due and is paid.
+    /// A payment of a bond or of a lease falls due and is paid.
     PayDue(DuePayment),
     /// Leave is earned by a function.
     EarnLeave(FunctionAmount),
@@ -209,6 +210,10 @@ pub enum Deed {
     Repay(FundsAmount),
     /// A month's depreciation of a function.
     Depreciate(FunctionTotal),
-    /// A month's interest of all bonds.
+    /// A month's interest of all bonds and leases.
     AccrueInterest(CityTotal),
+    /// A capital asset is leased.
+    Lease(FundAmount),
+    /// A month's amortization of a function's leased assets.
+    Amortize(FunctionTotal),
 }

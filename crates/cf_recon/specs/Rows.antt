@@ -16,10 +16,13 @@ abbrev pub items_of : Changes → model.Changes
 items_of c = record {
   outlay = c.capital_outlay;
   donated = c.donated;
+  right_to_use = c.right_to_use;
   depreciation = c.depreciation;
+  amortization = c.amortization;
   disposals = c.disposals;
   deferred = c.unavailable;
   proceeds = c.proceeds;
+  leases_issued = c.leases_issued;
   principal = c.principal_paid;
   accrued = c.accrued_interest;
   absences = c.leave;

@@ -25,14 +25,20 @@ pub struct Changes {
     pub capital_outlay: i128,
     /// The amounts of assets that were donated.
     pub donated: i128,
+    /// The amounts of assets that were leased (GASB Statement 87).
+    pub right_to_use: i128,
     /// Of the year's closed months: not above zero.
     pub depreciation: i128,
+    /// Of leased assets, over the same months: not above zero.
+    pub amortization: i128,
     /// The book value of assets that were disposed of: not above zero.
     pub disposals: i128,
     /// Bills of the levy year, less what was collected and written off in the year.
     pub unavailable: i128,
     /// Of bonds issued in the year: not above zero.
     pub proceeds: i128,
+    /// Of leases that began in the year: not above zero.
+    pub leases_issued: i128,
     /// The principal of paid payments that were due in the year.
     pub principal_paid: i128,
     pub accrued_interest: i128,
@@ -62,10 +68,13 @@ pub fn change_items(
         fund_balances: ledger.change(Basis::Fund, year),
         capital_outlay: capital.outlay,
         donated: capital.donated,
+        right_to_use: capital.right_to_use,
         depreciation: capital.depreciation,
+        amortization: capital.amortization,
         disposals: capital.disposals,
         unavailable: revenue.unavailable_change(year),
         proceeds: bonds.proceeds,
+        leases_issued: bonds.leases_issued,
         principal_paid: bonds.principal_paid,
         accrued_interest: less(debt.accrued(chart, year - 1), debt.accrued(chart, year)),
         leave: less(debt.leave_left(year - 1), debt.leave_left(year)),

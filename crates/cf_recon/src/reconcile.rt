@@ -38,8 +38,10 @@ pub fn items(
     ReconShown {
         fund_balances: ledger.total(Basis::Fund, year),
         capital_assets: assets.net(chart, year),
+        right_to_use: assets.right_to_use(chart, year),
         unavailable: revenue.unavailable(year),
         bonds: negative(debt.principal_left(chart, year)),
+        leases: negative(debt.leases_left(chart, year)),
         accrued_interest: negative(debt.accrued(chart, year)),
         leave: negative(debt.leave_left(year)),
         net_position: ledger.total(Basis::Gov, year),

@@ -4,7 +4,7 @@ use Rattle.std.specs.List.{filter}
 use Rattle.cf_base.specs.declared.calendar.Day.{Day}
 use Rattle.cf_calls.specs.declared.items.VoucherItem.{VoucherItem}
 use Rattle.cf_chart.specs.Plan.{Plan, object_at}
-use Rattle.cf_model.specs.Assets.{bought, new_asset}
+use Rattle.cf_model.specs.Assets.{bought, life_of, new_asset, purchase}
 use Rattle.cf_model.specs.Charted.{is_capital}
 
 pub bought_length : (plan : Plan) (voucher : ℕ) (on : Day) (year number : ℕ) (items : List VoucherItem) →
@@ -15,7 +15,7 @@ bought_length plan voucher on year number (i ∷ items) =
   where
     by_test : (b : Bool) → length (bought plan voucher on year (number + 1) items) ≡ length (filter (λ x. is_capital (object_at plan x.account.object)) items) →
         length (bought plan voucher on year number items) ≡ length (filter (λ x. is_capital (object_at plan x.account.object)) items) →
-        length (if b then new_asset plan (Some voucher) on year number i.account.dept i.account.object i.account.amount ∷ bought plan voucher on year (number + 1) items else bought plan voucher on year number items)
+        length (if b then new_asset plan (purchase voucher) on year number i.account.dept (life_of plan i.account.object) i.account.amount ∷ bought plan voucher on year (number + 1) items else bought plan voucher on year number items)
         ≡ length (if b then i ∷ filter (λ x. is_capital (object_at plan x.account.object)) items else filter (λ x. is_capital (object_at plan x.account.object)) items)
     by_test true more less = ap suc more
     by_test false more less = less

@@ -4,7 +4,7 @@ use Rattle.std.specs.List.{filter, AllByRecursion}
 use Rattle.cf_base.specs.declared.calendar.Day.{Day}
 use Rattle.cf_base.specs.Calendar.{is_day}
 use Rattle.cf_calls.specs.declared.acts.Act.{Act}
-use Rattle.cf_calls.specs.declared.acts.Act.TheVariants.{Requisition, Withdraw, Order, ChangeOrder, CancelOrder, Voucher, VoidVoucher, PayDue, Leave}
+use Rattle.cf_calls.specs.declared.acts.Act.TheVariants.{Requisition, Withdraw, Order, ChangeOrder, CancelOrder, Voucher, VoidVoucher, PayDue, Leave, Lease}
 use Rattle.cf_calls.specs.declared.entry.Entry.{Entry}
 use Rattle.cf_calls.specs.declared.items.AccountItem.{AccountItem}
 use Rattle.cf_calls.specs.declared.items.Charge.{Charge}
@@ -100,6 +100,8 @@ act_within plan h on (PayDue d) calendar legal day =
     spent_within (spendings_by plan (registers_of plan h) on (PayDue d)) (spendings_within plan (registers_of plan h) on (PayDue d) day (are_timely plan h calendar legal))
 act_within plan h on (Leave l) calendar legal day =
     spent_within (spendings_by plan (registers_of plan h) on (Leave l)) (spendings_within plan (registers_of plan h) on (Leave l) day (are_timely plan h calendar legal))
+act_within plan h on (Lease l) calendar legal day =
+    spent_within (spendings_by plan (registers_of plan h) on (Lease l)) (spendings_within plan (registers_of plan h) on (Lease l) day (are_timely plan h calendar legal))
 act_within plan h on act calendar legal day = by_documents act
   where
     by_documents : (a : Act) → AreWithin (document_moves plan (registers_of plan h).documents (document_number (registers_of plan h).documents a) on a)
@@ -114,6 +116,8 @@ act_out plan s on (PayDue d) stripe apart none out =
     all_map (IsSpentOut plan stripe) (IsOut plan stripe) spending_move (λ x o. o) (spendings_by plan s on (PayDue d)) (spendings_out plan s on (PayDue d) stripe out)
 act_out plan s on (Leave l) stripe apart none out =
     all_map (IsSpentOut plan stripe) (IsOut plan stripe) spending_move (λ x o. o) (spendings_by plan s on (Leave l)) (spendings_out plan s on (Leave l) stripe out)
+act_out plan s on (Lease l) stripe apart none out =
+    all_map (IsSpentOut plan stripe) (IsOut plan stripe) spending_move (λ x o. o) (spendings_by plan s on (Lease l)) (spendings_out plan s on (Lease l) stripe out)
 act_out plan s on act stripe apart none out = documents_out plan s.documents (document_number s.documents act) on act stripe apart none out
 
 -- the rules on documents, one by one

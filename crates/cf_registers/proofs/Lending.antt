@@ -14,8 +14,10 @@ use Rattle.cf_calls.specs.Acts.{adoption_of, amendment_of, transfer_of}
 use Rattle.cf_chart.specs.Plan.{Plan, line_of}
 use Rattle.cf_budget.specs.declared.changes.LineChange.{LineChange}
 use Rattle.cf_model.specs.Calendar.{rolled_year}
+use Rattle.cf_model.specs.LineNumbers.{is_line}
 use Rattle.cf_model.specs.Moves.{Move}
-use Rattle.cf_model.specs.Stripes.{stripe_of, is_line_in, is_item_in, touches}
+use Rattle.cf_model.specs.Stripes.{stripe_of, is_item_in, touches}
+use Rattle.cf_model.proofs.Touched.{off_line}
 use Rattle.cf_orders.specs.declared.moves.LineMove.{LineMove}
 use Rattle.cf_orders.specs.Register.{line_move}
 use Rattle.cf_registers.specs.Lines.{LendsTouched, LendsAccount}
@@ -29,20 +31,20 @@ clash e = cc
 
 -- the line of a move is in a stripe that the act touches
 touched_one : (plan : Plan) (act : Act) (a : AccountItem) → ((stripe : ℕ) → touches plan stripe act ≡ false → is_item_in plan stripe a ≡ false) →
-    (line : ℕ) → line_of plan a.fund a.dept a.object ≡ Some line → touches plan (stripe_of line) act ≡ true
-touched_one plan act a out line is = by_test (touches plan (stripe_of line) act) refl
+    (year line : ℕ) → line_of plan a.fund a.dept a.object year ≡ Some line → touches plan (stripe_of line) act ≡ true
+touched_one plan act a out year line is = by_test (touches plan (stripe_of line) act) refl
   where
     by_test : (b : Bool) → touches plan (stripe_of line) act ≡ b → touches plan (stripe_of line) act ≡ true
     by_test true e = e
-    by_test false e = absurd (clash (sym (ap (is_line_in (stripe_of line)) is ∙ same (stripe_of line)) ∙ out (stripe_of line) e))
+    by_test false e = absurd (clash (sym (ap (is_line line) is ∙ same line) ∙ off_line plan line year a (out (stripe_of line) e)))
 
 pub move_touched : (plan : Plan) (act : Act) (n : ℕ) (moves : List Move) (o : Option LineMove) → AreTouched plan act moves → o ≡ option_map line_move (slice_get moves n) →
-    IfSome o (λ m. LendsAccount plan (λ line. touches plan (stripe_of line) act) m.account)
-move_touched plan act n moves o touched is = subst (λ (p : Option LineMove). IfSome p (λ m. LendsAccount plan (λ line. touches plan (stripe_of line) act) m.account)) (sym is) (at n moves touched)
+    IfSome o (λ m. LendsAccount plan (λ line. touches plan (stripe_of line) act) m.account m.year)
+move_touched plan act n moves o touched is = subst (λ (p : Option LineMove). IfSome p (λ m. LendsAccount plan (λ line. touches plan (stripe_of line) act) m.account m.year)) (sym is) (at n moves touched)
   where
-    at : (n : ℕ) (moves : List Move) → AreTouched plan act moves → IfSome (option_map line_move (slice_get moves n)) (λ m. LendsAccount plan (λ line. touches plan (stripe_of line) act) m.account)
+    at : (n : ℕ) (moves : List Move) → AreTouched plan act moves → IfSome (option_map line_move (slice_get moves n)) (λ m. LendsAccount plan (λ line. touches plan (stripe_of line) act) m.account m.year)
     at n [] touched = tt
-    at zero (m ∷ moves) touched = touched_one plan act m.account (λ stripe out. (touched stripe out).0)
+    at zero (m ∷ moves) touched = touched_one plan act m.account (λ stripe out. (touched stripe out).0) m.year
     at (suc n) (m ∷ moves) touched = at n moves (λ stripe out. (touched stripe out).1)
 
 -- ---- the lines that a council's call names

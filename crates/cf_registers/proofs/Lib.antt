@@ -1,5 +1,6 @@
 pub mod Bought
 pub mod Cleared
+pub mod Gathering
 pub mod Lending
 pub mod Makes
 pub mod Moved

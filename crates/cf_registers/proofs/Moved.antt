@@ -92,14 +92,14 @@ rows_made year rows line z = by_year (year == z) refl rows
         (λ i. row_plus (if (ap (λ b. (r.line == line) && b) e ∙ and_false (r.line == line)) i then adopt_row r.amount else zero_row) (by_year false e rows i))
         ∙ zero_plus (adopt_row 0)
 
-is_there : (plan : Plan) (s : Documents) (fund line : ℕ) → unknown plan s (line_name fund line) ≡ None → line < length plan.lines
-is_there plan s fund line e = by_line (line_at plan line) refl (not_false (is_line_of fund (line_at plan line)) (refuse_none _ (refusal.UnknownName kind.Line line) e))
+is_there : (plan : Plan) (s : Documents) (fund year line : ℕ) → unknown plan s (line_name fund year line) ≡ None → line < length plan.lines
+is_there plan s fund year line e = by_line (line_at plan line) refl (not_false (is_line_of plan fund year (line_at plan line)) (refuse_none _ (refusal.UnknownName kind.Line line) e))
   where
     not_false : (b : Bool) → not b ≡ false → b ≡ true
     not_false true e = refl
     not_false false e = cc
 
-    by_line : (l : Option Line) → line_at plan line ≡ l → is_line_of fund l ≡ true → line < length plan.lines
+    by_line : (l : Option Line) → line_at plan line ≡ l → is_line_of plan fund year l ≡ true → line < length plan.lines
     by_line None e t = cc
     by_line (Some l) e t = slice_get_within plan.lines line l e
 
@@ -109,12 +109,12 @@ below m n l = grind (arith, common_steps)
 pub inside_at : (plan : Plan) (line year : ℕ) → line < length plan.lines → year < 2201 → is_inside plan line year ≡ true
 inside_at plan line year l y = λ i. below line (length plan.lines) l i && below year 2201 y i
 
-rows_inside : (plan : Plan) (s : Documents) (fund year : ℕ) (rows : List LineAmount) (rest : List Name) → year < 2201 → first_refusal (unknown plan s) (map (λ r. line_name fund r.line) rows ++ rest) ≡ None →
+rows_inside : (plan : Plan) (s : Documents) (fund year : ℕ) (rows : List LineAmount) (rest : List Name) → year < 2201 → first_refusal (unknown plan s) (map (λ r. line_name fund year r.line) rows ++ rest) ≡ None →
     list_all (λ c. is_inside plan c.line.number c.year) (adoption_changes year rows) ≡ true
 rows_inside plan s fund year [] rest y e = refl
 rows_inside plan s fund year (r ∷ rows) rest y e =
-    let both = or_else_none (unknown plan s (line_name fund r.line)) (first_refusal (unknown plan s) (map (λ r. line_name fund r.line) rows ++ rest)) e in
-    λ i. inside_at plan r.line year (is_there plan s fund r.line both.0) y i && rows_inside plan s fund year rows rest y both.1 i
+    let both = or_else_none (unknown plan s (line_name fund year r.line)) (first_refusal (unknown plan s) (map (λ r. line_name fund year r.line) rows ++ rest)) e in
+    λ i. inside_at plan r.line year (is_there plan s fund year r.line both.0) y i && rows_inside plan s fund year rows rest y both.1 i
 
 adopt_is : (act : Act) (a : Adoption) → adoption_of act ≡ Some a → act ≡ Adopt a
 adopt_is (Adopt b) a e = cc
@@ -139,8 +139,8 @@ transferred_year on act t is form =
     let f : IsActInForm on (Transfer t) = subst (λ (x : Act). IsActInForm on x) (transfer_is act t is) form in
     omega (arith, f.0.to)
 
-adopt_make : (plan : Plan) (s : Documents) (a : Adoption) → IsAdoptionForm a → name_refusal plan s (Adopt a) ≡ None → Make plan (council_moves (Adopt a)) (adoption_changes a.year a.lines)
-adopt_make plan s a form names = record {
+adopt_make : (plan : Plan) (s : Documents) (on : Day) (a : Adoption) → IsAdoptionForm a → name_refusal plan s on (Adopt a) ≡ None → Make plan (council_moves (Adopt a)) (adoption_changes a.year a.lines)
+adopt_make plan s on a form names = record {
   apart = rows_apart a.year a.lines ∙ form.lines;
   inside = rows_inside plan s a.fund a.year a.lines _ (omega (arith, form.year.to)) (or_else_none (unknown plan s (fund_name a.fund)) _ names).1;
   made = λ line year.
@@ -149,12 +149,12 @@ adopt_make plan s a form names = record {
       ∙ (λ i. record { original = pos n; appropriated = sym (less_none n) i; held = pos 0; encumbered = pos 0; expended = pos 0 });
 }
 
-pub adoption_make : (plan : Plan) (s : Registers) (on : Day) (act : Act) (a : Adoption) → adoption_of act ≡ Some a → IsActInForm on act → name_refusal plan s.documents act ≡ None →
+pub adoption_make : (plan : Plan) (s : Registers) (on : Day) (act : Act) (a : Adoption) → adoption_of act ≡ Some a → IsActInForm on act → name_refusal plan s.documents on act ≡ None →
     Make plan (plainly_moved plan s on act) (adoption_changes a.year a.lines)
 adoption_make plan s on act a is form names =
     let here = adopt_is act a is in
     subst (λ (x : Act). Make plan (plainly_moved plan s on x) (adoption_changes a.year a.lines)) (sym here)
-    (adopt_make plan s.documents a (subst (λ (x : Act). IsActInForm on x) here form) (subst (λ (x : Act). name_refusal plan s.documents x ≡ None) here names))
+    (adopt_make plan s.documents on a (subst (λ (x : Act). IsActInForm on x) here form) (subst (λ (x : Act). name_refusal plan s.documents on x ≡ None) here names))
 
 -- ---- amendments and transfers
 
@@ -162,7 +162,7 @@ by_parts : (by : ℤ) → by ≡ pos (rise_of by) -ℤ pos (fall_of by)
 by_parts (pos n) = omega (arith, ints)
 by_parts (negsuc n) = omega (arith, ints)
 
-pub amendment_make : (plan : Plan) (s : Registers) (on : Day) (act : Act) (a : Amendment) → amendment_of act ≡ Some a → IsActInForm on act → name_refusal plan s.documents act ≡ None →
+pub amendment_make : (plan : Plan) (s : Registers) (on : Day) (act : Act) (a : Amendment) → amendment_of act ≡ Some a → IsActInForm on act → name_refusal plan s.documents on act ≡ None →
     Make plan (plainly_moved plan s on act) (amendment_changes a)
 amendment_make plan s on act a is form names =
     let here = amend_is act a is in
@@ -170,7 +170,7 @@ amendment_make plan s on act a is form names =
     subst (λ (x : Act). Make plan (plainly_moved plan s on x) (amendment_changes a)) (sym here)
     (record {
       apart = refl;
-      inside = λ i. inside_at plan a.line a.year (amended_line plan s.documents act a is names) (omega (arith, f.0.to)) i && true;
+      inside = λ i. inside_at plan a.line a.year (amended_line plan s.documents on act a is names) (omega (arith, f.0.to)) i && true;
       made = λ line year. plus_zero _ ∙ by_test ((a.line == line) && (a.year == year));
     })
   where
@@ -182,21 +182,21 @@ amendment_make plan s on act a is form names =
 other : (m n : ℕ) (b : Bool) → m ≢ n → ((m == n) && b) ≡ false
 other m n b d = grind (arith, common_steps)
 
-pub transfer_make : (plan : Plan) (s : Registers) (on : Day) (act : Act) (t : LineTransfer) → transfer_of act ≡ Some t → IsActInForm on act → name_refusal plan s.documents act ≡ None →
+pub transfer_make : (plan : Plan) (s : Registers) (on : Day) (act : Act) (t : LineTransfer) → transfer_of act ≡ Some t → IsActInForm on act → name_refusal plan s.documents on act ≡ None →
     Make plan (plainly_moved plan s on act) (transfer_changes t)
 transfer_make plan s on act t is form names =
     let here = transfer_is act t is in
     let f : IsYear t.year × (t.from ≢ t.to) = subst (λ (x : Act). IsActInForm on x) here form in
-    let named : name_refusal plan s.documents (Transfer t) ≡ None = subst (λ (x : Act). name_refusal plan s.documents x ≡ None) here names in
-    let fund = or_else_none (unknown plan s.documents (fund_name t.fund)) (or_else (unknown plan s.documents (line_name t.fund t.from)) (or_else (unknown plan s.documents (line_name t.fund t.to)) None)) named in
-    let from = or_else_none (unknown plan s.documents (line_name t.fund t.from)) (or_else (unknown plan s.documents (line_name t.fund t.to)) None) fund.1 in
-    let to = or_else_none (unknown plan s.documents (line_name t.fund t.to)) None from.1 in
+    let named : name_refusal plan s.documents on (Transfer t) ≡ None = subst (λ (x : Act). name_refusal plan s.documents on x ≡ None) here names in
+    let fund = or_else_none (unknown plan s.documents (fund_name t.fund)) (or_else (unknown plan s.documents (line_name t.fund t.year t.from)) (or_else (unknown plan s.documents (line_name t.fund t.year t.to)) None)) named in
+    let from = or_else_none (unknown plan s.documents (line_name t.fund t.year t.from)) (or_else (unknown plan s.documents (line_name t.fund t.year t.to)) None) fund.1 in
+    let to = or_else_none (unknown plan s.documents (line_name t.fund t.year t.to)) None from.1 in
     let y : t.year < 2201 = omega (arith, f.0.to) in
     let apart : t.to ≢ t.from = λ e. f.1 (sym e) in
     subst (λ (x : Act). Make plan (plainly_moved plan s on x) (transfer_changes t)) (sym here)
     (record {
       apart = rw (other t.to t.from (t.year == t.year) apart) refl;
-      inside = λ i. inside_at plan t.to t.year (is_there plan s.documents t.fund t.to to.0) y i && (inside_at plan t.from t.year (is_there plan s.documents t.fund t.from from.0) y i && true);
+      inside = λ i. inside_at plan t.to t.year (is_there plan s.documents t.fund t.year t.to to.0) y i && (inside_at plan t.from t.year (is_there plan s.documents t.fund t.year t.from from.0) y i && true);
       made = λ line year. by_test ((t.to == line) && (t.year == year)) ((t.from == line) && (t.year == year));
     })
   where

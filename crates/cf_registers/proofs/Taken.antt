@@ -4,7 +4,7 @@ use Rattle.std.specs.List.{filter}
 use Rattle.std.proofs.lemmas.Bool.Decides.{leb_tells}
 use Rattle.cf_base.specs.declared.calendar.Day.{Day}
 use Rattle.cf_calls.specs.declared.acts.Act.{Act}
-use Rattle.cf_calls.specs.declared.acts.Act.TheVariants.{Voucher, VoidVoucher, Asset, Issue, PayDue, Close}
+use Rattle.cf_calls.specs.declared.acts.Act.TheVariants.{Voucher, VoidVoucher, Asset, Issue, PayDue, Close, Lease}
 use Rattle.cf_calls.specs.declared.acts.AssetAct.TheVariants.{Donate, Dispose}
 use Rattle.cf_calls.specs.declared.entry.Drawn.{Drawn}
 use Rattle.cf_calls.specs.declared.entry.Entry.{Entry}
@@ -19,7 +19,7 @@ use Rattle.cf_model.specs.Months.{number_of_day}
 use Rattle.cf_model.specs.Moves.{moves_of}
 use Rattle.cf_model.specs.ReceivableRules.{receivable_refusal}
 use Rattle.cf_model.specs.Receivables.{Receivables, Bill, bills_by, loans_by, receivables_step, repayments_by, settlements_by}
-use Rattle.cf_model.specs.RegisterRules.{asset_refusal, debt_refusal, disposed_asset, voided_asset, levy_refusal, register_name_refusal, unknown_bond, unknown_payment}
+use Rattle.cf_model.specs.RegisterRules.{asset_refusal, debt_refusal, disposed_asset, voided_asset, levy_refusal, payment_year, register_name_refusal, unknown_bond, unknown_payment}
 use Rattle.cf_model.specs.Registers.{Registers, registers_of, registers_step, no_registers}
 use Rattle.cf_model.specs.Results.{bill_draws, bond_at, document_draws, draws, made_of, results_of}
 use Rattle.cf_model.specs.Rules.{closed_refusal, closed_year, first_refusal, or_else}
@@ -27,7 +27,7 @@ use Rattle.cf_model.specs.Step.{Adds, IsLegal}
 use Rattle.cf_model.proofs.Accepted.{accepted, accepted_fits}
 use Rattle.cf_debt.specs.Register.{IsEarlyIssue, IsThere, debt_draws, Debts}
 use Rattle.cf_assets.specs.Register as assets
-use Rattle.cf_model.specs.Assets.{Asset as CapitalAsset}
+use Rattle.cf_model.specs.Assets.{Asset as CapitalAsset, voucher_of}
 use Rattle.cf_model.specs.Bonds.{bonds_by}
 use Rattle.cf_model.proofs.AssetNumbers.{assets_named}
 use Rattle.cf_model.proofs.BondNumbers.{named_always}
@@ -81,14 +81,14 @@ document_kept plan h on (Voucher v) day first none = omega (arith, first, year_o
 document_kept plan h on _ day first none = day
 
 -- the bond of a payment is there
-bond_there : (plan : Plan) (s : Registers) (a : Act) → register_name_refusal plan s a ≡ None → IsThere s.bonds a
-bond_there plan s (PayDue p) none =
-    by_test (is_some (bond_at p.bond s.bonds)) (refuse_none (not (is_some (bond_at p.bond s.bonds))) (refusal.UnknownName kind.Bond p.bond) (or_else_none (unknown_bond s.bonds p.bond) (unknown_payment plan p) none).0)
+bond_there : (plan : Plan) (s : Registers) (on : Day) (a : Act) → register_name_refusal plan s on a ≡ None → IsThere s.bonds a
+bond_there plan s on (PayDue p) none =
+    by_test (is_some (bond_at p.bond s.bonds)) (refuse_none (not (is_some (bond_at p.bond s.bonds))) (refusal.UnknownName kind.Bond p.bond) (or_else_none (unknown_bond s.bonds p.bond) (unknown_payment plan (payment_year plan (year_of_day plan on) (bond_at p.bond s.bonds)) p) none).0)
   where
     by_test : (b : Bool) → not b ≡ false → b ≡ true
     by_test true e = refl
     by_test false e = cc
-bond_there plan s _ none = tt
+bond_there plan s on _ none = tt
 
 pub can_take_in : (plan : Plan) (h : List Entry) (e : Entry) (s : RegistersState) → IsWhole plan → IsLegal plan h → Adds plan h e → s.registers ≡ registers_of plan h → HaveTaken (length h) s →
     HasRoomFor e.change.act s → CanTakeIn plan s e
@@ -107,7 +107,7 @@ can_take_in plan h e s whole legal adds registers taken room =
       amounts = a.amounts;
       early = subst (λ (r : Registers). r.closed ≤ number_of_day plan e.change.on) (sym registers) from;
       year = document_kept plan h e.change.on e.change.act first (years_are plan h legal).from a.closed;
-      there = subst (λ (r : Registers). IsThere r.bonds e.change.act) (sym registers) (bond_there plan (registers_of plan h) e.change.act a.register_names);
+      there = subst (λ (r : Registers). IsThere r.bonds e.change.act) (sym registers) (bond_there plan (registers_of plan h) e.change.on e.change.act a.register_names);
       levied = ap (λ (r : Registers). levy_refusal plan r e.change.on e.change.act) registers ∙ a.levied;
       documents = ap (λ (d : Documents). document_refusal plan d e.change.on e.change.desk e.change.act) documents ∙ allowed plan h e adds;
       receivables = ap (λ (r : Registers). receivable_refusal r.receivables e.change.act) registers ∙ a.receivables;
@@ -152,6 +152,7 @@ receivables_drawn plan s e drawn own is =
 -- so do the bonds
 bonds_numbered : (plan : Plan) (s : Registers) (on : Day) (a : Act) → bonds_by plan on a (debt_draws s.bonds a) ≡ bonds_by plan on a (draws s a)
 bonds_numbered plan s on (Issue i) = refl
+bonds_numbered plan s on (Lease l) = refl
 bonds_numbered plan s on _ = refl
 
 pub bonds_drawn : (plan : Plan) (s : Registers) (e : Entry) (drawn : Drawn) → drawn ≡ debt_draws s.bonds e.change.act → e.drawn ≡ draws s e.change.act →
@@ -159,14 +160,15 @@ pub bonds_drawn : (plan : Plan) (s : Registers) (e : Entry) (drawn : Drawn) → 
 bonds_drawn plan s e drawn own is =
     ap (bonds_by plan e.change.on e.change.act) own ∙ bonds_numbered plan s e.change.on e.change.act ∙ ap (bonds_by plan e.change.on e.change.act) (sym is)
 
--- an issue's month isn't closed
+-- the month of an issue or of a lease isn't closed
 pub early_issue : (plan : Plan) (d : Debts) (on : Day) (a : Act) → d.closed ≤ number_of_day plan on → IsEarlyIssue plan d on a
 early_issue plan d on (Issue i) early = early
+early_issue plan d on (Lease l) early = early
 early_issue plan d on _ early = tt
 
 -- the rule on assets reads assets and closed months alone
 pub asset_same : (s t : Registers) (on : Day) (a : Act) → s.assets ≡ t.assets → s.closed ≡ t.closed → asset_refusal s on a ≡ asset_refusal t on a
-asset_same s t on (VoidVoucher n) assets closed = λ i. first_refusal (voided_asset (closed i)) (filter (λ a. is_number a.voucher n) (assets i))
+asset_same s t on (VoidVoucher n) assets closed = λ i. first_refusal (voided_asset (closed i)) (filter (λ a. is_number (voucher_of a.origin) n) (assets i))
 asset_same s t on (Asset (Donate d)) assets closed = refl
 asset_same s t on (Asset (Dispose d)) assets closed = ap (λ (xs : List CapitalAsset). first_refusal (disposed_asset on) (filter (λ a. a.number == d.asset) xs)) assets
 asset_same s t on _ assets closed = refl
@@ -179,6 +181,7 @@ next_numbers s r (Voucher v) drawn of vouchers is = record {
 }
 next_numbers s r (Asset (Donate d)) drawn of vouchers is = ap (λ (x : Drawn). x.number) is ∙ ap (λ (xs : List CapitalAsset). length xs + 1) of.assets
 next_numbers s r (Asset (Dispose d)) drawn of vouchers is = tt
+next_numbers s r (Lease l) drawn of vouchers is = ap (λ (x : Drawn). x.number) is ∙ ap (λ (xs : List CapitalAsset). length xs + 1) of.assets
 next_numbers s r _ drawn of vouchers is = tt
 
 -- the moves of an act that rolls no year are those of its documents, or what it spends beside them

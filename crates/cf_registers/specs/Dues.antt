@@ -1,7 +1,8 @@
--- What a payment that is due takes of cash, and spends of lines.
+-- What a payment that is due takes of cash, and what payments, leave and leases spend of lines.
 use Rattle.std.specs.Prelude.{ℕ, ◌+◌, List, [], ◌∷◌, Option, Some, None}
 use Rattle.cf_calls.specs.declared.acts.DebtPayment.{DebtPayment}
 use Rattle.cf_calls.specs.declared.acts.LeaveMaturity.{LeaveMaturity}
+use Rattle.cf_calls.specs.declared.acts.NewLease.{NewLease}
 use Rattle.cf_debt.specs.declared.debt.Due.{Due}
 use Rattle.cf_model.specs.Spendings.{Spending}
 
@@ -20,3 +21,7 @@ spent_now p d =
 -- leave that is paid out in a year
 abbrev pub paid_leave : LeaveMaturity → ℕ → List Spending
 paid_leave l year = record { account = record { fund = l.fund; dept = l.dept; object = l.object; amount = l.amount }; year = year } ∷ []
+
+-- a lease, in the year in which it begins
+abbrev pub leased : NewLease → ℕ → List Spending
+leased l year = record { account = l.account; year = year } ∷ []

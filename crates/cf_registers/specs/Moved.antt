@@ -4,7 +4,7 @@ use Rattle.std.specs.List.{filter, list_all, AllByRecursion}
 use Rattle.cf_base.specs.declared.calendar.Day.{Day}
 use Rattle.cf_base.specs.Calendar.{is_day}
 use Rattle.cf_calls.specs.declared.acts.Act.{Act}
-use Rattle.cf_calls.specs.declared.acts.Act.TheVariants.{PayDue, Leave}
+use Rattle.cf_calls.specs.declared.acts.Act.TheVariants.{PayDue, Leave, Lease}
 use Rattle.cf_calls.specs.declared.acts.Amendment.{Amendment}
 use Rattle.cf_calls.specs.declared.acts.LineTransfer.{LineTransfer}
 use Rattle.cf_calls.specs.declared.entry.Entry.{Entry}
@@ -43,6 +43,7 @@ AreTablesOf plan history tables = (line year : ℕ) → has_line tables line ≡
 abbrev pub act_moves : Plan → Registers → Day → Act → List Move
 act_moves plan s on (PayDue d) = map spending_move (spendings_by plan s on (PayDue d))
 act_moves plan s on (Leave l) = map spending_move (spendings_by plan s on (Leave l))
+act_moves plan s on (Lease l) = map spending_move (spendings_by plan s on (Lease l))
 act_moves plan s on act = document_moves plan s.documents (document_number s.documents act) on act
 
 -- moves in stripes that an act touches

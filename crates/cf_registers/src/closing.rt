@@ -1,8 +1,10 @@
-//! What the close of a month does to accounts: a charge of depreciation for each function, and one of interest.
+//! What the close of a month does to accounts: for each function a charge of depreciation and one of amortization, and one
+//! of interest.
 
-ghost use Rattle.std.specs.Prelude.{◌≡◌, map, IfOk};
+ghost use Rattle.std.specs.Prelude.{◌≡◌, ◌++◌, true, false, map, IfOk, OnOk};
+ghost use Rattle.cf_assets.specs.Charges.{of_kind};
 ghost use Rattle.cf_model.specs.Deeds as spec;
-ghost use Rattle.cf_registers.specs.Deeds.{charge_deed};
+ghost use Rattle.cf_registers.specs.Deeds.{amortize_deed, charge_deed};
 
 use crate::registers::Registers;
 use cf_assets::Assets;
@@ -10,16 +12,16 @@ use cf_chart::Chart;
 use cf_post::deed::{CityTotal, Deed, FunctionTotal};
 use std::alloc::{AllocError, Global};
 
-/// The depreciation of each function: of all its assets.
+/// The depreciation of each function: of all assets that the city owns.
 fn depreciate(
     alloc: Global,
     chart: &Chart,
     assets: &Assets,
     year: u16,
 ) -> Result<Vec<Deed>, AllocError>
-    ensures { IfOk result (λ v. v.items ≡ map (charge_deed year assets.now.closed assets.now.assets) chart.now.functions) }
+    ensures { IfOk result (λ v. v.items ≡ map (charge_deed year assets.now.closed (of_kind false assets.now.assets)) chart.now.functions) }
 {
-    let charges = assets.month_charges(chart);
+    let charges = assets.month_charges(chart, false);
     let functions = chart.functions();
     let mut deeds = Vec::new(alloc);
     for place in 0..functions.len() {
@@ -32,7 +34,28 @@ fn depreciate(
     Ok(deeds)
 }
 
-/// What the close of the next month does: a deed for each function, and one with the interest of all bonds.
+/// Appends the amortization of each function: of all assets that the city leases (GASB Statement 87).
+fn amortize(
+    deeds: &mut Vec<Deed>,
+    chart: &Chart,
+    assets: &Assets,
+    year: u16,
+) -> Result<(), AllocError>
+    ensures { OnOk result (deeds.new.items ≡ deeds.old.items ++ map (amortize_deed year assets.now.closed (of_kind true assets.now.assets)) chart.now.functions) }
+{
+    let charges = assets.month_charges(chart, true);
+    let functions = chart.functions();
+    for place in 0..functions.len() {
+        deeds.push(Deed::Amortize(FunctionTotal {
+            year,
+            function: functions[place].id,
+            amount: charges[place],
+        }))?;
+    }
+    Ok(())
+}
+
+/// What the close of the next month does: two deeds for each function, and one with the interest of all bonds and leases.
 pub fn close_month(
     alloc: Global,
     chart: &Chart,
@@ -42,6 +65,7 @@ pub fn close_month(
 {
     let year = chart.first_year() + registers.closed() / 12;
     let mut deeds = depreciate(alloc, chart, registers.assets(), year)?;
+    amortize(&mut deeds, chart, registers.assets(), year)?;
     deeds.push(Deed::AccrueInterest(CityTotal {
         year,
         amount: registers.debt().month_interest(),

@@ -11,7 +11,7 @@ ghost use Rattle.cf_registers.specs.Numbered.{AreNumbered};
 
 use crate::capital::is_capital;
 use crate::closing::close_month;
-use crate::long_term::{asset_deeds, issue, leave, pay_due};
+use crate::long_term::{asset_deeds, issue, lease, leave, pay_due};
 use crate::registers::Registers;
 use cf_base::Day;
 use cf_calls::Act;
@@ -279,6 +279,7 @@ pub fn deeds(
         Act::Receive(receipt) => one(alloc, receive(chart, year_of_day(chart, on), receipt)),
         Act::Asset(asset) => asset_deeds(alloc, chart, registers, on, asset),
         Act::Issue(bond) => one(alloc, issue(year_of_day(chart, on), bond)),
+        Act::Lease(contract) => one(alloc, lease(year_of_day(chart, on), contract)),
         Act::PayDue(payment) => pay_due(alloc, chart, registers.debt(), on, payment),
         Act::Leave(what) => leave(alloc, chart, on, what),
         Act::Interfund(moved) => one(alloc, move_funds(year_of_day(chart, on), moved)),

@@ -13,7 +13,7 @@ use crate::deeds::{function_of, one};
 use crate::registers::Registers;
 use cf_assets::Assets;
 use cf_base::Day;
-use cf_calls::acts::{AssetAct, BondIssue, DebtPayment, Disposal, Donation, LeaveAct};
+use cf_calls::acts::{AssetAct, BondIssue, DebtPayment, Disposal, Donation, LeaveAct, NewLease};
 use cf_chart::Chart;
 use cf_debt::Debt;
 use cf_orders::year_of_day;
@@ -88,7 +88,18 @@ pub fn issue(year: u16, bond: &BondIssue) -> Deed
     })
 }
 
-/// The next payment of a bond is paid, in the fiscal year in which it is due.
+/// A lease begins: the fund has other financing and an expenditure of its amount (GASB Statement 87).
+pub fn lease(year: u16, contract: &NewLease) -> Deed
+    ensures { result ≡ Deed.Lease (record { year = year; fund = contract.now.account.fund; amount = contract.now.account.amount }) }
+{
+    Deed::Lease(FundAmount {
+        year,
+        fund: contract.account.fund,
+        amount: contract.account.amount,
+    })
+}
+
+/// The next payment of a bond or of a lease is paid, in the fiscal year in which it is due.
 pub fn pay_due(
     alloc: Global,
     chart: &Chart,
@@ -107,6 +118,7 @@ pub fn pay_due(
                 due_year: due.year,
                 year: year_of_day(chart, on),
                 fund: payment.fund,
+                is_lease: due.is_lease,
                 principal: due.principal,
                 interest: due.interest,
             }),

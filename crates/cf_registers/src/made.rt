@@ -85,6 +85,10 @@ fn made_by(chart: &Chart, registers: &Registers, on: Day, drawn: Drawn, act: &Ac
         Act::Collect(part) => made_year(chart, registers.revenue(), on, part.bill),
         Act::Asset(AssetAct::Donate(_)) => Made::Asset { number },
         Act::Issue(_) => Made::Bond { number },
+        Act::Lease(_) => Made::Lease {
+            asset: number,
+            bond: drawn.second,
+        },
         Act::PayDue(payment) => made_paid(chart, registers.debt(), payment.bond),
         _ => Made::Nothing,
     }

@@ -106,13 +106,13 @@ fn add_move(changes: &mut MergedChanges, chart: &Chart, moved: &LineMove)
     ensures apart { is_distinct same_place changes.new.items ≡ true }
     ensures inside { list_all (λ c. is_inside chart.now c.line.number c.year) changes.new.items ≡ true }
     ensures adds { (m z : ℕ) → changes_at changes.new.items m z ≡ row_plus (changes_at changes.old.items m z) (row_at_move chart.now m z moved.now) }
-    ensures lines { (p : ℕ → Bool) → LendsAccount chart.now p moved.now.account → list_all (λ c. p c.line.number) changes.old.items ≡ true → list_all (λ c. p c.line.number) changes.new.items ≡ true }
+    ensures lines { (p : ℕ → Bool) → LendsAccount chart.now p moved.now.account moved.now.year → list_all (λ c. p c.line.number) changes.old.items ≡ true → list_all (λ c. p c.line.number) changes.new.items ≡ true }
 {
     if is_nothing(moved) {
         return;
     }
     let account = &moved.account;
-    let Some(line) = chart.line_of(account.fund, account.dept, account.object) else {
+    let Some(line) = chart.line_of(account.fund, account.dept, account.object, moved.year) else {
         return;
     };
     merge(
@@ -136,7 +136,7 @@ fn add_if(changes: &mut MergedChanges, chart: &Chart, moved: Option<LineMove>)
     ensures apart { is_distinct same_place changes.new.items ≡ true }
     ensures inside { list_all (λ c. is_inside chart.now c.line.number c.year) changes.new.items ≡ true }
     ensures adds { (m z : ℕ) → changes_at changes.new.items m z ≡ row_plus (changes_at changes.old.items m z) (row_if chart.now m z moved) }
-    ensures lines { (p : ℕ → Bool) → IfSome moved (λ m. LendsAccount chart.now p m.account) → list_all (λ c. p c.line.number) changes.old.items ≡ true → list_all (λ c. p c.line.number) changes.new.items ≡ true }
+    ensures lines { (p : ℕ → Bool) → IfSome moved (λ m. LendsAccount chart.now p m.account m.year) → list_all (λ c. p c.line.number) changes.old.items ≡ true → list_all (λ c. p c.line.number) changes.new.items ≡ true }
 {
     if let Some(moved) = moved {
         add_move(changes, chart, &moved);
@@ -150,7 +150,7 @@ fn moves(chart: &Chart, registers: &Registers, act: &Act) -> usize
     ensures few { (on : OnDay) → IsActInForm on act.now → result ≤ 64 }
 {
     match act {
-        Act::PayDue(_) | Act::Leave(_) => spendings(chart, registers, act),
+        Act::PayDue(_) | Act::Leave(_) | Act::Lease(_) => spendings(chart, registers, act),
         _ => registers.orders().moves(act),
     }
 }
@@ -163,7 +163,9 @@ fn move_at(chart: &Chart, registers: &Registers, on: Day, act: &Act, nth: usize)
     ensures small { IfSome result IsSmall }
 {
     match act {
-        Act::PayDue(_) | Act::Leave(_) => spending_at(chart, registers, on, act, nth),
+        Act::PayDue(_) | Act::Leave(_) | Act::Lease(_) => {
+            spending_at(chart, registers, on, act, nth)
+        }
         _ => registers.orders().move_at(chart, on, act, nth),
     }
 }
@@ -191,7 +193,7 @@ pub fn entry_changes(
     act: &Act,
 ) -> Result<Vec<LineChange>, AllocError>
     requires cleared { IsCleared chart.now registers.now.registers on act.now }
-    requires names { rules.name_refusal chart.now registers.now.registers.documents act.now ≡ None }
+    requires names { rules.name_refusal chart.now registers.now.registers.documents on act.now ≡ None }
     ensures make { IfOk result (λ v. Make chart.now (plainly_moved chart.now registers.now.registers on act.now) v.items) }
     ensures touched { IfOk result (λ v. list_all (λ c. touches chart.now (stripe_of c.line.number) act.now) v.items ≡ true) }
 {

@@ -137,18 +137,19 @@ impl Registers {
     {
         match act {
             Act::Bill(_) => self.revenue.draws(act).number,
-            Act::Asset(_) => self.assets.draws(act).number,
+            Act::Asset(_) | Act::Lease(_) => self.assets.draws(act).number,
             Act::Issue(_) | Act::PayDue(_) => self.debt.draws(act).number,
             _ => self.orders.draws(act).number,
         }
     }
 
-    /// The number of the first asset of a voucher, or of the next one where it has none.
+    /// The number of the first asset of a voucher, or of the next one where it has none, and that of a lease's bond.
     fn second(&self, act: &Act) -> u32
         ensures { result ≡ (results.draws self.now.registers act.now).second }
     {
         match act {
             Act::Voucher(_) => self.assets.draws(act).second,
+            Act::Lease(_) => self.debt.draws(act).second,
             _ => 0,
         }
     }

@@ -1,5 +1,5 @@
-//! What an act spends of control lines besides documents: a debt payment, in the fiscal year in which it is due, and
-//! leave that is paid out.
+//! What an act spends of control lines besides documents: a debt payment, in the fiscal year in which it is due, leave
+//! that is paid out, and a lease.
 
 ghost use Rattle.std.specs.Prelude.{◌≡◌, ◌≤◌, length, map, slice_get, option_map, IfSome, true, ℕ};
 ghost use Rattle.cf_base.specs.Calendar.{is_day};
@@ -8,12 +8,12 @@ ghost use Rattle.cf_model.specs.Moves as model;
 ghost use Rattle.cf_model.specs.Spendings.{spendings_by};
 ghost use Rattle.cf_orders.specs.Register.{line_move, IsSmall};
 ghost use Rattle.cf_registers.specs.Numbered.{AreNumberedBonds};
-ghost use Rattle.cf_registers.specs.Dues.{spent_now, paid_leave};
+ghost use Rattle.cf_registers.specs.Dues.{spent_now, paid_leave, leased};
 
 use crate::registers::Registers;
 use cf_base::Day;
 use cf_calls::Act;
-use cf_calls::acts::{DebtPayment, LeaveAct, LeaveMaturity};
+use cf_calls::acts::{DebtPayment, LeaveAct, LeaveMaturity, NewLease};
 use cf_calls::items::AccountItem;
 use cf_chart::Chart;
 use cf_debt::Due;
@@ -80,6 +80,18 @@ fn maturity_at(leave: &LeaveMaturity, year: u16, nth: usize) -> Option<LineMove>
     }
 }
 
+/// What a lease spends as it begins (GASB Statement 87: in a governmental fund it is an expenditure).
+fn lease_at(lease: &NewLease, year: u16, nth: usize) -> Option<LineMove>
+    ensures value { result ≡ option_map line_move (slice_get (map model.spending_move (leased lease.now year)) nth) }
+    ensures small { IfSome result IsSmall }
+{
+    if nth == 0 {
+        Some(expend(lease.account, year))
+    } else {
+        None
+    }
+}
+
 /// How many amounts an act spends besides documents.
 pub fn spendings(chart: &Chart, registers: &Registers, act: &Act) -> usize
     requires { AreNumberedBonds registers.now.registers.bonds }
@@ -91,7 +103,7 @@ pub fn spendings(chart: &Chart, registers: &Registers, act: &Act) -> usize
             Some(_) => 2,
             None => 0,
         },
-        Act::Leave(LeaveAct::Mature(_)) => 1,
+        Act::Leave(LeaveAct::Mature(_)) | Act::Lease(_) => 1,
         _ => 0,
     }
 }
@@ -115,6 +127,7 @@ pub fn spending_at(
             None => None,
         },
         Act::Leave(LeaveAct::Mature(leave)) => maturity_at(leave, year_of_day(chart, on), nth),
+        Act::Lease(lease) => lease_at(lease, year_of_day(chart, on), nth),
         _ => None,
     }
 }

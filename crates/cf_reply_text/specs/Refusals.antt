@@ -62,6 +62,7 @@ abbrev pub fault_word : AssetFault → List ℕ
 fault_word asset.Void = codes "void"
 fault_word asset.Disposed = codes "disposed"
 fault_word asset.Charged = codes "charged"
+fault_word asset.Leased = codes "leased"
 fault_word asset.Later = codes "later"
 
 -- the field that names a refusal

@@ -2,7 +2,7 @@
 use Rattle.std.specs.Prelude.{ℕ, ◌≤◌, List, [], ◌∷◌, true, codes, Option, Some, None, ⊤}
 use Rattle.serde_json.specs.Data.{Data, array, string, boolean}
 use Rattle.cf_calls.specs.declared.reply.Made.{Made}
-use Rattle.cf_calls.specs.declared.reply.Made.TheVariants.{Nothing, Requisition, Order, Voucher, Bill, Year, Asset, Bond, Paid}
+use Rattle.cf_calls.specs.declared.reply.Made.TheVariants.{Nothing, Requisition, Order, Voucher, Bill, Year, Asset, Bond, Lease, Paid}
 use Rattle.cf_calls.specs.declared.reply.Body.{Body}
 use Rattle.cf_calls.specs.declared.reply.Body.TheVariants.{Done, Refused, Shown}
 use Rattle.cf_calls.specs.declared.reply.Reply.{Reply}
@@ -24,6 +24,7 @@ made_data (Bill number) = fields ((codes "bill", count number) ∷ [])
 made_data (Year year) = fields ((codes "year", count year) ∷ [])
 made_data (Asset number) = fields ((codes "asset", count number) ∷ [])
 made_data (Bond number) = fields ((codes "bond", count number) ∷ [])
+made_data (Lease asset bond) = fields ((codes "asset", count asset) ∷ (codes "bond", count bond) ∷ [])
 made_data (Paid interest principal) = fields ((codes "interest", cents interest) ∷ (codes "principal", cents principal) ∷ [])
 
 -- how many assets a result lists

@@ -57,7 +57,7 @@ next_data None = string []
 next_data (Some d) = day d
 
 abbrev pub recon_data : ReconShown → Data
-recon_data r = fields ((codes "accrued_interest", signed_cents r.accrued_interest) ∷ (codes "bonds", signed_cents r.bonds) ∷ (codes "capital_assets", signed_cents r.capital_assets) ∷ (codes "fund_balances", signed_cents r.fund_balances) ∷ (codes "leave", signed_cents r.leave) ∷ (codes "net_position", signed_cents r.net_position) ∷ (codes "unavailable", signed_cents r.unavailable) ∷ [])
+recon_data r = fields ((codes "accrued_interest", signed_cents r.accrued_interest) ∷ (codes "bonds", signed_cents r.bonds) ∷ (codes "capital_assets", signed_cents r.capital_assets) ∷ (codes "fund_balances", signed_cents r.fund_balances) ∷ (codes "leases", signed_cents r.leases) ∷ (codes "leave", signed_cents r.leave) ∷ (codes "net_position", signed_cents r.net_position) ∷ (codes "right_to_use", signed_cents r.right_to_use) ∷ (codes "unavailable", signed_cents r.unavailable) ∷ [])
 
 -- the label, and then the amounts
 abbrev pub row_data : Row → Data

@@ -99,6 +99,7 @@ fn fault_word(fault: AssetFault) -> &'static str
         AssetFault::Void => "void",
         AssetFault::Disposed => "disposed",
         AssetFault::Charged => "charged",
+        AssetFault::Leased => "leased",
         AssetFault::Later => "later",
     }
 }

@@ -64,6 +64,13 @@ fn put_made(out: &mut Vec<u8>, made: &Made) -> Result<(), AllocError>
         Made::Year { year } => put_one(out, "year", year as u64),
         Made::Asset { number } => put_one(out, "asset", number as u64),
         Made::Bond { number } => put_one(out, "bond", number as u64),
+        Made::Lease { asset, bond } => put_object(
+            out,
+            &[
+                ("asset", Number(asset as u64)),
+                ("bond", Number(bond as u64)),
+            ],
+        ),
         Made::Paid {
             interest,
             principal,

@@ -329,8 +329,10 @@ fn put_recon(out: &mut Vec<u8>, recon: ReconShown) -> Result<(), AllocError>
             ("bonds", Signed(recon.bonds)),
             ("capital_assets", Signed(recon.capital_assets)),
             ("fund_balances", Signed(recon.fund_balances)),
+            ("leases", Signed(recon.leases)),
             ("leave", Signed(recon.leave)),
             ("net_position", Signed(recon.net_position)),
+            ("right_to_use", Signed(recon.right_to_use)),
             ("unavailable", Signed(recon.unavailable)),
         ],
     )

@@ -32,7 +32,7 @@ due_over plan h chart debts bond r plans registers is = sym (is ∙ (λ i. due_n
 -- ---- deeds
 
 abbrev pub due_deed : Plan → Day → ℕ → DueNow → Deed
-due_deed plan on fund d = deed.PayDue (record { due_year = d.year; year = year_of_day plan on; fund = fund; principal = d.principal; interest = d.interest })
+due_deed plan on fund d = deed.PayDue (record { due_year = d.year; year = year_of_day plan on; fund = fund; is_lease = d.is_lease; principal = d.principal; interest = d.interest })
 
 pub paid_deeds : (plan : Plan) (on : Day) (fund : ℕ) (o : Option Bond) (d : DueNow) → due_now plan o ≡ Some d → bonds_deeds plan on fund (bonds_if o) ≡ due_deed plan on fund d ∷ []
 paid_deeds plan on fund None d e = cc

@@ -15,7 +15,8 @@ use Rattle.cf_budget.proofs.Applies.{both, number}
 use Rattle.cf_budget.proofs.Merges.{only_at}
 use Rattle.cf_model.specs.LineNumbers.{counts}
 use Rattle.cf_model.specs.Moves.{Move, asks_of_moves}
-use Rattle.cf_model.specs.Rules.{first_below, overspends}
+use Rattle.cf_calls.specs.Refusals.{overspends}
+use Rattle.cf_model.specs.Rules.{first_below}
 use Rattle.cf_model.proofs.First.{first_below_found, none_below}
 use Rattle.cf_rules.specs.declared.exceeds.Excess.{Excess}
 use Rattle.cf_rules.specs.Least.{is_before, lesser, least_from, excess_of, excess_by, refusal_in}

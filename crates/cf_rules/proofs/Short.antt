@@ -2,6 +2,7 @@
 use Rattle.std.proofs.Common.{◌≡◌, ℕ, ◌+◌, Bool, true, false, not, if◌then◌else◌, ◌==◌, List, [], ◌∷◌, Option, Some, None, is_some, find, sum_by, refl, sym, ap, subst, ◌∙◌, arith}
 use Rattle.std.proofs.lemmas.Grind.{common_steps}
 use Rattle.std.specs.List.{filter}
+use Rattle.cf_base.specs.declared.calendar.Day.{Day}
 use Rattle.cf_calls.specs.declared.acts.Act.{Act}
 use Rattle.cf_calls.specs.declared.acts.Act.TheVariants.{Pay, PayDue, Leave, Interfund}
 use Rattle.cf_calls.specs.declared.acts.DebtPayment.{DebtPayment}
@@ -18,11 +19,12 @@ use Rattle.cf_chart.specs.declared.rows.Object.{Object}
 use Rattle.cf_chart.specs.Plan.{Plan, fund_at}
 use Rattle.cf_debt.specs.Register.{due_if, due_now}
 use Rattle.cf_model.specs.Bonds.{Bond, Due, next_due}
+use Rattle.cf_model.specs.Calendar.{year_of_day}
 use Rattle.cf_model.specs.Cash.{cash_short, cash_refusal, cash_taken, due_cash}
 use Rattle.cf_model.specs.Charted.{is_current, is_interest, is_principal}
 use Rattle.cf_model.specs.Documents.{Documents, documents_of, no_documents}
 use Rattle.cf_model.specs.Postings.{cash_of}
-use Rattle.cf_model.specs.RegisterRules.{register_name_refusal, unknown_bond, unknown_payment}
+use Rattle.cf_model.specs.RegisterRules.{payment_year, register_name_refusal, unknown_bond, unknown_payment}
 use Rattle.cf_model.specs.Registers.{registers_of}
 use Rattle.cf_model.specs.Results.{bond_at}
 use Rattle.cf_model.specs.Rules.{or_else, first_refusal, unknown, unknown_account, fund_name, name_refusal}
@@ -91,25 +93,25 @@ there plan s fund e = by_test (is_some (fund_at plan fund)) (refuse_none (not (i
     by_test false e = cc
 
 -- a transfer, a loan or a repayment takes cash of one fund
-pub moved_short : (plan : Plan) (h : List Entry) (act : Act) (m : FundMove) → Interfund m ≡ act → name_refusal plan (documents_of plan h) act ≡ None →
+pub moved_short : (plan : Plan) (h : List Entry) (on : Day) (act : Act) (m : FundMove) → Interfund m ≡ act → name_refusal plan (documents_of plan h) on act ≡ None →
     cash_short m.from (cash_of plan m.from h) m.amount ≡ cash_refusal plan h act
-moved_short plan h act m is named =
+moved_short plan h on act m is named =
     let s = documents_of plan h in
-    let names : name_refusal plan s (Interfund m) ≡ None = subst (λ (x : Act). name_refusal plan s x ≡ None) (sym is) named in
+    let names : name_refusal plan s on (Interfund m) ≡ None = subst (λ (x : Act). name_refusal plan s on x ≡ None) (sym is) named in
     let first = or_else_none (unknown plan s (fund_name m.from)) (or_else (unknown plan s (fund_name m.to)) None) names in
     sym (one_short plan h m.from m.amount plan.funds (there plan s m.from first.0)) ∙ ap (cash_refusal plan h) is
 
 -- the account of an act's names is of a fund of the chart
-account_there : (plan : Plan) (is_fit : Option Object → Bool) (fund dept object : ℕ) → unknown_account plan is_fit fund dept object ≡ None → is_some (fund_at plan fund) ≡ true
-account_there plan is_fit fund dept object none =
+account_there : (plan : Plan) (is_fit : Option Object → Bool) (year fund dept object : ℕ) → unknown_account plan is_fit year fund dept object ≡ None → is_some (fund_at plan fund) ≡ true
+account_there plan is_fit year fund dept object none =
     there plan no_documents fund (or_else_none (unknown plan no_documents (fund_name fund)) _ none).0
 
 -- leave that is paid out takes cash of its fund
-pub leave_short : (plan : Plan) (h : List Entry) (act : Act) (l : LeaveMaturity) → Leave (Mature l) ≡ act → register_name_refusal plan (registers_of plan h) act ≡ None →
+pub leave_short : (plan : Plan) (h : List Entry) (on : Day) (act : Act) (l : LeaveMaturity) → Leave (Mature l) ≡ act → register_name_refusal plan (registers_of plan h) on act ≡ None →
     cash_short l.fund (cash_of plan l.fund h) l.amount ≡ cash_refusal plan h act
-leave_short plan h act l is named =
-    let names : register_name_refusal plan (registers_of plan h) (Leave (Mature l)) ≡ None = subst (λ (x : Act). register_name_refusal plan (registers_of plan h) x ≡ None) (sym is) named in
-    sym (one_short plan h l.fund l.amount plan.funds (account_there plan is_current l.fund l.dept l.object names)) ∙ ap (cash_refusal plan h) is
+leave_short plan h on act l is named =
+    let names : register_name_refusal plan (registers_of plan h) on (Leave (Mature l)) ≡ None = subst (λ (x : Act). register_name_refusal plan (registers_of plan h) on x ≡ None) (sym is) named in
+    sym (one_short plan h l.fund l.amount plan.funds (account_there plan is_current (year_of_day plan on) l.fund l.dept l.object names)) ∙ ap (cash_refusal plan h) is
 
 -- a debt payment takes the cash of its principal and its interest of its fund, and none where nothing is left to pay
 due_taken : (plan : Plan) (fund from : ℕ) (o : Option Bond) → sum_by (λ b. if from == fund then due_cash b (next_due b) else 0) (bonds_if o) ≡ (if from == fund then due_amount (due_now plan o) else 0)
@@ -131,14 +133,15 @@ due_taken plan fund from (Some b) = by_test (from == fund) ∙ ap (λ n. if from
     by_next None = refl
     by_next (Some p) = refl
 
-pub payment_short : (plan : Plan) (h : List Entry) (p : DebtPayment) → filter (λ b. b.number == p.bond) (registers_of plan h).bonds ≡ bonds_if (bond_at p.bond (registers_of plan h).bonds) →
-    register_name_refusal plan (registers_of plan h) (PayDue p) ≡ None →
+pub payment_short : (plan : Plan) (h : List Entry) (on : Day) (p : DebtPayment) → filter (λ b. b.number == p.bond) (registers_of plan h).bonds ≡ bonds_if (bond_at p.bond (registers_of plan h).bonds) →
+    register_name_refusal plan (registers_of plan h) on (PayDue p) ≡ None →
     cash_short p.fund (cash_of plan p.fund h) (due_amount (due_now plan (bond_at p.bond (registers_of plan h).bonds))) ≡ cash_refusal plan h (PayDue p)
-payment_short plan h p alone named =
+payment_short plan h on p alone named =
     let s = registers_of plan h in
-    let accounts = or_else_none (unknown_bond s.bonds p.bond) (unknown_payment plan p) named in
-    let first = or_else_none (unknown_account plan is_principal p.fund p.dept p.principal) (unknown_account plan is_interest p.fund p.dept p.interest) accounts.1 in
-    sym (one_short plan h p.fund (due_amount (due_now plan (bond_at p.bond s.bonds))) plan.funds (account_there plan is_principal p.fund p.dept p.principal first.0))
+    let year = payment_year plan (year_of_day plan on) (bond_at p.bond s.bonds) in
+    let accounts = or_else_none (unknown_bond s.bonds p.bond) (unknown_payment plan year p) named in
+    let first = or_else_none (unknown_account plan is_principal year p.fund p.dept p.principal) (unknown_account plan is_interest year p.fund p.dept p.interest) accounts.1 in
+    sym (one_short plan h p.fund (due_amount (due_now plan (bond_at p.bond s.bonds))) plan.funds (account_there plan is_principal year p.fund p.dept p.principal first.0))
     ∙ (λ i. first_refusal (λ f. cash_short f.id (cash_of plan f.id h) (sym (taken f.id) i)) plan.funds)
   where
     taken : (fund : ℕ) → cash_taken (registers_of plan h) fund (PayDue p) ≡ (if p.fund == fund then due_amount (due_now plan (bond_at p.bond (registers_of plan h).bonds)) else 0)

@@ -3,6 +3,7 @@
 ghost use Rattle.std.specs.Prelude.{◌≡◌, ◌<◌, None, true, pos, length};
 ghost use Rattle.std.specs.List.{All, list_all};
 ghost use Rattle.cf_calls.specs.Form.{IsChangeInForm};
+ghost use Rattle.cf_calls.specs.Refusals.{overspends};
 ghost use Rattle.cf_model.specs.DocumentRules.{document_refusal};
 ghost use Rattle.cf_model.specs.Documents.{documents_of};
 ghost use Rattle.cf_model.specs.LineNumbers as numbers;
@@ -17,7 +18,7 @@ ghost use Rattle.cf_registers.specs.Moved.{act_moves, asks_of, is_inside, AreSma
 
 use crate::history::History;
 use cf_base::Day;
-use cf_budget::{LineChange, Row};
+use cf_budget::{LineChange, Row, line_refusal};
 use cf_calls::acts::{Amendment, LineTransfer};
 use cf_calls::{Act, Change, Refusal};
 use cf_registers::merged_moves;
@@ -28,17 +29,6 @@ pub struct Excess {
     pub line: u16,
     pub year: u16,
     pub refusal: Refusal,
-}
-
-/// The refusal of a line of which so much is asked, in cents.
-fn line_refusal(line: u16, asked: i128, room: i128) -> Option<Refusal>
-    ensures { result ≡ spec.overspends line asked room }
-{
-    if asked > 0 && asked > room {
-        Some(Refusal::Exceeds { line, asked, room })
-    } else {
-        None
-    }
 }
 
 /// The size of a fall, and 0 for a rise.
@@ -109,7 +99,7 @@ fn moves_rule<H: History>(history: &H, on: Day, act: &Act) -> Option<Refusal>
     requires lent { LendsTouched (H.plan history.now) (H.lends history.now) act.now }
     requires cleared { IsCleared (H.plan history.now) (registers_of (H.plan history.now) (H.entries history.now)) on act.now }
     ensures { result ≡ spec.first_below
-        (λ line. spec.first_below (λ year. spec.overspends line (asks_of_moves (H.plan history.now) line year (act_moves (H.plan history.now) (registers_of (H.plan history.now) (H.entries history.now)) on act.now)) (numbers.room (H.plan history.now) line year (H.entries history.now))) 2201)
+        (λ line. spec.first_below (λ year. overspends line (asks_of_moves (H.plan history.now) line year (act_moves (H.plan history.now) (registers_of (H.plan history.now) (H.entries history.now)) on act.now)) (numbers.room (H.plan history.now) line year (H.entries history.now))) 2201)
         (length (H.plan history.now).lines) }
 {
     let changes = merged_moves(history.chart(), history.registers(), on, act);
@@ -130,7 +120,7 @@ pub fn exceed_rule<H: History>(history: &H, change: &Change) -> Option<Refusal>
     requires lent { LendsTouched (H.plan history.now) (H.lends history.now) change.now.act }
     requires legal { step.IsLegal (H.plan history.now) (H.entries history.now) }
     requires form { IsChangeInForm change.now }
-    requires names { spec.name_refusal (H.plan history.now) (documents_of (H.plan history.now) (H.entries history.now)) change.now.act ≡ None }
+    requires names { spec.name_refusal (H.plan history.now) (documents_of (H.plan history.now) (H.entries history.now)) change.now.on change.now.act ≡ None }
     requires documents { document_refusal (H.plan history.now) (documents_of (H.plan history.now) (H.entries history.now)) change.now.on change.now.desk change.now.act ≡ None }
     ensures { result ≡ spec.exceed_refusal (H.plan history.now) (H.entries history.now) (results.entry_with (registers_of (H.plan history.now) (H.entries history.now)) change.now) }
 {
@@ -153,7 +143,7 @@ fn amendment_rule<H: History>(history: &H, amendment: &Amendment) -> Option<Refu
     requires line { amendment.now.line < length (H.plan history.now).lines }
     requires year { amendment.now.year < 2201 }
     requires lent { H.lends history.now amendment.now.line ≡ true }
-    ensures { result ≡ spec.overspends amendment.now.line (pos (numbers.fall_of amendment.now.by))
+    ensures { result ≡ overspends amendment.now.line (pos (numbers.fall_of amendment.now.by))
         (numbers.room (H.plan history.now) amendment.now.line amendment.now.year (H.entries history.now)) }
 {
     let asked = i128::from(fall_of(amendment.by));
@@ -165,7 +155,7 @@ fn transfer_rule<H: History>(history: &H, transfer: &LineTransfer) -> Option<Ref
     requires line { transfer.now.from < length (H.plan history.now).lines }
     requires year { transfer.now.year < 2201 }
     requires lent { H.lends history.now transfer.now.from ≡ true }
-    ensures { result ≡ spec.overspends transfer.now.from (pos transfer.now.amount)
+    ensures { result ≡ overspends transfer.now.from (pos transfer.now.amount)
         (numbers.room (H.plan history.now) transfer.now.from transfer.now.year (H.entries history.now)) }
 {
     let room = history.numbers(transfer.from, transfer.year).room;

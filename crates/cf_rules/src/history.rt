@@ -45,7 +45,7 @@ pub trait History {
         ensures legal { IsLegal (plan self.now) (entries self.now) }
         ensures whole { IsWhole (plan self.now) };
 
-    /// The number of entries, at most 1,048,576.
+    /// The number of entries, at most 1,500,000.
     fn len(&self) -> u64
         ensures value { result ≡ length (entries self.now) }
         ensures few { result ≤ most_entries };

@@ -1,7 +1,11 @@
 //! What an act names of bills, assets, bonds and leave, and of the chart's rows for them.
 
 ghost use Rattle.std.specs.Prelude.{◌≡◌, not, is_some, true};
+ghost use Rattle.cf_base.specs.Calendar.{is_day};
+ghost use Rattle.cf_base.specs.declared.calendar.Day.{Day as OnDay};
 ghost use Rattle.cf_chart.specs.Plan.{object_at};
+ghost use Rattle.cf_model.specs.Calendar as calendar;
+ghost use Rattle.cf_model.specs.Results.{bond_at};
 ghost use Rattle.cf_model.specs.Charted as charted;
 ghost use Rattle.cf_model.specs.Receivables.{bill_at};
 ghost use Rattle.cf_model.specs.RegisterRules as spec;
@@ -10,10 +14,13 @@ ghost use Rattle.cf_model.specs.Rules as rules;
 use crate::names::{account_fault_if, fund_fault, undrawn, unknown};
 use crate::rules::or;
 use cf_assets::Assets;
+use cf_base::Day;
 use cf_calls::acts::{AssetAct, DebtPayment, LeaveAct};
+use cf_calls::items::AccountItem;
 use cf_calls::{Act, NameKind, Refusal};
 use cf_chart::{Chart, ObjectKind};
 use cf_debt::Debt;
+use cf_orders::year_of_day;
 use cf_registers::{Registers, is_capital};
 use cf_revenue::Revenue;
 
@@ -92,17 +99,42 @@ fn bond_fault(debt: &Debt, number: u32) -> Option<Refusal>
     }
 }
 
-/// The account of a payment's principal, and then that of its interest.
-fn payment_fault(chart: &Chart, payment: &DebtPayment) -> Option<Refusal>
-    ensures { result ≡ spec.unknown_payment chart.now payment.now }
+/// The fiscal year in which a bond's next payment is due; that of the day where none is.
+fn payment_year(chart: &Chart, debt: &Debt, on: Day, bond: u32) -> u16
+    requires { is_day on ≡ true }
+    ensures { result ≡ spec.payment_year chart.now (calendar.year_of_day chart.now on) (bond_at bond debt.now.debts.bonds) }
+{
+    match debt.due(chart, bond) {
+        Some(due) => due.year,
+        None => year_of_day(chart, on),
+    }
+}
+
+/// The account of a payment's principal, and then that of its interest, in a fiscal year.
+fn payment_fault(chart: &Chart, year: u16, payment: &DebtPayment) -> Option<Refusal>
+    ensures { result ≡ spec.unknown_payment chart.now year payment.now }
 {
     let fund = payment.fund;
     let dept = payment.dept;
     let principal = payment.principal;
     let interest = payment.interest;
     or(
-        account_fault_if(chart, is_principal(chart, principal), fund, dept, principal),
-        account_fault_if(chart, is_interest(chart, interest), fund, dept, interest),
+        account_fault_if(
+            chart,
+            is_principal(chart, principal),
+            year,
+            fund,
+            dept,
+            principal,
+        ),
+        account_fault_if(
+            chart,
+            is_interest(chart, interest),
+            year,
+            fund,
+            dept,
+            interest,
+        ),
     )
 }
 
@@ -114,7 +146,7 @@ pub fn leave_fault(chart: &Chart, fund: u16, dept: u16) -> Option<Refusal>
 }
 
 fn asset_act_fault(chart: &Chart, registers: &Registers, act: &AssetAct) -> Option<Refusal>
-    ensures { result ≡ spec.register_name_refusal chart.now registers.now.registers (Act.Asset act.now) }
+    ensures { (on : OnDay) → result ≡ spec.register_name_refusal chart.now registers.now.registers on (Act.Asset act.now) }
 {
     match act {
         AssetAct::Donate(gift) => or(
@@ -128,22 +160,46 @@ fn asset_act_fault(chart: &Chart, registers: &Registers, act: &AssetAct) -> Opti
     }
 }
 
-fn leave_act_fault(chart: &Chart, registers: &Registers, act: &LeaveAct) -> Option<Refusal>
-    ensures { result ≡ spec.register_name_refusal chart.now registers.now.registers (Act.Leave act.now) }
+fn leave_act_fault(chart: &Chart, registers: &Registers, on: Day, act: &LeaveAct) -> Option<Refusal>
+    requires { is_day on ≡ true }
+    ensures { result ≡ spec.register_name_refusal chart.now registers.now.registers on (Act.Leave act.now) }
 {
     match act {
         LeaveAct::Earn(leave) => leave_fault(chart, leave.fund, leave.dept),
         LeaveAct::Use(leave) => leave_fault(chart, leave.fund, leave.dept),
         LeaveAct::Mature(leave) => {
             let is_fit = is_current(chart, leave.object);
-            account_fault_if(chart, is_fit, leave.fund, leave.dept, leave.object)
+            let year = year_of_day(chart, on);
+            account_fault_if(chart, is_fit, year, leave.fund, leave.dept, leave.object)
         }
     }
 }
 
-/// The first name of an act on bills, assets, debt or leave that there is nothing of.
-pub fn register_name_rule(chart: &Chart, registers: &Registers, act: &Act) -> Option<Refusal>
-    ensures { result ≡ spec.register_name_refusal chart.now registers.now.registers act.now }
+/// The account of a lease in its fiscal year, which is of a capital object.
+fn leased_fault(chart: &Chart, on: Day, account: &AccountItem) -> Option<Refusal>
+    requires { is_day on ≡ true }
+    ensures { result ≡ rules.unknown_account chart.now charted.is_capital (calendar.year_of_day chart.now on) account.now.fund account.now.dept account.now.object }
+{
+    let is_fit = is_capital(chart, account.object);
+    account_fault_if(
+        chart,
+        is_fit,
+        year_of_day(chart, on),
+        account.fund,
+        account.dept,
+        account.object,
+    )
+}
+
+/// The first name of an act on bills, assets, debt, leave or leases that there is nothing of.
+pub fn register_name_rule(
+    chart: &Chart,
+    registers: &Registers,
+    on: Day,
+    act: &Act,
+) -> Option<Refusal>
+    requires { is_day on ≡ true }
+    ensures { result ≡ spec.register_name_refusal chart.now registers.now.registers on act.now }
 {
     match act {
         Act::Collect(part) => bill_fault(registers.revenue(), part.bill),
@@ -152,9 +208,14 @@ pub fn register_name_rule(chart: &Chart, registers: &Registers, act: &Act) -> Op
         Act::Issue(bond) => fund_fault(chart, bond.fund),
         Act::PayDue(payment) => or(
             bond_fault(registers.debt(), payment.bond),
-            payment_fault(chart, payment),
+            payment_fault(
+                chart,
+                payment_year(chart, registers.debt(), on, payment.bond),
+                payment,
+            ),
         ),
-        Act::Leave(leave) => leave_act_fault(chart, registers, leave),
+        Act::Leave(leave) => leave_act_fault(chart, registers, on, leave),
+        Act::Lease(lease) => leased_fault(chart, on, &lease.account),
         _ => None,
     }
 }

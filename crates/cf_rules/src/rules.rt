@@ -222,6 +222,10 @@ pub fn amount_rule(act: &Act) -> Option<Refusal>
         ),
         Act::Leave(leave) => leave_amount_fault(leave),
         Act::Interfund(m) => or(amount_fault(m.amount), None),
+        Act::Lease(lease) => or(
+            amount_fault(lease.account.amount),
+            principals_amount_fault(lease.principals.as_slice()),
+        ),
         _ => None,
     }
 }
@@ -452,6 +456,10 @@ pub fn unadopted_rule<H: History>(history: &H, on: Day, act: &Act) -> Option<Ref
         Act::Leave(LeaveAct::Mature(leave)) => {
             let year = document_year(history.chart(), on, act);
             or(unadopted_fault(history, leave.fund, year), None)
+        }
+        Act::Lease(lease) => {
+            let year = document_year(history.chart(), on, act);
+            or(unadopted_fault(history, lease.account.fund, year), None)
         }
         _ => None,
     }

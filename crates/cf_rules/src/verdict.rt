@@ -35,6 +35,7 @@ fn first_rules<H: History>(history: &H, change: &Change) -> Option<Refusal>
 
 /// The rules of the desk's role, the history's length, amounts and names.
 fn call_rules<H: History>(history: &H, change: &Change) -> Option<Refusal>
+    requires { is_day change.now.on ≡ true }
     ensures first { result ≡ rules.first_of (step.call_rules (H.plan history.now) (H.entries history.now) change.now) }
 {
     let chart = history.chart();
@@ -48,10 +49,13 @@ fn call_rules<H: History>(history: &H, change: &Change) -> Option<Refusal>
     if let Some(refusal) = amount_rule(act) {
         return Some(refusal);
     }
-    if let Some(refusal) = name_rule(chart, orders_of(history), act) {
+    if let Some(refusal) = name_rule(chart, orders_of(history), change.on, act) {
         return Some(refusal);
     }
-    or(register_name_rule(chart, history.registers(), act), None)
+    or(
+        register_name_rule(chart, history.registers(), change.on, act),
+        None,
+    )
 }
 
 /// The rules of periods and adopted budgets.
@@ -102,8 +106,8 @@ fn register_rule<H: History>(history: &H, change: &Change) -> Option<Refusal>
 fn last_rules<H: History>(history: &H, change: &Change) -> Option<Refusal>
     requires lent { LendsTouched (H.plan history.now) (H.lends history.now) change.now.act }
     requires form { IsChangeInForm change.now }
-    requires names { rules.name_refusal (H.plan history.now) (documents_of (H.plan history.now) (H.entries history.now)) change.now.act ≡ None }
-    requires register_names { register_name_refusal (H.plan history.now) (registers_of (H.plan history.now) (H.entries history.now)) change.now.act ≡ None }
+    requires names { rules.name_refusal (H.plan history.now) (documents_of (H.plan history.now) (H.entries history.now)) change.now.on change.now.act ≡ None }
+    requires register_names { register_name_refusal (H.plan history.now) (registers_of (H.plan history.now) (H.entries history.now)) change.now.on change.now.act ≡ None }
     ensures { result ≡ rules.first_of (step.last_rules (H.plan history.now) (H.entries history.now) change.now) }
 {
     // So that the proof knows that the history is legal.
@@ -114,7 +118,7 @@ fn last_rules<H: History>(history: &H, change: &Change) -> Option<Refusal>
     if let Some(refusal) = exceed_rule(history, change) {
         return Some(refusal);
     }
-    or(cash_rule(history, &change.act), None)
+    or(cash_rule(history, change.on, &change.act), None)
 }
 
 /// The rules after a repeat, the least broken one first.

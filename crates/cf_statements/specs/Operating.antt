@@ -57,14 +57,16 @@ financing_rows sums year fund =
     source_row sums year fund (codes "Transfers in") 600001
     ∷ use_row sums year fund (codes "Transfers out") 610001
     ∷ source_row sums year fund (codes "Debt proceeds") 600002
+    ∷ source_row sums year fund (codes "Leases issued") 600004
     ∷ source_row sums year fund (codes "Sale of capital assets") 600003
     ∷ []
 
 abbrev pub net_transfers : Sums → ℕ → ℕ → ℤ
 net_transfers sums year fund = source_of sums year fund 600001 -ℤ in_year sums year fund 610001
 
+-- debt, sales of capital assets, and leases (GASB Statement 87)
 abbrev pub other_sources : Sums → ℕ → ℕ → ℤ
-other_sources sums year fund = source_of sums year fund 600002 +ℤ source_of sums year fund 600003
+other_sources sums year fund = (source_of sums year fund 600002 +ℤ source_of sums year fund 600003) +ℤ source_of sums year fund 600004
 
 abbrev pub total_financing : Sums → ℕ → ℕ → ℤ
 total_financing sums year fund = net_transfers sums year fund +ℤ other_sources sums year fund

@@ -89,11 +89,11 @@ fn put_lines<F: Figures>(
     requires few { length lines.now ≤ 4096 }
     requires year { year < 2201 }
     requires lent { (line : ℕ) → F.lends figures.now line ≡ true }
-    ensures { OnOk result (rows.new.items ≡ rows.old.items ++ line_rows (F.sums figures.now) year fund 0 lines.now) }
+    ensures { OnOk result (rows.new.items ≡ rows.old.items ++ line_rows (F.plan figures.now) (F.sums figures.now) year fund 0 lines.now) }
 {
     let mut number = 0;
     for line in lines {
-        if line.fund == fund {
+        if line.fund == fund && figures.chart().is_of_year(line, year) {
             put_line(alloc, rows, figures, year, number)?;
         }
         number += 1;
@@ -102,7 +102,7 @@ fn put_lines<F: Figures>(
 }
 
 /// The rows of the budgetary comparison of the year (GASB Codification 1700 and 2400): of each fund its revenue sources by id and
-/// its control lines by number, each with original and final budget, actual amount, encumbrances, and what is left.
+/// its control lines at the year's level by number, each with original and final budget, actual amount, encumbrances, and what is left.
 pub fn comparison<F: Figures>(alloc: Global, figures: &F, year: u16) -> Result<Vec<Row>, AllocError>
     requires year { IsYear year }
     requires lent { (line : ℕ) → F.lends figures.now line ≡ true }

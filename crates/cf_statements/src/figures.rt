@@ -57,8 +57,8 @@ pub trait Figures {
         ensures { result ≡ (sums self.now).estimate year source };
 }
 
-/// What the posts of the year alone come to, of an account of a fund.
-pub(crate) fn in_year<F: Figures>(figures: &F, year: u16, fund: u16, account: u32) -> i128
+/// What the posts of the year alone come to, of an account of a fund, in cents, debits positive.
+pub fn in_year<F: Figures>(figures: &F, year: u16, fund: u16, account: u32) -> i128
     requires { 1 ≤ year }
     ensures value { result ≡ spec.in_year (F.sums figures.now) year fund account }
     ensures small { unsigned_abs result < 2 ^ 105 }

@@ -71,7 +71,13 @@ fn put_revenues<F: Figures>(
     Ok(())
 }
 
-fn total_revenues<F: Figures>(figures: &F, year: u16, fund: u16, sources: &[RevenueSource]) -> i128
+/// What a fund's revenue sources bring it in the year, in cents (GASB Statement 34, modified accrual basis).
+pub fn total_revenues<F: Figures>(
+    figures: &F,
+    year: u16,
+    fund: u16,
+    sources: &[RevenueSource],
+) -> i128
     requires year { 1 ≤ year }
     requires few { length sources.now ≤ 256 }
     ensures value { result ≡ spec.total_revenues (F.sums figures.now) year fund sources.now }
@@ -153,7 +159,13 @@ fn other_expenditures<F: Figures>(figures: &F, year: u16, fund: u16) -> i128
     sum(in_year(figures, year, fund, 510_000), debt)
 }
 
-fn total_expenditures<F: Figures>(figures: &F, year: u16, fund: u16, functions: &[Function]) -> i128
+/// What a fund spends in the year, on functions, capital assets and debt, in cents (GASB Statement 34, modified accrual basis).
+pub fn total_expenditures<F: Figures>(
+    figures: &F,
+    year: u16,
+    fund: u16,
+    functions: &[Function],
+) -> i128
     requires year { 1 ≤ year }
     requires few { length functions.now ≤ 64 }
     ensures value { result ≡ spec.total_expenditures (F.sums figures.now) year fund functions.now }
@@ -175,6 +187,7 @@ fn put_financing<F: Figures>(
     put_source(alloc, rows, figures, year, fund, "Transfers in", 600_001)?;
     put_use(alloc, rows, figures, year, fund, "Transfers out", 610_001)?;
     put_source(alloc, rows, figures, year, fund, "Debt proceeds", 600_002)?;
+    put_source(alloc, rows, figures, year, fund, "Leases issued", 600_004)?;
     put_source(
         alloc,
         rows,
@@ -196,20 +209,24 @@ fn net_transfers<F: Figures>(figures: &F, year: u16, fund: u16) -> i128
     difference(transfers_in, in_year(figures, year, fund, 610_001))
 }
 
-/// What debt and sales of capital assets bring a fund in the year.
+/// What debt, sales of capital assets and leases bring a fund in the year.
 fn other_sources<F: Figures>(figures: &F, year: u16, fund: u16) -> i128
     requires { 1 ≤ year }
     ensures value { result ≡ spec.other_sources (F.sums figures.now) year fund }
-    ensures small { unsigned_abs result ≤ 2 * 2 ^ 105 }
+    ensures small { unsigned_abs result ≤ 3 * 2 ^ 105 }
 {
     let proceeds = source_of(figures, year, fund, 600_002);
-    sum(proceeds, source_of(figures, year, fund, 600_003))
+    let sales = source_of(figures, year, fund, 600_003);
+    sum(
+        sum(proceeds, sales),
+        source_of(figures, year, fund, 600_004),
+    )
 }
 
 fn total_financing<F: Figures>(figures: &F, year: u16, fund: u16) -> i128
     requires { 1 ≤ year }
     ensures value { result ≡ spec.total_financing (F.sums figures.now) year fund }
-    ensures small { unsigned_abs result ≤ 4 * 2 ^ 105 }
+    ensures small { unsigned_abs result ≤ 5 * 2 ^ 105 }
 {
     net_transfers(figures, year, fund) + other_sources(figures, year, fund)
 }

@@ -66,6 +66,15 @@ fn put_assets<F: Figures>(
         "Accumulated depreciation",
         159_000,
     )?;
+    put_debit(alloc, rows, figures, year, "Right-to-use assets", 151_000)?;
+    put_debit(
+        alloc,
+        rows,
+        figures,
+        year,
+        "Accumulated amortization",
+        159_100,
+    )?;
     Ok(())
 }
 
@@ -80,13 +89,14 @@ fn put_liabilities<F: Figures>(
     put_credit(alloc, rows, figures, year, "Vouchers payable", 200_000)?;
     put_credit(alloc, rows, figures, year, "Debt due", 210_000)?;
     put_credit(alloc, rows, figures, year, "Bonds payable", 250_000)?;
+    put_credit(alloc, rows, figures, year, "Leases payable", 251_000)?;
     put_credit(alloc, rows, figures, year, "Accrued interest", 260_000)?;
     put_credit(alloc, rows, figures, year, "Compensated absences", 270_000)?;
     Ok(())
 }
 
 /// The rows of the statement of net position (GASB Statement 34), through the year. Liabilities have their sign turned;
-/// accumulated depreciation stands as it is, usually below zero.
+/// accumulated depreciation and amortization stand as they are, usually below zero.
 pub fn net_position<F: Figures>(
     alloc: Global,
     figures: &F,

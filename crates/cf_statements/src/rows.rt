@@ -23,14 +23,14 @@ pub(crate) fn put_row(
 }
 
 /// Adds a row that is its label alone.
-pub(crate) fn put_heading(alloc: Global, rows: &mut Vec<Row>, name: &str) -> Result<(), AllocError>
+pub fn put_heading(alloc: Global, rows: &mut Vec<Row>, name: &str) -> Result<(), AllocError>
     ensures { OnOk result (rows.new.items ≡ rows.old.items ++ heading name.now ∷ []) }
 {
     put_row(alloc, rows, name, [].as_slice())
 }
 
 /// Adds a row of one amount.
-pub(crate) fn put_single(
+pub fn put_single(
     alloc: Global,
     rows: &mut Vec<Row>,
     label: &str,

@@ -1,5 +1,5 @@
 -- An accepted change's reply, and no other, names its place as its own.
-use Rattle.std.proofs.Common.{◌≡◌, ℕ, List, [], ◌∷◌, ◌++◌, length, Bool, true, false, Option, Some, None, refl, sym, ap, subst, arith, length-append, if◌then◌else◌, is_some}
+use Rattle.std.proofs.Common.{◌≡◌, ℕ, List, [], ◌∷◌, ◌++◌, length, Bool, true, false, Option, Some, None, refl, sym, ap, subst, arith, length-append, if◌then◌else◌}
 use Rattle.cf_calls.specs.declared.call.Call.{Call}
 use Rattle.cf_calls.specs.declared.call.Call.TheVariants as call
 use Rattle.cf_calls.specs.declared.call.Change.{Change}
@@ -15,7 +15,7 @@ use Rattle.cf_calls.specs.declared.shown.Shown.{Shown}
 use Rattle.cf_chart.specs.Plan.{Plan, line_at}
 use Rattle.cf_model.specs.RegisterRules.{unknown_fund, unknown_dept}
 use Rattle.cf_model.specs.Rules.{ahead_refusal, or_else}
-use Rattle.cf_model.specs.Step.{body_of, next_of, next_by, change_body, verdict_of, shown_of, or_refused, unless_refused}
+use Rattle.cf_model.specs.Step.{body_of, next_of, next_by, change_body, verdict_of, is_there_in, shown_of, or_refused, unless_refused}
 use Rattle.cf_talk.specs.PassTalks.{place_by}
 
 pub longer_not : (h : List Entry) (e : Entry) → h ≡ h ++ e ∷ [] → ⊥
@@ -52,7 +52,7 @@ if_is true x y s t = s
 if_is false x y s t = t
 
 look_is : (plan : Plan) (h : List Entry) (r : Read) → IsPlaceless (shown_of plan h r)
-look_is plan h (read.Line line year) = if_is (is_some (line_at plan line)) _ _ (λ at. refl) (λ at. refl)
+look_is plan h (read.Line line year) = if_is (is_there_in plan year (line_at plan line)) _ _ (λ at. refl) (λ at. refl)
 look_is plan h (read.Requisition n) = or_refused_is _ n _
 look_is plan h (read.Order n) = or_refused_is _ n _
 look_is plan h (read.Voucher n) = or_refused_is _ n _

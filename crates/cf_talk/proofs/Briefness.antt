@@ -16,7 +16,7 @@ use Rattle.cf_calls.specs.declared.reply.Verdict.TheVariants.{Accept, Repeat, Re
 use Rattle.cf_calls.specs.Form.{IsActInForm, IsCallInForm, IsChangeInForm}
 use Rattle.cf_chart.specs.Plan.{Plan, object_at}
 use Rattle.cf_reply_text.specs.Replies.{IsBriefBody, assets_of}
-use Rattle.cf_model.specs.Assets.{bought, new_asset}
+use Rattle.cf_model.specs.Assets.{bought, life_of, new_asset, purchase}
 use Rattle.cf_model.specs.Bonds.{Bond, Due, next_due}
 use Rattle.cf_model.specs.Calendar.{document_year}
 use Rattle.cf_model.specs.Charted.{is_capital}
@@ -31,11 +31,11 @@ bought_few plan voucher on year number [] = omega arith
 bought_few plan voucher on year number (i ∷ items) = by_test (is_capital (object_at plan i.account.object)) (bought_few plan voucher on year (number + 1) items) (bought_few plan voucher on year number items)
   where
     by_test : (b : Bool) → length (bought plan voucher on year (number + 1) items) ≤ length items → length (bought plan voucher on year number items) ≤ length items →
-        length (if b then new_asset plan (Some voucher) on year number i.account.dept i.account.object i.account.amount ∷ bought plan voucher on year (number + 1) items else bought plan voucher on year number items) ≤ suc (length items)
+        length (if b then new_asset plan (purchase voucher) on year number i.account.dept (life_of plan i.account.object) i.account.amount ∷ bought plan voucher on year (number + 1) items else bought plan voucher on year number items) ≤ suc (length items)
     by_test true more less = omega (arith, more)
     by_test false more less = omega (arith, less)
 
-made_brief : (plan : Plan) (s : Registers) (on : Day) (d : Drawn) (act : Act) → IsActInForm on act → assets_of (made_by plan s on d act) ≤ 32
+pub made_brief : (plan : Plan) (s : Registers) (on : Day) (d : Drawn) (act : Act) → IsActInForm on act → assets_of (made_by plan s on d act) ≤ 32
 made_brief plan s on d (Voucher v) form =
     let few = bought_few plan d.number on (document_year plan on (Voucher v)) d.second v.items in
     omega (arith, few, form.count.to)

@@ -89,7 +89,7 @@ given_after t e n given numbers = record {
 }
 
 -- record, while the recorder has the pass's number
-records_one : (slots id : ℕ) (me : Seated) (e : Entry) → me.0.records ≡ true → me.0.has_number ≡ true → length me.0.list < 1048576
+records_one : (slots id : ℕ) (me : Seated) (e : Entry) → me.0.records ≡ true → me.0.has_number ≡ true → length me.0.list < 1500000
     → Allows Holds slots id me 0 (λ n. (n + 1) % 2 ^ 64) (λ n w. Records ((e, me.0.number) ∷ []) me n w)
 records_one slots id me e is has few = goes slots id me (λ n. (n + 1) % 2 ^ 64) (λ n w. Records ((e, me.0.number) ∷ []) me n w) go
   where
@@ -115,7 +115,7 @@ records_one slots id me e is has few = goes slots id me (λ n. (n + 1) % 2 ^ 64)
         )
 
 pub records : (slots id : ℕ) (me : Seated) (e : Entry) (entries : List TaggedEntry) → entries ≡ (e, me.0.number) ∷ [] → me.0.records ≡ true → me.0.has_number ≡ true
-    → length me.0.list < 1048576 → Allows Holds slots id me 0 (λ n. (n + 1) % 2 ^ 64) (λ n w. Records entries me n w)
+    → length me.0.list < 1500000 → Allows Holds slots id me 0 (λ n. (n + 1) % 2 ^ 64) (λ n w. Records entries me n w)
 records slots id me e entries one is has few =
     subst (λ es. Allows Holds slots id me 0 (λ n. (n + 1) % 2 ^ 64) (λ n w. Records es me n w)) (sym one) (records_one slots id me e is has few)
 

@@ -41,7 +41,7 @@ impl Model for Recorder {
 
 impl Recorder {
     /// Adds the entry at the end of the list, for this pass, and answers its place there, from 1. A history has at most
-    /// 1,048,576 entries (own rule).
+    /// 1,500,000 entries (own rule).
     pub fn record(&mut self, turns: &Turns, entry: &Entry, pass: &mut Pass) -> u64
         requires own { (self.old.table ≡ turns.now) × (pass.old.table ≡ turns.now) }
         requires few { length self.old.list < most_entries }

@@ -1,7 +1,6 @@
 //! What is said of the text of a chart.
 
 use crate::page::Page;
-use crate::rows::{tell_line, tell_rows};
 use cf_chart::{Chart, ChartRefused};
 use std::alloc::Global;
 
@@ -10,17 +9,32 @@ use std::alloc::Global;
 pub enum Asked {
     /// Whether it is a chart, or its first fault.
     Fault,
-    /// The rows of the chart.
-    Rows,
-    /// The control line of an account.
-    Line { fund: u16, dept: u16, object: u16 },
+    /// The control line of an account in a fiscal year.
+    Line {
+        fund: u16,
+        dept: u16,
+        object: u16,
+        year: u16,
+    },
+}
+
+/// Appends the control line of an account (its fund, department and object) in a fiscal year.
+fn tell_line(page: &mut Page, chart: &Chart, [fund, dept, object, year]: [u16; 4]) {
+    match chart.line_of(fund, dept, object, year) {
+        Some(line) => page.put_numbers("  #\n", &[line.number as i128]),
+        None => page.put("  none\n"),
+    }
 }
 
 fn tell_chart(page: &mut Page, chart: &Chart, asked: Asked) {
     match asked {
         Asked::Fault => page.put("  good\n"),
-        Asked::Rows => tell_rows(page, chart),
-        Asked::Line { fund, dept, object } => tell_line(page, chart, fund, dept, object),
+        Asked::Line {
+            fund,
+            dept,
+            object,
+            year,
+        } => tell_line(page, chart, [fund, dept, object, year]),
     }
 }
 

@@ -2,8 +2,7 @@
 
 ghost use Rattle.cf_calls.specs.Form.{IsEntryInForm};
 
-use crate::acts::tell_act;
-use crate::lines::tell_head;
+use crate::lines::tell_change;
 use crate::page::Page;
 use cf_calls::Entry;
 use cf_codec::{CodecFault, CodecRefused, payload_len, read_entry, write_entry};
@@ -18,15 +17,14 @@ fn is_written_so(alloc: Global, entry: &Entry, bytes: &[u8]) -> bool
     is_written && out.as_slice() == bytes && payload_len(entry) == bytes.len() as u64
 }
 
-/// Appends an entry with its drawn numbers and its length, where it is written again as it was read.
+/// Appends an entry's change with its drawn numbers and its length, where it is written again as it was read.
 fn tell_entry(page: &mut Page, alloc: Global, entry: &Entry, length: usize, bytes: &[u8])
     requires { IsEntryInForm entry.now }
 {
     let (payload, _) = bytes.split_at(length.min(bytes.len()));
     if is_written_so(alloc, entry, payload) {
         let drawn = entry.drawn;
-        tell_head(page, &entry.change);
-        tell_act(page, &entry.change.act);
+        tell_change(page, &entry.change);
         page.put_numbers(
             " # # of #",
             &[drawn.number as i128, drawn.second as i128, length as i128],
@@ -66,19 +64,31 @@ fn tell_in_room(page: &mut Page, alloc: Global, entry: &Entry, bytes: &[u8], roo
     }
 }
 
-/// Appends the entry that a payload begins with, or what writing it leaves of so much room, or the offset of the
-/// fault.
-pub fn tell_payload(page: &mut Page, alloc: Global, bytes: &[u8], room: Option<usize>) {
-    page.put("  ");
-    match read_entry(alloc, bytes) {
-        Ok((entry, length)) => match room {
-            Some(room) => tell_in_room(page, alloc, &entry, bytes, room),
-            None => tell_entry(page, alloc, &entry, length, bytes),
-        },
-        Err(CodecRefused::Fault(CodecFault { offset })) => {
+fn tell_refused(page: &mut Page, refused: CodecRefused) {
+    match refused {
+        CodecRefused::Fault(CodecFault { offset }) => {
             page.put_numbers("fault #", &[offset as i128]);
         }
-        Err(CodecRefused::NoMemory) => page.note(false),
+        CodecRefused::NoMemory => page.note(false),
+    }
+}
+
+/// Appends the entry that a payload begins with in a journal of this version, or the offset of the fault.
+pub fn tell_payload(page: &mut Page, alloc: Global, bytes: &[u8], version: u8) {
+    page.put("  ");
+    match read_entry(alloc, bytes, version) {
+        Ok((entry, length)) => tell_entry(page, alloc, &entry, length, bytes),
+        Err(refused) => tell_refused(page, refused),
+    }
+    page.put("\n");
+}
+
+/// Appends what writing the entry of a payload leaves of so much room, or the offset of the fault.
+pub fn tell_written(page: &mut Page, alloc: Global, bytes: &[u8], room: usize) {
+    page.put("  ");
+    match read_entry(alloc, bytes, 2) {
+        Ok((entry, _)) => tell_in_room(page, alloc, &entry, bytes, room),
+        Err(refused) => tell_refused(page, refused),
     }
     page.put("\n");
 }

@@ -8,28 +8,24 @@
 //! | `OLD => NEW` | what is said of the text with this change, in which `;` is the end of a line |
 //! | `rows TABLE N` | nothing: a table of N empty rows comes before the text |
 //! | `said` | what is said of the text |
-//! | `show` | the rows of the chart that the text states |
-//! | `line FUND DEPT OBJECT` | the control line of an account |
+//! | `line FUND DEPT OBJECT YEAR` | the control line of an account in a fiscal year |
 //! | `document HEX` | what is said of a chart of these bytes |
 //! | `blanks N HEX` | the same of N blanks with these bytes behind them |
-//! | `call LINE`, `bytes HEX` | the call that a line, or these bytes, are, or the form reply |
-//! | `payload HEX` | the entry that begins these bytes, or the offset of the first faulty field |
+//! | `call LINE`, `bytes HEX` | the change that a line, or these bytes, are, as the line that a desk sends for it; that it is a look; or the form reply |
+//! | `payload HEX` | the entry that begins these bytes: its change, its drawn numbers and its length; or the offset of the first faulty field |
+//! | `older HEX` | the same in a journal of version 1 |
 //! | `room N HEX` | what writing the entry into N bytes of room leaves of them |
 //! | `replies` | the text of each refusal, each result and each look |
 #![tactic(auto)]
 
-mod acts;
 mod document;
 mod entries;
 mod hex;
-mod items;
 mod lines;
-mod looks;
 mod page;
 mod play;
 mod refusals;
 mod replies;
-mod rows;
 mod stage;
 
 use play::play;

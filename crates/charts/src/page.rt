@@ -55,7 +55,7 @@ impl Page {
         }
     }
 
-    pub fn put_number(&mut self, number: i128) {
+    fn put_number(&mut self, number: i128) {
         let mut buffer = Buffer::new();
         self.put(buffer.format(number));
     }
@@ -68,14 +68,6 @@ impl Page {
                 b'#' => self.put_number(numbers.next().copied().unwrap_or(0)),
                 _ => self.put_byte(byte),
             }
-        }
-    }
-
-    /// Appends a number that may be absent.
-    pub fn put_option(&mut self, number: Option<u64>) {
-        match number {
-            None => self.put("None"),
-            Some(number) => self.put_numbers("Some(#)", &[number as i128]),
         }
     }
 }

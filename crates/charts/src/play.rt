@@ -21,23 +21,25 @@ fn pair(line: &str) -> (&str, &str) {
     line.split_once(" ").unwrap_or((line, ""))
 }
 
-/// An account: its fund, department and object.
+/// An account, by its fund, department and object, and a fiscal year.
 fn account(words: &str) -> Asked {
     let mut words = words.split_whitespace();
     Asked::Line {
         fund: number(words.next().unwrap_or("")),
         dept: number(words.next().unwrap_or("")),
         object: number(words.next().unwrap_or("")),
+        year: number(words.next().unwrap_or("")),
     }
 }
 
 /// Says what a line on payloads or replies asks for. What is none of the words is a heading.
 fn tell_entry(stage: &mut Stage, verb: &str, rest: &str) {
     match verb {
-        "payload" => stage.tell_payload(rest, None),
+        "payload" => stage.tell_payload(rest, 2),
+        "older" => stage.tell_payload(rest, 1),
         "room" => {
             let (room, digits) = pair(rest);
-            stage.tell_payload(digits, Some(size(room)));
+            stage.tell_written(digits, size(room));
         }
         "replies" => tell_replies(&mut stage.said, stage.alloc),
         _ => {}
@@ -53,7 +55,6 @@ fn tell_word(stage: &mut Stage, verb: &str, rest: &str) {
             stage.put_rows(table, number(rows));
         }
         "said" => stage.tell_text(Asked::Fault),
-        "show" => stage.tell_text(Asked::Rows),
         "line" => stage.tell_text(account(rest)),
         "document" => stage.tell_blanks(0, rest),
         "blanks" => {

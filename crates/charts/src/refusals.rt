@@ -14,7 +14,7 @@ const MONTH: Month = Month {
     month: 12,
 };
 
-pub const REFUSALS: [Refusal; 25] = [
+pub const REFUSALS: [Refusal; 26] = [
     Refusal::DeskUnknown { desk: 65535 },
     Refusal::Ahead {
         after: 18446744073709551615,
@@ -24,7 +24,7 @@ pub const REFUSALS: [Refusal; 25] = [
     Refusal::NotThisDesk {
         role: Role::Purchasing,
     },
-    Refusal::HistoryFull { limit: 1048576 },
+    Refusal::HistoryFull { limit: 1500000 },
     Refusal::AmountRange {
         amount: 10000000000001,
     },
@@ -53,6 +53,10 @@ pub const REFUSALS: [Refusal; 25] = [
         asset: 6,
         state: AssetFault::Charged,
     },
+    Refusal::AssetState {
+        asset: 7,
+        state: AssetFault::Leased,
+    },
     Refusal::NotDue { next: DAY },
     Refusal::LeaveShort { left: 5 },
     Refusal::MonthOrder { next: MONTH },
@@ -70,7 +74,7 @@ pub const REFUSALS: [Refusal; 25] = [
     },
 ];
 
-pub const RESULTS: [Made; 10] = [
+pub const RESULTS: [Made; 11] = [
     Made::Nothing,
     Made::Requisition { number: 1 },
     Made::Order { number: 4294967295 },
@@ -88,6 +92,7 @@ pub const RESULTS: [Made; 10] = [
     Made::Year { year: 2027 },
     Made::Asset { number: 5 },
     Made::Bond { number: 6 },
+    Made::Lease { asset: 8, bond: 7 },
     Made::Paid {
         interest: 1500,
         principal: 0,

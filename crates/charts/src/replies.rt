@@ -153,11 +153,13 @@ fn tell_reconciliation(page: &mut Page, alloc: Global) {
     let reconciliation = Shown::Reconcile(ReconShown {
         fund_balances: 1,
         capital_assets: 2,
-        unavailable: 3,
-        bonds: -4,
-        accrued_interest: -5,
-        leave: -6,
-        net_position: -9,
+        right_to_use: 3,
+        unavailable: 4,
+        bonds: -5,
+        leases: -6,
+        accrued_interest: -7,
+        leave: -8,
+        net_position: -16,
     });
     tell_look(page, alloc, reconciliation);
 }

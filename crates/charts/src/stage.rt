@@ -1,7 +1,7 @@
 //! What the script has told, and what is said of its last line.
 
 use crate::document::{Asked, tell_document};
-use crate::entries::tell_payload;
+use crate::entries::{tell_payload, tell_written};
 use crate::hex::put_digits;
 use crate::lines::tell_line;
 use crate::page::Page;
@@ -100,10 +100,17 @@ impl Stage {
         tell_line(&mut self.said, self.alloc, self.draft.bytes.as_slice());
     }
 
-    /// Says what is said of a payload, or what writing its entry leaves of so much room.
-    pub fn tell_payload(&mut self, digits: &str, room: Option<usize>) {
+    /// Says what is said of a payload in a journal of this version.
+    pub fn tell_payload(&mut self, digits: &str, version: u8) {
         self.put_digits(0, digits);
         let bytes = self.draft.bytes.as_slice();
-        tell_payload(&mut self.said, self.alloc, bytes, room);
+        tell_payload(&mut self.said, self.alloc, bytes, version);
+    }
+
+    /// Says what writing the entry of a payload leaves of so much room.
+    pub fn tell_written(&mut self, digits: &str, room: usize) {
+        self.put_digits(0, digits);
+        let bytes = self.draft.bytes.as_slice();
+        tell_written(&mut self.said, self.alloc, bytes, room);
     }
 }

@@ -5,6 +5,6 @@ use Rattle.cf_assets.proofs.charges.function_charges.Given as goal
 
 abbrev pub invariant-loop-at : goal.invariant-loop-at
 invariant-loop-at l = record {
-  sums : (k : ℕ) (d : Function) → k < length l.functions → get_or l.sums k 0 ≡ sum_by (at_place (part_of l.closed (get_or l.functions k d).id) l.rows) (take l.at-index l.serving);
+  sums : (k : ℕ) (d : Function) → k < length l.functions → get_or l.sums k 0 ≡ sum_by (at_place (part_of l.is_lease l.closed (get_or l.functions k d).id) l.rows) (take l.at-index l.serving);
   small : (k : ℕ) → get_or l.sums k 0 ≤ l.at-index * 10000000000000;
 }

@@ -1,10 +1,11 @@
-use Rattle.std.proofs.Common.{◌≡◌, ◌+◌, ◌≤◌, ◌++◌, ℕ, Some, length, drop}
+use Rattle.std.proofs.Common.{◌≡◌, ◌+◌, ◌≤◌, ◌++◌, ℕ, length, drop}
+use Rattle.cf_assets.specs.declared.rows.Acquired.TheVariants.{Bought}
 use Rattle.cf_model.specs.Assets.{bought}
 use Rattle.cf_assets.proofs.steps.buy_all.Given as goal
 
 abbrev pub invariant-loop-item : goal.invariant-loop-item
 invariant-loop-item l = record {
-  assets : (n : ℕ) → l.title.voucher ≡ Some n →
+  assets : (n : ℕ) → l.title.acquired ≡ Bought n →
       l.inventory.assets ++ bought l.chart n l.title.on l.title.year (length l.inventory.assets + 1) (drop l.item-index l.items)
       ≡ l.fn.inventory.assets ++ bought l.chart n l.title.on l.title.year (length l.fn.inventory.assets + 1) l.items;
   closed : l.inventory.closed ≡ l.fn.inventory.closed;

@@ -14,7 +14,7 @@ loop-line-preserved c =
     let lines = c.lines-line-items.result.now in
     let n = c.loop-line.number in
     let i = c.loop-line.line-index in
-    let none : Line = record { fund = 0; dept = 0; part = Department } in
+    let none : Line = record { fund = 0; dept = 0; part = Department; later = false } in
     let line = get_or lines i none in
     let below : i < length lines = omega arith in
     let rest : line ∷ drop (i + 1) lines ≡ drop i lines = rw add-one (sym (drop-cons lines i none below)) in

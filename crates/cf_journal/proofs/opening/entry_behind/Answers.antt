@@ -9,6 +9,6 @@ returns-in-Ok-2 c =
     let n = c.stated_len-n.result in
     let same : n ≡ 4 + n - 4 = omega arith in (
       refl,
-      none_behind c.args.behind.now n c.in-Ok.len c.in-Ok.entry c.stated_len-n.ensures.value
-          (ap (λ (k : ℕ). read_of (take k (drop 4 c.args.behind.now))) same ∙ c.in-Ok.ensures.answer) c.if-len-n.false,
+      none_behind c.args.version c.args.behind.now n c.in-Ok.len c.in-Ok.entry c.stated_len-n.ensures.value
+          (ap (λ (k : ℕ). read_of c.args.version (take k (drop 4 c.args.behind.now))) same ∙ c.in-Ok.ensures.answer) c.if-len-n.false,
     )

@@ -1,5 +1,6 @@
 use Rattle.std.proofs.Common.{◌≡◌, ◌+◌, ◌-◌, ◌<◌, length, take, drop}
 use Rattle.std.specs.Prelude.{All}
+use Rattle.cf_codec.specs.Entries.{IsOf}
 use Rattle.cf_journal.specs.Records.{HasRecord, entries_from, records_of}
 use Rattle.cf_journal.proofs.Reading.{with_front}
 use Rattle.cf_journal.proofs.opening.read_entries.Given as goal
@@ -9,8 +10,9 @@ abbrev pub invariant-loop-place : goal.invariant-loop-place
 invariant-loop-place l = record {
   within : l.place < length l.records;
   all : All HasRecord l.entries.items;
+  of : All (IsOf l.version) l.entries.items;
   front : take l.place l.records ≡ records_of l.entries.items;
-  read : with_front l.entries.items (entries_from 0 (l.first + l.place) (drop l.place l.records)) ≡ entries_from 0 l.first l.records;
+  read : with_front l.entries.items (entries_from l.version 0 (l.first + l.place) (drop l.place l.records)) ≡ entries_from l.version 0 l.first l.records;
 }
 
 abbrev pub decreases-loop-place : goal.decreases-loop-place

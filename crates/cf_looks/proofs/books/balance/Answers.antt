@@ -7,7 +7,7 @@ use Rattle.cf_looks.proofs.books.balance.Goals as goal
 
 pub returns-clause-small : goal.returns-clause-small
 returns-clause-small g c =
-    let few : length (g.H.History.entries c.args.history.now) ≤ 1048576 = search rules in
+    let few : length (g.H.History.entries c.args.history.now) ≤ 1500000 = search rules in
     let fits : SFits w128 c.balance.result = search rules in
     rw (to_z-of_z w128 c.balance.result fits)
     (subst (λ z. unsigned_abs z < 2 ^ 104) (sym c.balance.ensures)

@@ -46,8 +46,8 @@ entry_changes-requires-clause-names c =
     let h = c.args.rest.now.entries in
     let change = c.args.entry.now.change in
     let documents = sym (ap (λ (r : Registers). r.documents) c.registers.ensures ∙ documents_are plan h) in
-    subst (λ (s : Documents). name_refusal c.chart-chart.result.now s change.act ≡ None) documents
-    (subst (λ (p : Plan). name_refusal p (documents_of plan h) change.act ≡ None) (sym c.chart-chart.ensures.value) (accepted plan h c.args.entry.now c.requires.adds).names)
+    subst (λ (s : Documents). name_refusal c.chart-chart.result.now s change.on change.act ≡ None) documents
+    (subst (λ (p : Plan). name_refusal p (documents_of plan h) change.on change.act ≡ None) (sym c.chart-chart.ensures.value) (accepted plan h c.args.entry.now c.requires.adds).names)
 
 pub returns-in-Some-clause-make : goal.returns-in-Some-clause-make
 returns-in-Some-clause-make c =

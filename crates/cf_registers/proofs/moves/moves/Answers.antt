@@ -1,9 +1,10 @@
 use Rattle.std.proofs.Common.{◌≡◌, ◌⊎◌, suc, List, [], ◌∷◌, map, length, inl, inr, refl, sym, ap, ◌∙◌}
 use Rattle.cf_base.specs.declared.calendar.Day.{Day}
 use Rattle.cf_calls.specs.declared.acts.Act.{Act}
-use Rattle.cf_calls.specs.declared.acts.Act.TheVariants.{PayDue, Leave}
+use Rattle.cf_calls.specs.declared.acts.Act.TheVariants.{PayDue, Leave, Lease}
 use Rattle.cf_calls.specs.declared.acts.DebtPayment.{DebtPayment}
 use Rattle.cf_calls.specs.declared.acts.LeaveAct.{LeaveAct}
+use Rattle.cf_calls.specs.declared.acts.NewLease.{NewLease}
 use Rattle.cf_chart.specs.Plan.{Plan}
 use Rattle.cf_model.specs.Documents.{Documents}
 use Rattle.cf_model.specs.Moves.{document_moves, spending_move}
@@ -14,21 +15,24 @@ use Rattle.cf_registers.specs.Moved.{act_moves}
 use Rattle.cf_registers.proofs.moves.moves.Goals as goal
 
 -- the moves of documents
-by_documents : (plan : Plan) (s : Registers) (on : Day) (act : Act) → ((d : DebtPayment) → act ≡ PayDue d → ⊥) → ((l : LeaveAct) → act ≡ Leave l → ⊥) →
+by_documents : (plan : Plan) (s : Registers) (on : Day) (act : Act) → ((d : DebtPayment) → act ≡ PayDue d → ⊥) → ((l : LeaveAct) → act ≡ Leave l → ⊥) → ((l : NewLease) → act ≡ Lease l → ⊥) →
     act_moves plan s on act ≡ document_moves plan s.documents (document_number s.documents act) on act
-by_documents plan s on (PayDue d) not_due not_leave = absurd (not_due d refl)
-by_documents plan s on (Leave l) not_due not_leave = absurd (not_leave l refl)
-by_documents plan s on _ not_due not_leave = refl
+by_documents plan s on (PayDue d) not_due not_leave not_lease = absurd (not_due d refl)
+by_documents plan s on (Leave l) not_due not_leave not_lease = absurd (not_leave l refl)
+by_documents plan s on (Lease l) not_due not_leave not_lease = absurd (not_lease l refl)
+by_documents plan s on _ not_due not_leave not_lease = refl
 
 same_length : (xs : List Spending) → length (map spending_move xs) ≡ length xs
 same_length [] = refl
 same_length (x ∷ xs) = ap suc (same_length xs)
 
 -- .. and what is spent beside them
-by_spendings : (plan : Plan) (s : Registers) (on : Day) (act : Act) → ((d : DebtPayment) × (act ≡ PayDue d)) ⊎ ((l : LeaveAct) × (act ≡ Leave l)) → length (act_moves plan s on act) ≡ length (spendings_by plan s on act)
+by_spendings : (plan : Plan) (s : Registers) (on : Day) (act : Act) → ((d : DebtPayment) × (act ≡ PayDue d)) ⊎ (((l : LeaveAct) × (act ≡ Leave l)) ⊎ ((l : NewLease) × (act ≡ Lease l))) → length (act_moves plan s on act) ≡ length (spendings_by plan s on act)
 by_spendings plan s on act (inl due) =
     ap (λ (a : Act). length (act_moves plan s on a)) due.1 ∙ same_length (spendings_by plan s on (PayDue due.0)) ∙ ap (λ (a : Act). length (spendings_by plan s on a)) (sym due.1)
-by_spendings plan s on act (inr leave) =
+by_spendings plan s on act (inr (inr lease)) =
+    ap (λ (a : Act). length (act_moves plan s on a)) lease.1 ∙ same_length (spendings_by plan s on (Lease lease.0)) ∙ ap (λ (a : Act). length (spendings_by plan s on a)) (sym lease.1)
+by_spendings plan s on act (inr (inl leave)) =
     ap (λ (a : Act). length (act_moves plan s on a)) leave.1 ∙ same_length (spendings_by plan s on (Leave leave.0)) ∙ ap (λ (a : Act). length (spendings_by plan s on a)) (sym leave.1)
 
 pub returns-in_default : goal.returns-in_default
@@ -40,7 +44,7 @@ returns-in_default c =
       value = λ on.
           c.moves.ensures.value plan (document_number s.documents act) on
           ∙ ap (λ (d : Documents). length (document_moves plan d (document_number s.documents act) on act)) c.orders.ensures
-          ∙ ap length (sym (by_documents plan s on act c.in_default.not-PayDue c.in_default.not-Leave));
+          ∙ ap length (sym (by_documents plan s on act c.in_default.not-PayDue c.in_default.not-Leave c.in_default.not-Lease));
       few = c.moves.ensures.few;
     }
 

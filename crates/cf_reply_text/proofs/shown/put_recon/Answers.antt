@@ -9,7 +9,9 @@ returns c =
     let bonds : FitsSigned w128 c.args.recon.bonds = search rules in
     let capital : FitsSigned w128 c.args.recon.capital_assets = search rules in
     let balances : FitsSigned w128 c.args.recon.fund_balances = search rules in
+    let leases : FitsSigned w128 c.args.recon.leases = search rules in
     let leave : FitsSigned w128 c.args.recon.leave = search rules in
     let net : FitsSigned w128 c.args.recon.net_position = search rules in
+    let right_to_use : FitsSigned w128 c.args.recon.right_to_use = search rules in
     let unavailable : FitsSigned w128 c.args.recon.unavailable = search rules in
     simp to_z-of_z at c.put_object.ensures.text

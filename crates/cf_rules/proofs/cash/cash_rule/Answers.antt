@@ -11,7 +11,7 @@ returns-in-Interfund g c =
     let plan = g.H.History.plan c.args.history.now in
     let h = g.H.History.entries c.args.history.now in
     c.cash_fault.ensures ∙ ap (cash_short c.in-Interfund.moved.from (cash_of plan c.in-Interfund.moved.from h)) c.from.ensures
-    ∙ moved_short plan h _ c.in-Interfund.moved (sym c.in-Interfund.is) c.requires.names
+    ∙ moved_short plan h c.args.on _ c.in-Interfund.moved (sym c.in-Interfund.is) c.requires.names
 
 pub returns-in-Pay : goal.returns-in-Pay
 returns-in-Pay g c =

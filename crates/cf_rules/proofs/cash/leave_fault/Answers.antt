@@ -12,7 +12,7 @@ returns-in-Mature g c =
     let plan = g.H.History.plan c.args.history.now in
     let h = g.H.History.entries c.args.history.now in
     let l = c.in-Mature.leave in
-    c.cash_fault.ensures ∙ ap (cash_short l.fund (cash_of plan l.fund h)) c.from.ensures ∙ leave_short plan h (Leave c.args.act.now) l (ap Leave (sym c.in-Mature.is)) c.requires
+    c.cash_fault.ensures ∙ ap (cash_short l.fund (cash_of plan l.fund h)) c.from.ensures ∙ leave_short plan h c.args.on (Leave c.args.act.now) l (ap Leave (sym c.in-Mature.is)) c.requires
 
 pub returns-in-Earn : goal.returns-in-Earn
 returns-in-Earn g c =

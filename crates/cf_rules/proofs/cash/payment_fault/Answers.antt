@@ -20,7 +20,7 @@ returns-in-Some g c =
     let due : due_now plan (bond_at p.bond (registers_of plan h).bonds) ≡ Some d = due_over plan h _ _ p.bond _ c.chart.ensures.value c.debt_of.ensures c.due.ensures ∙ c.in-Some.is in
     let taken : c.from.result + c.from-in-Some.result ≡ d.principal + d.interest = omega (arith, c.from.ensures, c.from-in-Some.ensures) in
     c.cash_fault.ensures ∙ ap (cash_short p.fund (cash_of plan p.fund h)) (taken ∙ ap due_amount (sym due))
-    ∙ payment_short plan h p (named_always plan h c.chart.ensures.legal p.bond) c.requires
+    ∙ payment_short plan h c.args.on p (named_always plan h c.chart.ensures.legal p.bond) c.requires
 
 pub returns-in-None : goal.returns-in-None
 returns-in-None g c =
@@ -29,4 +29,4 @@ returns-in-None g c =
     let p = c.args.payment.now in
     let due : due_now plan (bond_at p.bond (registers_of plan h).bonds) ≡ None = due_over plan h _ _ p.bond _ c.chart.ensures.value c.debt_of.ensures c.due.ensures ∙ c.in-None.is in
     ap (λ (o : Option Due). cash_short p.fund (cash_of plan p.fund h) (due_amount o)) (sym due)
-    ∙ payment_short plan h p (named_always plan h c.chart.ensures.legal p.bond) c.requires
+    ∙ payment_short plan h c.args.on p (named_always plan h c.chart.ensures.legal p.bond) c.requires

@@ -15,7 +15,7 @@ use Rattle.cf_rules.proofs.exceeds.exceed_rule.Goals as goal
 
 pub amendment_rule-requires-clause-line : goal.amendment_rule-requires-clause-line
 amendment_rule-requires-clause-line g c =
-    amended_line (g.H.History.plan c.args.history.now) (documents_of (g.H.History.plan c.args.history.now) (g.H.History.entries c.args.history.now)) c.args.change.now.act c.in-Some.amendment.now (sym c.amendment.ensures ∙ ap option_copied c.in-Some.is) c.requires.names
+    amended_line (g.H.History.plan c.args.history.now) (documents_of (g.H.History.plan c.args.history.now) (g.H.History.entries c.args.history.now)) c.args.change.now.on c.args.change.now.act c.in-Some.amendment.now (sym c.amendment.ensures ∙ ap option_copied c.in-Some.is) c.requires.names
 
 pub amendment_rule-requires-clause-year : goal.amendment_rule-requires-clause-year
 amendment_rule-requires-clause-year g c = amended_year c.args.change.now.on c.args.change.now.act c.in-Some.amendment.now (sym c.amendment.ensures ∙ ap option_copied c.in-Some.is) c.requires.form.act
@@ -35,11 +35,11 @@ returns-in-Some g c =
     let is = sym c.amendment.ensures ∙ ap option_copied c.in-Some.is in
     c.amendment_rule.ensures
     ∙ sym (exceed_amendment plan h (entry_with (registers_of plan h) c.args.change.now) c.in-Some.amendment.now c.requires.legal (amend_unrolled plan c.args.change.now.act c.in-Some.amendment.now is) c.requires.form.act is
-    (amended_line plan (documents_of plan h) c.args.change.now.act c.in-Some.amendment.now is c.requires.names))
+    (amended_line plan (documents_of plan h) c.args.change.now.on c.args.change.now.act c.in-Some.amendment.now is c.requires.names))
 
 pub transfer_rule-requires-clause-line : goal.transfer_rule-requires-clause-line
 transfer_rule-requires-clause-line g c =
-    transferred_line (g.H.History.plan c.args.history.now) (documents_of (g.H.History.plan c.args.history.now) (g.H.History.entries c.args.history.now)) c.args.change.now.act c.in-Some-line_transfer.transfer.now (sym c.line_transfer.ensures ∙ ap option_copied c.in-Some-line_transfer.is) c.requires.names
+    transferred_line (g.H.History.plan c.args.history.now) (documents_of (g.H.History.plan c.args.history.now) (g.H.History.entries c.args.history.now)) c.args.change.now.on c.args.change.now.act c.in-Some-line_transfer.transfer.now (sym c.line_transfer.ensures ∙ ap option_copied c.in-Some-line_transfer.is) c.requires.names
 
 pub transfer_rule-requires-clause-year : goal.transfer_rule-requires-clause-year
 transfer_rule-requires-clause-year g c = transferred_year c.args.change.now.on c.args.change.now.act c.in-Some-line_transfer.transfer.now (sym c.line_transfer.ensures ∙ ap option_copied c.in-Some-line_transfer.is) c.requires.form.act
@@ -51,7 +51,7 @@ returns-in-Some-line_transfer g c =
     let is = sym c.line_transfer.ensures ∙ ap option_copied c.in-Some-line_transfer.is in
     c.transfer_rule.ensures
     ∙ sym (exceed_transfer plan h (entry_with (registers_of plan h) c.args.change.now) c.in-Some-line_transfer.transfer.now c.requires.legal (transfer_unrolled plan c.args.change.now.act c.in-Some-line_transfer.transfer.now is) c.requires.form.act is
-    (transferred_line plan (documents_of plan h) c.args.change.now.act c.in-Some-line_transfer.transfer.now is c.requires.names))
+    (transferred_line plan (documents_of plan h) c.args.change.now.on c.args.change.now.act c.in-Some-line_transfer.transfer.now is c.requires.names))
 
 pub moves_rule-requires-clause-cleared : goal.moves_rule-requires-clause-cleared
 moves_rule-requires-clause-cleared g c =

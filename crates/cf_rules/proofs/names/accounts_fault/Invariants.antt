@@ -4,5 +4,5 @@ use Rattle.cf_rules.proofs.names.accounts_fault.Given as goal
 
 abbrev pub invariant-loop-item : goal.invariant-loop-item
 invariant-loop-item l =
-    first_refusal (λ i. unknown_account l.chart is_spending i.fund i.dept i.object) (drop l.item-index l.items)
-    ≡ first_refusal (λ i. unknown_account l.chart is_spending i.fund i.dept i.object) l.items
+    first_refusal (λ i. unknown_account l.chart is_spending l.year i.fund i.dept i.object) (drop l.item-index l.items)
+    ≡ first_refusal (λ i. unknown_account l.chart is_spending l.year i.fund i.dept i.object) l.items

@@ -4,4 +4,4 @@ use Rattle.cf_rules.proofs.names.items_fault.Given as goal
 
 abbrev pub invariant-loop-item : goal.invariant-loop-item
 invariant-loop-item l =
-    first_refusal (unknown l.chart l.orders.documents) (voucher_names (drop l.item-index l.items)) ≡ first_refusal (unknown l.chart l.orders.documents) (voucher_names l.items)
+    first_refusal (unknown l.chart l.orders.documents) (voucher_names l.year (drop l.item-index l.items)) ≡ first_refusal (unknown l.chart l.orders.documents) (voucher_names l.year l.items)

@@ -6,5 +6,5 @@ use Rattle.cf_rules.proofs.names.lines_fault.Given as goal
 
 abbrev pub invariant-loop-row : goal.invariant-loop-row
 invariant-loop-row l =
-    first_refusal (λ r. unknown_if (not (is_line_of l.fund (line_at l.chart r.line))) kind.Line r.line) (drop l.row-index l.rows)
-    ≡ first_refusal (λ r. unknown_if (not (is_line_of l.fund (line_at l.chart r.line))) kind.Line r.line) l.rows
+    first_refusal (λ r. unknown_if (not (is_line_of l.chart l.fund l.year (line_at l.chart r.line))) kind.Line r.line) (drop l.row-index l.rows)
+    ≡ first_refusal (λ r. unknown_if (not (is_line_of l.chart l.fund l.year (line_at l.chart r.line))) kind.Line r.line) l.rows

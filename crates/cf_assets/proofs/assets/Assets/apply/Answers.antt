@@ -1,5 +1,5 @@
 use Rattle.std.proofs.Common.{◌≡◌, ◌∙◌, None, sym, subst, ap}
-use Rattle.cf_assets.proofs.Applying.{void_allowed, adds_only, voucher_step, close_step, quiet, items_most}
+use Rattle.cf_assets.proofs.Applying.{void_allowed, adds_only, voucher_step, lease_step, close_step, quiet, items_most}
 use Rattle.cf_model.specs.Assets.{assets_by}
 use Rattle.cf_model.specs.RegisterRules.{asset_refusal}
 use Rattle.cf_model.specs.Rules.{amount_refusal}
@@ -23,7 +23,14 @@ returns-in-Close-clause-assets c = c.close.ensures.assets ∙ close_step c.args.
 
 pub returns-in_default-clause-assets : goal.returns-in_default-clause-assets
 returns-in_default-clause-assets c =
-    c.count_act.ensures.assets ∙ quiet c.args.chart.now c.args.self.now.closed c.args.on c.args.act.now c.args.drawn c.args.self.now.assets c.in_default.not-Voucher c.in_default.not-VoidVoucher c.in_default.not-Asset
+    c.count_act.ensures.assets ∙ quiet c.args.chart.now c.args.self.now.closed c.args.on c.args.act.now c.args.drawn c.args.self.now.assets c.in_default.not-Voucher c.in_default.not-VoidVoucher c.in_default.not-Asset c.in_default.not-Lease
 
 pub take_asset-requires-clause-allowed : goal.take_asset-requires-clause-allowed
 take_asset-requires-clause-allowed c s h = subst (λ a. asset_refusal s c.args.on a ≡ None) c.in-Asset.is (c.requires.allowed s h)
+
+pub returns-in-Lease-clause-assets : goal.returns-in-Lease-clause-assets
+returns-in-Lease-clause-assets c =
+    let plan = c.args.chart.now in
+    let old = c.args.self.now in
+    c.accept_lease.ensures.assets
+    ∙ adds_only plan old.closed c.args.on c.args.act.now c.args.drawn old.assets _ (lease_step plan old.closed c.args.on c.args.act.now c.in-Lease.lease old.assets c.in-Lease.is) (sym (ap (λ a. assets_by plan c.args.on a c.args.drawn) c.in-Lease.is))

@@ -1,6 +1,7 @@
 use Rattle.std.proofs.Common.{◌≡◌, ◌+◌, ◌<◌, ◌≤◌, ℕ, Some, List, length, refl, sym, subst, ap, ◌∙◌, arith}
 use Rattle.std.proofs.lemmas.List.{length-append}
 use Rattle.cf_assets.specs.Register.{Register}
+use Rattle.cf_assets.proofs.Leases.{bought_years, bought_months}
 use Rattle.cf_assets.proofs.Standing.{extents_push, bought_its}
 use Rattle.cf_calls.specs.declared.items.VoucherItem.{VoucherItem}
 use Rattle.cf_assets.proofs.assets.Assets.enter_voucher.Goals as goal
@@ -8,7 +9,7 @@ use Rattle.cf_assets.proofs.assets.Assets.enter_voucher.Goals as goal
 pub invariant_of-self : goal.invariant_of-self
 invariant_of-self c =
     let was = c.self.invariant in
-    let few = subst (λ (r : Register). r.acts < 1048576) (sym c.self.view_is) c.requires.few in
+    let few = subst (λ (r : Register). r.acts < 1500000) (sym c.self.view_is) c.requires.few in
     let next : c.args.drawn.number ≡ length c.self.inside.vouchers.items + 1 = subst (λ (r : Register). c.args.drawn.number ≡ r.vouchers + 1) (sym c.self.view_is) c.requires.drawn.voucher in
     let is = c.buy_all.ensures.assets c.args.drawn.number refl in
     let items : length c.as_slice.result.now ≤ 32 = subst (λ (xs : List VoucherItem). length xs ≤ 32) (sym c.as_slice.ensures) c.requires.items in
@@ -19,4 +20,7 @@ invariant_of-self c =
       vouchers = rw (c.push_within.ensures.items, length-append c.self.inside.vouchers.items) (omega (arith, was.vouchers));
       extents = rw (c.push_within.ensures.items, c.count-first.ensures.value, c.count-end.ensures.value, is)
           (extents_push c.self.inside.vouchers.items c.self.inside.inventory.assets _ was.extents (λ k d l. bought_its c.args.chart.now c.args.drawn.number c.args.on _ _ c.as_slice.result.now k d l ∙ ap (λ (n : ℕ). Some n) next));
+      leased = rw is (bought_years c.args.chart.now c.args.drawn.number c.args.on _ _ c.as_slice.result.now c.self.inside.inventory.assets c.self.inside.leased was.leased);
+      amortized = rw (is, c.buy_all.ensures.closed)
+          (bought_months c.args.chart.now c.args.drawn.number c.args.on _ _ c.as_slice.result.now c.self.inside.inventory.assets c.self.inside.inventory.closed c.self.inside.amortized.items was.amortized);
     }

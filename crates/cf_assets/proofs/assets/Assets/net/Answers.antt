@@ -4,8 +4,8 @@ use Rattle.std.proofs.lemmas.Int.{to_z-of_z}
 use mir.Val.{SFits}
 use mir.Syntax.{w128}
 use Rattle.cf_assets.specs.Register.{Register}
-use Rattle.cf_assets.proofs.Netting.{net_to}
-use Rattle.cf_model.specs.Assets.{depreciation, net}
+use Rattle.cf_assets.proofs.Netting.{owned_net}
+use Rattle.cf_model.specs.Assets.{depreciation, net, owned}
 use Rattle.cf_model.specs.Months.{closed_to}
 use Rattle.cf_model.specs.Sums.{int_sum}
 use Rattle.cf_model.proofs.Depreciated.{IsSoundAsset}
@@ -22,11 +22,14 @@ returns c =
     let sound : AllByRecursion (IsSoundAsset plan inventory.closed) inventory.assets = subst (λ (r : Register). AllByRecursion (IsSoundAsset plan r.closed) r.assets) (sym c.self.view_is) c.requires.sound in
     let closed : c.closed.result ≡ inventory.closed = c.closed.ensures.value ∙ ap (λ (r : Register). r.closed) (sym c.self.view_is) in
     let months : c.closed_through-months.result ≡ closed_to plan inventory.closed year = c.closed_through-months.ensures.value ∙ ap (λ m. closed_to plan m year) closed in
-    let accumulated : c.accumulated_to.result ≡ sum_by (depreciation (closed_to plan inventory.closed (n + 1969))) inventory.assets =
-    c.accumulated_to.ensures.value ∙ ap (λ m. sum_by (depreciation m) inventory.assets) months ∙ ap (λ y. sum_by (depreciation (closed_to plan inventory.closed y)) inventory.assets) (sym back) in
+    let depreciated : c.depreciated_to.result ≡ sum_by (depreciation (closed_to plan inventory.closed (n + 1969))) (owned inventory.assets) =
+    c.depreciated_to.ensures.value
+    ∙ ap (λ (r : Register). sum_by (depreciation c.closed_through-months.result) (owned r.assets)) (sym c.self.view_is)
+    ∙ ap (λ m. sum_by (depreciation m) (owned inventory.assets)) months
+    ∙ ap (λ y. sum_by (depreciation (closed_to plan inventory.closed y)) (owned inventory.assets)) (sym back) in
     rw (← c.self.view_is)
     (to_z-of_z w128 c.difference.result fits
     ∙ c.difference.ensures
-    ∙ (λ i. pos (c.acquired_through-acquired.ensures.value i) -ℤ pos (c.gone_through-gone.ensures.value i + accumulated i))
-    ∙ sym (net_to plan inventory.closed inventory.assets c.closed_through-months.ensures.first c.acquired_through-acquired.ensures.first sound n)
-    ∙ ap (λ y. int_sum (net plan inventory.closed y) inventory.assets) back)
+    ∙ (λ i. pos (c.acquired_through-acquired.ensures.value i) -ℤ pos (c.gone_through-gone.ensures.value i + depreciated i))
+    ∙ sym (owned_net plan inventory.closed inventory.assets c.closed_through-months.ensures.first c.acquired_through-acquired.ensures.first sound n)
+    ∙ ap (λ y. int_sum (net plan inventory.closed y) (owned inventory.assets)) back)

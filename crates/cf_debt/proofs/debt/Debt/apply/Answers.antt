@@ -2,7 +2,7 @@ use Rattle.std.proofs.Common.{◌≡◌, None, ap, sym, subst, ◌∙◌}
 use Rattle.cf_calls.specs.declared.acts.Act.{Act}
 use Rattle.cf_debt.specs.Register.{IsThere, registers_with}
 use Rattle.cf_debt.proofs.Refusing.{all_paid, can_pay, in_order}
-use Rattle.cf_debt.proofs.Stepping.{close_step, issue_step, leave_step, pay_step, quiet_step, stepped}
+use Rattle.cf_debt.proofs.Stepping.{close_step, issue_step, lease_step, leave_step, pay_step, quiet_step, stepped}
 use Rattle.cf_model.specs.RegisterRules.{debt_refusal}
 use Rattle.cf_debt.proofs.debt.Debt.apply.Goals as goal
 
@@ -26,9 +26,17 @@ pub returns-in-Issue-clause-debts : goal.returns-in-Issue-clause-debts
 returns-in-Issue-clause-debts c =
     let d = c.args.self.now.debts in
     let drawn = c.draws-drawn.result in
-    c.enter_bond.ensures.debts
+    c.enter_issue.ensures.debts
     ∙ sym (issue_step c.args.chart.now d c.args.desk c.args.on c.in-Issue.issue drawn)
     ∙ ap (λ a. stepped c.args.chart.now d c.args.desk c.args.on a drawn) (sym c.in-Issue.is)
+
+pub returns-in-Lease-clause-debts : goal.returns-in-Lease-clause-debts
+returns-in-Lease-clause-debts c =
+    let d = c.args.self.now.debts in
+    let drawn = c.draws-drawn.result in
+    c.enter_lease.ensures.debts
+    ∙ sym (lease_step c.args.chart.now d c.args.desk c.args.on c.in-Lease.lease drawn)
+    ∙ ap (λ a. stepped c.args.chart.now d c.args.desk c.args.on a drawn) (sym c.in-Lease.is)
 
 pub returns-in-PayDue-clause-debts : goal.returns-in-PayDue-clause-debts
 returns-in-PayDue-clause-debts c =
@@ -57,4 +65,4 @@ returns-in-Close-clause-debts c =
 pub returns-in_default-clause-debts : goal.returns-in_default-clause-debts
 returns-in_default-clause-debts c =
     c.count_act.ensures.debts
-    ∙ sym (quiet_step c.args.act.now c.args.chart.now c.args.self.now.debts c.args.desk c.args.on c.draws-drawn.result c.in_default.not-Issue c.in_default.not-PayDue c.in_default.not-Leave c.in_default.not-Close)
+    ∙ sym (quiet_step c.args.act.now c.args.chart.now c.args.self.now.debts c.args.desk c.args.on c.draws-drawn.result c.in_default.not-Issue c.in_default.not-PayDue c.in_default.not-Leave c.in_default.not-Close c.in_default.not-Lease)

@@ -9,7 +9,7 @@ use Rattle.cf_debt.proofs.debt.Debt.earn.Goals as goal
 pub invariant_of-self : goal.invariant_of-self
 invariant_of-self c =
     let was = c.self.invariant in
-    let few = subst (λ r. r.acts < 1048576) (sym c.self.view_is) c.requires.few in
+    let few = subst (λ r. r.acts < 1500000) (sym c.self.view_is) c.requires.few in
     let row = c.args.row in
     let by = earned_row row c.requires.earned in
     record {
@@ -18,7 +18,9 @@ invariant_of-self c =
         bonds = omega (arith, was.small.bonds);
         closed = was.small.closed;
         issued = omega (arith, was.small.issued);
+        leased = omega (arith, was.small.leased);
         repaid = omega (arith, was.small.repaid);
+        leases_repaid = omega (arith, was.small.leases_repaid);
         coupons = omega (arith, was.small.coupons);
         charged = omega (arith, was.small.charged);
         earned = omega (arith, was.small.earned, c.add_at.ensures.total, c.from.ensures, c.requires.amount);

@@ -1,4 +1,4 @@
-use Rattle.std.proofs.Common.{◌≡◌, ◌+◌, ◌-◌, ◌/◌, ◌<◌, ◌∙◌, ℕ, length, map, get_or, ap, arith, sym, subst, refl}
+use Rattle.std.proofs.Common.{◌≡◌, ◌+◌, ◌-◌, ◌/◌, ◌<◌, ◌∙◌, ℕ, Bool, true, false, ◌≤◌, length, map, get_or, ap, arith, sym, subst, refl}
 use Rattle.std.proofs.lemmas.List.{length-map, length-set}
 use Rattle.cf_debt.specs.declared.debt.Debt.TheInside.{Inside}
 use Rattle.cf_debt.specs.declared.rows.BondRow.{BondRow}
@@ -7,6 +7,7 @@ use Rattle.cf_debt.specs.Register.{Register}
 use Rattle.cf_debt.specs.RegisterView.{AreRows, register_of}
 use Rattle.cf_debt.specs.Rows.{AreSmallDues, IsRow, IsSmallDue, view_bond, view_bonds, view_leave, view_payment, view_payments}
 use Rattle.cf_debt.specs.Steps.{CanPay}
+use Rattle.cf_debt.specs.Years.{lease_part}
 use Rattle.cf_debt.proofs.Finding.{Pays, found_left, found_row, pays}
 use Rattle.cf_debt.proofs.Paying.{bonds_paid, has_paid, sums_paid}
 use Rattle.cf_debt.proofs.Payments.{payment_at, small_at}
@@ -100,10 +101,26 @@ count_payment-requires-clause-fits c d =
     let row = c.self.invariant.bonds.each (c.args.debt_payment.now.bond - 1) d (omega (arith, p.first, p.within)) in
     omega (arith, p.left d, row.bond.count.to)
 
+lease_most : (b : Bool) (n : ℕ) → lease_part b n ≤ n
+lease_most true n = omega arith
+lease_most false n = omega arith
+
+pub add_at-requires-2-clause-fits : goal.add_at-requires-2-clause-fits
+add_at-requires-2-clause-fits c =
+    let p = payable c.self.inside _ c.args.debt_payment.now.bond c.index-row.result.now c.self.view_is c.self.invariant.bonds.each c.requires.left c.index-row.ensures in
+    let s = small_of c.self.inside c.args.debt_payment.now.bond c.from.result c.index-row.result.now c.index.result.now c.self.invariant.bonds.sizes p c.from.ensures c.index.ensures in
+    omega (arith, s.principal, c.lease_part-of_lease.ensures, lease_most c.index-row.result.now.is_lease c.index.result.now.principal, c.self.invariant.small.leases_repaid, c.self.invariant.small.acts)
+
+pub add_at-requires-3-clause-within : goal.add_at-requires-3-clause-within
+add_at-requires-3-clause-within c =
+    let p = payable c.self.inside _ c.args.debt_payment.now.bond c.index-row.result.now c.self.view_is c.self.invariant.bonds.each c.requires.left c.index-row.ensures in
+    let s = small_of c.self.inside c.args.debt_payment.now.bond c.from.result c.index-row.result.now c.index.result.now c.self.invariant.bonds.sizes p c.from.ensures c.index.ensures in
+    omega (arith, s.month)
+
 pub invariant_of-self : goal.invariant_of-self
 invariant_of-self c =
     let was = c.self.invariant in
-    let few = subst (λ r. r.acts < 1048576) (sym c.self.view_is) c.requires.few in
+    let few = subst (λ r. r.acts < 1500000) (sym c.self.view_is) c.requires.few in
     let n = c.args.debt_payment.now.bond in
     let k = c.args.debt_payment.now.bond - 1 in
     let r = c.index-row.result.now in
@@ -118,6 +135,8 @@ invariant_of-self c =
     ∙ ap (λ j. get_or all (r.start + j) (view_payment q)) (sym c.from.ensures)
     ∙ payment_at c.self.inside.payments.items (r.start + c.from.result) q
     ∙ ap view_payment (sym c.index.ensures) in
+    let of_lease : c.lease_part-of_lease.result ≡ lease_part (get_or c.self.inside.bonds.items (c.args.debt_payment.now.bond - 1) c.index-row.result.now).is_lease c.index.result.now.principal =
+    c.lease_part-of_lease.ensures ∙ ap (λ (b : BondRow). lease_part b.is_lease c.index.result.now.principal) c.index-row.ensures in
     let interest : c.from-3.result ≡ coupon (view_bond all (get_or rows k r)) (view_payment q) =
     c.from-3.ensures ∙ c.coupon-interest.ensures.value ∙ ap (λ (b : BondRow). coupon (view_bond all b) (view_payment q)) c.index-row.ensures in
     record {
@@ -126,18 +145,21 @@ invariant_of-self c =
         bonds = rw (c.count_payment.ensures r, length-set) (omega (arith, was.small.bonds));
         closed = was.small.closed;
         issued = omega (arith, was.small.issued);
+        leased = omega (arith, was.small.leased);
         repaid = omega (arith, was.small.repaid, c.add_at.ensures.total, c.from-2.ensures, s.principal);
-        coupons = omega (arith, was.small.coupons, c.add_at-2.ensures.total, c.from-3.ensures, c.coupon-interest.ensures.small);
+        leases_repaid = omega (arith, was.small.leases_repaid, c.add_at-2.ensures.total, c.lease_part-of_lease.ensures, lease_most r.is_lease q.principal, s.principal);
+        coupons = omega (arith, was.small.coupons, c.add_at-3.ensures.total, c.from-3.ensures, c.coupon-interest.ensures.small);
         charged = omega (arith, was.small.charged);
         earned = omega (arith, was.small.earned);
         taken = omega (arith, was.small.taken);
         left = λ fund dept. omega (arith, was.small.left fund dept);
       };
       bonds = rw (c.count_payment.ensures r) (has_paid c.self.inside.closed all rows c.self.inside.live.items k r was.bonds l (p.place.left r));
-      sums = rw (c.count_payment.ensures r) (sums_paid c.self.inside.closed all rows k r (view_payment q) c.self.inside.issued c.self.inside.repaid c.add_at.new.cells c.self.inside.coupons c.add_at-2.new.cells c.self.inside.charged
+      sums = rw (c.count_payment.ensures r) (sums_paid c.self.inside.closed all rows k r (view_payment q) c.self.inside.issued c.self.inside.leased c.self.inside.repaid c.add_at.new.cells c.self.inside.leases_repaid c.add_at-2.new.cells c.self.inside.coupons c.add_at-3.new.cells c.self.inside.charged
           was.bonds.each l (p.place.left r) at was.sums
           (subst (Rise c.self.inside.repaid c.add_at.new.cells (q.month / 12)) c.from-2.ensures c.add_at.ensures.years)
-          (subst (Rise c.self.inside.coupons c.add_at-2.new.cells (q.month / 12)) interest c.add_at-2.ensures.years));
+          (subst (Rise c.self.inside.leases_repaid c.add_at-2.new.cells (q.month / 12)) of_lease c.add_at-2.ensures.years)
+          (subst (Rise c.self.inside.coupons c.add_at-3.new.cells (q.month / 12)) interest c.add_at-3.ensures.years));
       leave = was.leave;
     }
 

@@ -11,7 +11,7 @@ use Rattle.cf_debt.proofs.debt.Debt.take.Goals as goal
 pub invariant_of-self : goal.invariant_of-self
 invariant_of-self c =
     let was = c.self.invariant in
-    let few = subst (λ r. r.acts < 1048576) (sym c.self.view_is) c.requires.few in
+    let few = subst (λ r. r.acts < 1500000) (sym c.self.view_is) c.requires.few in
     let row = c.args.row in
     let left = subst (λ (r : Register). row.amount ≤ leave_of row.fund row.dept r.debts.leave) (sym c.self.view_is) c.requires.left in
     let enough : row.amount ≤ left_in c.self.inside.left.entries row.fund row.dept = omega (arith, left, left_is row.fund row.dept (map view_leave c.self.inside.leave.items) c.self.inside.left.entries was.leave.left) in
@@ -22,7 +22,9 @@ invariant_of-self c =
         bonds = omega (arith, was.small.bonds);
         closed = was.small.closed;
         issued = omega (arith, was.small.issued);
+        leased = omega (arith, was.small.leased);
         repaid = omega (arith, was.small.repaid);
+        leases_repaid = omega (arith, was.small.leases_repaid);
         coupons = omega (arith, was.small.coupons);
         charged = omega (arith, was.small.charged);
         earned = omega (arith, was.small.earned);

@@ -1,10 +1,10 @@
 use Rattle.std.proofs.Common.{◌≡◌, ◌+◌, [], ◌∷◌, ℕ, length, refl, ◌∙◌, ap, arith, inl, length-append}
 use Rattle.cf_journal.specs.Records.{record_of, record_len}
-use Rattle.cf_journal.specs.Layout.{front_of, RecoversToEither}
+use Rattle.cf_journal.specs.Layout.{RecoversToEither}
 use Rattle.cf_journal.proofs.Moments.{weaken, both}
 use Rattle.cf_journal.proofs.RecordLaws.{length-record_of, gate_after-push}
 use Rattle.cf_journal.proofs.Layouts.{valid_push}
-use Rattle.cf_journal.proofs.Appending.{on_err, at_end, gate_is, torn_at_rest, written_at_rest, torn_staged, opened}
+use Rattle.cf_journal.proofs.Appending.{on_err, at_end, torn_at_rest, written_at_rest, torn_staged, opened, reserved_of}
 use Rattle.cf_journal.proofs.journal.Journal.append.Goals as goal
 
 -- a crash in the write of the record leaves the history
@@ -18,8 +18,7 @@ returns-in_err-write_synced-clause-err g c =
         valid = settled.valid;
         images = λ told image is.
             let torn = at_end d.moment d.is_image d.was_image g.met.D.Disk.counts_now c.args.disk.now c.write_synced.new.disk _ c.write_synced.ensures.any_moment image is in
-            let at_is : c.args.self.now.gate + 1 ≡ length (front_of chart history) + 1 = ap (λ (k : ℕ). k + 1) (settled.stands.gate ∙ gate_is chart history settled.valid) in
-            torn_at_rest chart history settled.valid _ _ at_is torn.0 image (settled.images told torn.0 torn.1) torn.2;
+            torn_at_rest c.args.self.now.version chart history settled.valid _ _ (ap (λ (k : ℕ). k + 1) settled.stands.gate) torn.0 image (settled.images told torn.0 torn.1) torn.2;
       };
       doubt = λ doubt. absurd (cc (doubt, settled.clear));
     })
@@ -28,30 +27,31 @@ pub returns-in_err-write_synced-clause-any_moment : goal.returns-in_err-write_sy
 returns-in_err-write_synced-clause-any_moment g c =
     let d = g.D.Disk in
     λ told chart history entry settled reserves.
-    let at_is : c.args.self.now.gate + 1 ≡ length (front_of chart history) + 1 = ap (λ (k : ℕ). k + 1) (settled.stands.gate ∙ gate_is chart history settled.valid) in
     weaken d.moment d.was_image c.args.disk.now c.write_synced.new.disk _ (RecoversToEither chart history entry) c.write_synced.ensures.any_moment
-    (λ image torn. inl (torn_at_rest chart history settled.valid _ _ at_is torn.0 image (settled.images told torn.0 torn.1) torn.2).recovers)
+    (λ image torn. inl (torn_at_rest c.args.self.now.version chart history settled.valid _ _ (ap (λ (k : ℕ). k + 1) settled.stands.gate) torn.0 image (settled.images told torn.0 torn.1) torn.2).recovers)
 
 -- a crash in the write of the gate leaves the history, or it and the entry
 pub returns-in_err-write_synced-2-clause-err : goal.returns-in_err-write_synced-2-clause-err
 returns-in_err-write_synced-2-clause-err g c =
     let d = g.D.Disk in
-    on_err c.from_residual-in_err-write_synced-2.result _ (λ chart history entry settled reserves. record {
+    on_err c.from_residual-in_err-write_synced-2.result _ (λ chart history entry settled reserves.
+    let of_version = reserved_of c.args.self.now c.args.self.now.version c.requires.reserved.0 entry c.requires.reserved.1 c.requires.reserved.2 reserves in
+    record {
       clear = λ clear. absurd (cc clear);
       doubt = λ doubt. record {
         doubt = refl;
         stands = record { gate = settled.stands.gate; count = settled.stands.count };
         valid = settled.valid;
         has = reserves.has;
+        of = of_version;
         images = λ told image is.
             let torn = at_end d.moment d.is_image d.was_image g.met.D.Disk.counts_now c.write_synced.new.disk c.write_synced-2.new.disk _ c.write_synced-2.ensures.any_moment image is in
-            let gate_at = settled.stands.gate ∙ gate_is chart history settled.valid in
-            let at_is : c.args.self.now.gate + 1 ≡ length (front_of chart history) + 1 = ap (λ (k : ℕ). k + 1) gate_at in
+            let at_is = ap (λ (k : ℕ). k + 1) settled.stands.gate in
             let before = d.content c.args.disk.now in
             let rest = settled.images told before (g.met.D.Disk.reads_an_image c.args.disk.now told) in
             let only = c.in_ok-write_synced.ensures.durable told torn.0 torn.1 in
-            let is_staged = written_at_rest chart history settled.valid entry reserves.has _ _ before torn.0 at_is (c.deref.ensures.value ∙ reserves.bytes) rest (only ∙ c.in_ok-write_synced.ensures.content told) in
-            torn_staged chart history settled.valid entry reserves.has _ gate_at torn.0 image is_staged torn.2;
+            let is_staged = written_at_rest c.args.self.now.version chart history settled.valid entry reserves.has of_version _ _ before torn.0 at_is (c.deref.ensures.value ∙ reserves.bytes) rest (only ∙ c.in_ok-write_synced.ensures.content told) in
+            torn_staged c.args.self.now.version chart history settled.valid entry reserves.has of_version _ settled.stands.gate torn.0 image is_staged torn.2;
       };
     })
 
@@ -60,44 +60,44 @@ returns-in_err-write_synced-2-clause-any_moment g c =
     let d = g.D.Disk in
     λ told chart history entry settled reserves.
     let P = RecoversToEither chart history entry in
-    let gate_at = settled.stands.gate ∙ gate_is chart history settled.valid in
-    let at_is : c.args.self.now.gate + 1 ≡ length (front_of chart history) + 1 = ap (λ (k : ℕ). k + 1) gate_at in
+    let of_version = reserved_of c.args.self.now c.args.self.now.version c.requires.reserved.0 entry c.requires.reserved.1 c.requires.reserved.2 reserves in
+    let at_is = ap (λ (k : ℕ). k + 1) settled.stands.gate in
     let before = d.content c.args.disk.now in
     let rest = settled.images told before (g.met.D.Disk.reads_an_image c.args.disk.now told) in
     both d.moment d.was_image c.args.disk.now c.write_synced.new.disk c.write_synced-2.new.disk P
     (weaken d.moment d.was_image c.args.disk.now c.write_synced.new.disk _ P c.write_synced.ensures.any_moment
-    (λ image torn. inl (torn_at_rest chart history settled.valid _ _ at_is torn.0 image (settled.images told torn.0 torn.1) torn.2).recovers))
+    (λ image torn. inl (torn_at_rest c.args.self.now.version chart history settled.valid _ _ (ap (λ (k : ℕ). k + 1) settled.stands.gate) torn.0 image (settled.images told torn.0 torn.1) torn.2).recovers))
     (weaken d.moment d.was_image c.write_synced.new.disk c.write_synced-2.new.disk _ P c.write_synced-2.ensures.any_moment
     (λ image torn.
     let only = c.in_ok-write_synced.ensures.durable told torn.0 torn.1 in
-    let is_staged = written_at_rest chart history settled.valid entry reserves.has _ _ before torn.0 at_is (c.deref.ensures.value ∙ reserves.bytes) rest (only ∙ c.in_ok-write_synced.ensures.content told) in
-    (torn_staged chart history settled.valid entry reserves.has _ gate_at torn.0 image is_staged torn.2).recovers))
+    let is_staged = written_at_rest c.args.self.now.version chart history settled.valid entry reserves.has of_version _ _ before torn.0 at_is (c.deref.ensures.value ∙ reserves.bytes) rest (only ∙ c.in_ok-write_synced.ensures.content told) in
+    (torn_staged c.args.self.now.version chart history settled.valid entry reserves.has of_version _ settled.stands.gate torn.0 image is_staged torn.2).recovers))
 
 pub returns-clause-any_moment : goal.returns-clause-any_moment
 returns-clause-any_moment g c =
     let d = g.D.Disk in
     λ told chart history entry settled reserves.
     let P = RecoversToEither chart history entry in
-    let gate_at = settled.stands.gate ∙ gate_is chart history settled.valid in
-    let at_is : c.args.self.now.gate + 1 ≡ length (front_of chart history) + 1 = ap (λ (k : ℕ). k + 1) gate_at in
+    let of_version = reserved_of c.args.self.now c.args.self.now.version c.requires.reserved.0 entry c.requires.reserved.1 c.requires.reserved.2 reserves in
+    let at_is = ap (λ (k : ℕ). k + 1) settled.stands.gate in
     let before = d.content c.args.disk.now in
     let rest = settled.images told before (g.met.D.Disk.reads_an_image c.args.disk.now told) in
     both d.moment d.was_image c.args.disk.now c.write_synced.new.disk c.write_synced-2.new.disk P
     (weaken d.moment d.was_image c.args.disk.now c.write_synced.new.disk _ P c.write_synced.ensures.any_moment
-    (λ image torn. inl (torn_at_rest chart history settled.valid _ _ at_is torn.0 image (settled.images told torn.0 torn.1) torn.2).recovers))
+    (λ image torn. inl (torn_at_rest c.args.self.now.version chart history settled.valid _ _ (ap (λ (k : ℕ). k + 1) settled.stands.gate) torn.0 image (settled.images told torn.0 torn.1) torn.2).recovers))
     (weaken d.moment d.was_image c.write_synced.new.disk c.write_synced-2.new.disk _ P c.write_synced-2.ensures.any_moment
     (λ image torn.
     let only = c.in_ok-write_synced.ensures.durable told torn.0 torn.1 in
-    let is_staged = written_at_rest chart history settled.valid entry reserves.has _ _ before torn.0 at_is (c.deref.ensures.value ∙ reserves.bytes) rest (only ∙ c.in_ok-write_synced.ensures.content told) in
-    (torn_staged chart history settled.valid entry reserves.has _ gate_at torn.0 image is_staged torn.2).recovers))
+    let is_staged = written_at_rest c.args.self.now.version chart history settled.valid entry reserves.has of_version _ _ before torn.0 at_is (c.deref.ensures.value ∙ reserves.bytes) rest (only ∙ c.in_ok-write_synced.ensures.content told) in
+    (torn_staged c.args.self.now.version chart history settled.valid entry reserves.has of_version _ settled.stands.gate torn.0 image is_staged torn.2).recovers))
 
 -- behind the open gate the entry counts
 pub returns-clause-ok : goal.returns-clause-ok
 returns-clause-ok g c =
     let d = g.D.Disk in
     λ chart history entry settled reserves.
-    let gate_at = settled.stands.gate ∙ gate_is chart history settled.valid in
-    let at_is : c.args.self.now.gate + 1 ≡ length (front_of chart history) + 1 = ap (λ (k : ℕ). k + 1) gate_at in
+    let of_version = reserved_of c.args.self.now c.args.self.now.version c.requires.reserved.0 entry c.requires.reserved.1 c.requires.reserved.2 reserves in
+    let at_is = ap (λ (k : ℕ). k + 1) settled.stands.gate in
     let before = d.content c.args.disk.now in
     let middle = d.content c.write_synced.new.disk in
     let size : length c.args.self.now.reserved.items ≡ record_len entry = ap length reserves.bytes ∙ length-append (record_of entry) (0 ∷ []) ∙ omega (arith, length-record_of entry reserves.has) in
@@ -107,10 +107,10 @@ returns-clause-ok g c =
         gate = omega (arith, settled.stands.gate, size, c.args.self.now.reserved.ok.0, gate_after-push (6 + length chart) history entry);
         count = omega (arith, settled.stands.count, length-append history (entry ∷ []));
       };
-      valid = valid_push chart history entry settled.valid reserves.has;
+      valid = valid_push c.args.self.now.version chart history entry settled.valid reserves.has of_version;
       images = λ told image is.
           let rest = settled.images told before (g.met.D.Disk.reads_an_image c.args.disk.now told) in
-          let is_staged = written_at_rest chart history settled.valid entry reserves.has _ _ before middle at_is (c.deref.ensures.value ∙ reserves.bytes) rest (c.in_ok-write_synced.ensures.content told) in
+          let is_staged = written_at_rest c.args.self.now.version chart history settled.valid entry reserves.has of_version _ _ before middle at_is (c.deref.ensures.value ∙ reserves.bytes) rest (c.in_ok-write_synced.ensures.content told) in
           let only = c.in_ok-write_synced-2.ensures.durable told image is in
-          opened chart history settled.valid entry reserves.has _ middle image gate_at is_staged (only ∙ c.in_ok-write_synced-2.ensures.content told);
+          opened c.args.self.now.version chart history settled.valid entry reserves.has of_version _ middle image settled.stands.gate is_staged (only ∙ c.in_ok-write_synced-2.ensures.content told);
     }

@@ -1,0 +1,30 @@
+use Rattle.std.proofs.Common.{◌≡◌, ◌+◌, ◌<◌, ◌≤◌, arith, sym, subst, length, map}
+use Rattle.std.proofs.lemmas.List.{length-append, length-map}
+use Rattle.cf_assets.specs.Inventory.{Inventory}
+use Rattle.cf_assets.specs.Rows.{view_asset, IsStage}
+use Rattle.cf_assets.proofs.InService.{serving_push}
+use Rattle.cf_assets.proofs.Keeping.{rows_push, accumulated_push, lease_bought, lease_given, new_book}
+use Rattle.cf_assets.proofs.inventory.Inventory.accept_lease.Goals as goal
+
+pub invariant_of-self : goal.invariant_of-self
+invariant_of-self c =
+    let was = c.self.invariant in
+    let r = c.args.row in
+    let rows = c.self.inside.rows.items in
+    let accumulated = c.self.inside.accumulated.items in
+    let new = c.requires.new in
+    let few : length (map view_asset rows) < 48000000 = subst (λ (i : Inventory). length i.assets < 48000000) (sym c.self.view_is) c.requires.few in
+    let next : r.number ≡ length (map view_asset rows) + 1 = subst (λ (i : Inventory). r.number ≡ length i.assets + 1) (sym c.self.view_is) new.number in
+    let early : length accumulated ≤ r.service = subst (λ (i : Inventory). i.closed ≤ r.service) (sym c.self.view_is) new.early in
+    let at : c.len-at.result ≡ length rows = omega (arith, c.len-at.ensures) in
+    record {
+      few = rw (c.push_within.ensures.items, length-append rows) (omega (arith, few, length-map rows view_asset));
+      months = was.months;
+      rows = rw c.push_within.ensures.items
+          (rows_push (length accumulated) rows r was.rows (record { number = omega (arith, next, length-map rows view_asset); cost = new.cost; from = new.from; to = new.to; stage = subst (IsStage (length accumulated)) (sym new.held) tt }));
+      serving = rw (c.push_within.ensures.items, c.enlist.ensures.items) (serving_push (length accumulated) c.len-at.result rows c.self.inside.serving.items r at was.serving);
+      accumulated = rw c.push_within.ensures.items (accumulated_push rows r accumulated new.held early was.accumulated);
+      outlay = rw c.push_within.ensures.items (lease_bought rows r c.self.inside.outlay c.requires.lease was.outlay);
+      donated = rw c.push_within.ensures.items (lease_given rows r c.self.inside.donated c.requires.lease was.donated);
+      disposals = rw c.push_within.ensures.items (new_book (length accumulated) rows r c.self.inside.disposals new.held was.disposals);
+    }

@@ -1,0 +1,60 @@
+//! Which items of orders lapse at the roll of their fiscal year, and which go on.
+
+ghost use Rattle.std.specs.Prelude.{◌≡◌, ◌≤◌};
+ghost use Rattle.cf_base.specs.Limits.{last_year};
+ghost use Rattle.cf_model.specs.OrderItems as order_items;
+ghost use Rattle.cf_orders.specs.RowRolls as spec;
+ghost use Rattle.cf_orders.specs.RowRolls.{goes_on_row, lapses_row, rolls_row};
+
+use crate::items::{is_going, open_row};
+use crate::rows::ItemRow;
+use cf_calls::items::AccountItem;
+use cf_chart::{Chart, Policy};
+
+/// Whether a fund carries its open encumbrances into the year after.
+fn carries(chart: &Chart, fund: u16) -> bool
+    ensures { result ≡ spec.carries chart.now fund }
+{
+    match chart.fund(fund) {
+        None => false,
+        Some(fund) => match fund.policy {
+            Policy::Carry => true,
+            Policy::Lapse => false,
+        },
+    }
+}
+
+/// Whether an account has a line in a fiscal year.
+fn has_line(chart: &Chart, account: AccountItem, year: u16) -> bool
+    ensures { result ≡ order_items.has_line chart.now account year }
+{
+    match chart.line_of(account.fund, account.dept, account.object, year) {
+        Some(_) => true,
+        None => false,
+    }
+}
+
+/// Whether an item lapses at its year's roll: nothing is open, its fund carries nothing, or its account has no line in the
+/// year after.
+pub fn lapses(chart: &Chart, row: &ItemRow) -> bool
+    requires { row.now.year ≤ last_year }
+    ensures { result ≡ lapses_row chart.now row.now }
+{
+    open_row(row) == 0
+        || !(carries(chart, row.account.fund) && has_line(chart, row.account, row.year + 1))
+}
+
+/// Whether an item is live in a year.
+pub fn rolls(year: u16, row: &ItemRow) -> bool
+    ensures { result ≡ rolls_row year row.now }
+{
+    row.year == year && is_going(row)
+}
+
+/// Whether an item is live in a year and goes on in the year after.
+pub fn goes_on(chart: &Chart, year: u16, row: &ItemRow) -> bool
+    requires { year ≤ last_year }
+    ensures { result ≡ goes_on_row chart.now year row.now }
+{
+    rolls(year, row) && !lapses(chart, row)
+}

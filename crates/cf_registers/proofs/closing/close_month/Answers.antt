@@ -1,0 +1,21 @@
+use Rattle.std.proofs.Common.{◌≡◌, ◌+◌, ◌/◌, ◌++◌, ◌∷◌, [], true, false, map, sum_by, ap, sym, append_assoc, ◌∙◌}
+use Rattle.cf_assets.specs.Charges.{of_kind}
+use Rattle.cf_debt.specs.Register.{Debts}
+use Rattle.cf_model.specs.Bonds.{interest_charge}
+use Rattle.cf_post.specs.declared.deed.Deed.TheVariants as deed
+use Rattle.cf_registers.specs.Deeds.{amortize_deed, charge_deed}
+use Rattle.cf_registers.proofs.closing.close_month.Goals as goal
+
+pub returns : goal.returns
+returns c =
+    let fs = c.args.chart.now.functions in
+    let months = c.closed.ensures in
+    let first = c.first_year.ensures.value in
+    let own = c.assets.ensures in
+    let other = c.assets-2.ensures in
+    let interest = c.month_interest.ensures.value ∙ ap (λ (d : Debts). sum_by (interest_charge d.closed) d.bonds) c.debt.ensures in
+    c.in_ok-push.ensures.items
+    ∙ ap (λ ys. ys ++ deed.AccrueInterest (record { year = c.first_year.result + c.closed.result / 12; amount = c.month_interest.result }) ∷ []) (c.in_ok-amortize.ensures ∙ ap (λ xs. xs ++ map (amortize_deed (c.first_year.result + c.closed.result / 12) c.assets-2.result.now.closed (of_kind true c.assets-2.result.now.assets)) fs) c.in_ok-deeds.ensures)
+    ∙ append_assoc (map (charge_deed (c.first_year.result + c.closed.result / 12) c.assets.result.now.closed (of_kind false c.assets.result.now.assets)) fs) (map (amortize_deed (c.first_year.result + c.closed.result / 12) c.assets-2.result.now.closed (of_kind true c.assets-2.result.now.assets)) fs) (deed.AccrueInterest (record { year = c.first_year.result + c.closed.result / 12; amount = c.month_interest.result }) ∷ [])
+    ∙ (λ j. map (charge_deed (first j + months j / 12) (sym own.closed j) (of_kind false (sym own.assets j))) fs
+    ++ (map (amortize_deed (first j + months j / 12) (sym other.closed j) (of_kind true (sym other.assets j))) fs ++ deed.AccrueInterest (record { year = first j + months j / 12; amount = interest j }) ∷ []))

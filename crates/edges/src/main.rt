@@ -1,0 +1,39 @@
+//! Plays a script of what the program reads from and writes to, and of runs over lines, and prints beside each line of it
+//! what the public calls give.
+//!
+//! | Line of the script | What is printed below it |
+//! |---|---|
+//! | `# ..` | nothing: a heading |
+//! | `source SIZE FILE` | what reads of so many bytes give of a source over a file |
+//! | `ends` | what reads and writes give over a reader and a writer, and over memory |
+//! | `file PATH`, `missing PATH`, `nowhere PATH` | what the calls of a disk over a file give: one that is made, one that isn't, and one that can't be |
+//! | `memory FAIL STOP` | what five calls give of a disk in memory: it fails at the call FAIL and stops at STOP |
+//! | `talk TEXT` | how a run over lines ends and what it writes; a bar stands for a newline and a hash for a return |
+//! | `long LETTERS` | the same over a line of so many letters and a short one |
+//! | `drip READS TEXT` | the same over a source that gives a byte at a time, and fails after so many reads |
+//! | `limit BYTES TEXT` | the same over an output that takes so many bytes |
+//! | `gathered TEXT`, `each TEXT` | the same with the number of writes, where answers may gather and where each is to be written |
+//! | `year_end MONTH YEAR` | the last day of a fiscal year, by the first month of fiscal years |
+#![tactic(auto)]
+
+mod disks;
+mod ends;
+mod office;
+mod play;
+mod said;
+mod talks;
+mod word;
+mod years;
+
+use play::play;
+use std::io;
+use word::word_of;
+
+fn main(rt: HostRuntime) -> io::Result<()> {
+    for line in rt.lines(rt.alloc()) {
+        let line = line?;
+        println!(rt; "{line}")?;
+        play(&rt, &word_of(line.as_str()))?;
+    }
+    Ok(())
+}
