@@ -9,28 +9,23 @@ scratch=$(mktemp -d /dev/shm/limit.XXXXXX) || exit 1
 trap 'rm -rf "$scratch"' EXIT
 cp "$top/examples/rivertown/chart.toml" "$scratch/chart.toml"
 cd "$scratch" && PYTHONPATH=$top/bench PYTHONDONTWRITEBYTECODE=1 python3 - "$program" "${1:-1500000}" <<'PY'
-import os, subprocess, sys, time
+import os, subprocess, sys, threading, time
 
 import journals
 
 PROGRAM, MOST = sys.argv[1], int(sys.argv[2])
-CALLS = 2_000
-
-
-def run(text):
-    """The seconds of a desk over these lines, and what it answered."""
-    start = time.time()
-    said = subprocess.run([PROGRAM, "desk"], input=text.encode(), stdout=subprocess.PIPE).stdout.decode()
-    return time.time() - start, said
+CALLS = 1_500
 
 
 def opened(entries, items=1):
-    """The seconds of opening a journal of so many entries, the memory of that run in GB, the journal's bytes, and the run's status."""
-    size = journals.write(entries - 1, items)
-    start = time.time()
-    pid = os.spawnv(os.P_NOWAIT, "/bin/sh", ["sh", "-c", f'exec "{PROGRAM}" desk < /dev/null'])
-    _, status, usage = os.wait4(pid, 0)
-    return time.time() - start, usage.ru_maxrss * 1024 / 1e9, size, os.waitstatus_to_exitcode(status)
+    """The median seconds of five openings of a journal of so many entries, the memory of the last in GB, the journal's bytes, the status."""
+    size, taken = journals.write(entries - 1, items), []
+    for _ in range(5):
+        start = time.time()
+        pid = os.spawnv(os.P_NOWAIT, "/bin/sh", ["sh", "-c", f'exec "{PROGRAM}" desk < /dev/null'])
+        _, status, usage = os.wait4(pid, 0)
+        taken.append(time.time() - start)
+    return sorted(taken)[2], usage.ru_maxrss * 1024 / 1e9, size, os.waitstatus_to_exitcode(status)
 
 
 def vouchers(first):
@@ -39,16 +34,24 @@ def vouchers(first):
 
 
 def call(entries):
-    """Microseconds of a voucher behind so many entries: the best of three runs with the calls, each less one without."""
-    best = []
-    for _ in range(3):
-        journals.write(entries - 1)
-        empty, _ = run("")
-        journals.write(entries - 1)
-        full, said = run(vouchers(1))
-        assert said.count('"ok"') == CALLS, said[:200]
-        best.append(full - empty)
-    return min(best) / CALLS * 1e6
+    """Microseconds of a voucher behind so many entries, once the journal is open: the least of three runs of calls."""
+    journals.write(entries - 1)
+    desk = subprocess.Popen([PROGRAM, "desk"], stdin=subprocess.PIPE, stdout=subprocess.PIPE, text=True, bufsize=1)
+    desk.stdin.write('{"call":"line","line":3,"year":2026}\n')
+    desk.stdin.flush()
+    desk.stdout.readline()
+    best = None
+    for turn in range(3):
+        start = time.time()
+        writing = threading.Thread(target=lambda: (desk.stdin.write(vouchers(turn * CALLS)), desk.stdin.flush()))
+        writing.start()
+        said = [desk.stdout.readline() for _ in range(CALLS)]
+        writing.join()
+        best = min(time.time() - start, best or 1e9)
+        assert all('"ok"' in line for line in said), said[0]
+    desk.stdin.close()
+    desk.wait()
+    return best / CALLS * 1e6
 
 
 short, _, _, _ = opened(MOST // 10)
