@@ -24,19 +24,32 @@ def voucher(number, items=1):
             + struct.pack(">II", number, 1))                    # its number, and its first asset's
 
 
+def receipt(number, source, on):
+    return head(14, 5, f"r{number}", on) + struct.pack(">HQ", source, 1)  # one cent
+
+
 def record(payload):
     return b"\x01" + struct.pack(">I", len(payload)) + payload
 
 
 def write(vouchers, items=1):
-    """Writes fund.journal under the chart chart.toml: an adoption, and so many direct vouchers of so many items. Says its size."""
+    """Writes fund.journal: an adoption, and so many direct vouchers of so many items. Says its size."""
+    return write_entries([adoption(3, 1_000_000_000), *(voucher(number, items) for number in range(1, vouchers + 1))])
+
+
+def write_receipts(receipts, sources):
+    """Writes fund.journal: so many receipts on these sources in turn, over the 31 days of a July. Says its size."""
+    return write_entries(receipt(n, sources[n % len(sources)], day(2025, 7, 1 + n % 31)) for n in range(receipts))
+
+
+def write_entries(payloads):
+    """Writes fund.journal with these entries under the chart chart.toml. Says its size."""
     with open("chart.toml", "rb") as file:
         chart = file.read()
     with open("fund.journal", "wb") as file:
         file.write(b"\x01\x02" + struct.pack(">I", len(chart)) + chart)
-        file.write(record(adoption(3, 1_000_000_000)))
-        for number in range(1, vouchers + 1):
-            file.write(record(voucher(number, items)))
+        for payload in payloads:
+            file.write(record(payload))
         file.write(b"\x00")
         file.flush()
         os.fsync(file.fileno())

@@ -1,8 +1,8 @@
 #!/bin/sh
 # Tries the program `books` on the journals of the examples: their calls, sent to a desk over a newly founded journal, make the
 # same file; a Rivertown journal moves to a chart with a line and a desk more; a journal that is cut at any byte gives the
-# whole entries before the cut; the lines of a fund with a later level say their years. Then what it refuses. BOOKS names
-# another program than the one that rt built last.
+# whole entries before the cut; payments have their amounts; the lines of a fund with a later level say their years; an entry that
+# the office refuses is named. Then what it refuses. BOOKS names another program than the one that rt built last.
 cd "$(dirname "$0")/.." || exit 1
 top=$(pwd)
 . tests/program.sh
@@ -62,6 +62,30 @@ found again "$scratch/longer.toml"
     "$books" list > list && "$books" list ../first/fund.journal | cmp - list)
 verdict "a journal moves to a longer chart with the same numbers" $?
 
+# ---- amounts of payments
+
+mkdir "$scratch/debt"
+cp examples/rivertown/chart.toml "$scratch/first/chart-alone.toml"
+[ "$(cd "$scratch/first" && "$books" list | awk -F '\t' '$5 == "pay" { print $6 }')" = "600.00" ]
+verdict "the amount of a payment of vouchers" $?
+found debt examples/rivertown/chart.toml
+cat > "$scratch/debt/in" << 'CALLS'
+{"call":"adopt","desk":1,"key":"b1","on":"2025-07-01","fund":1,"year":2026,"lines":[{"line":6,"amount":300000},{"line":7,"amount":100000}],"estimates":[]}
+{"call":"receive","desk":5,"key":"r1","on":"2025-07-15","source":2,"amount":50000}
+{"call":"issue","desk":5,"key":"i1","on":"2025-07-15","fund":1,"amount":200000,"rate_bp":600,"every":1,"principals":[150000,50000]}
+{"call":"pay_due","desk":5,"key":"d1","on":"2025-08-20","bond":1,"fund":1,"dept":10,"principal":810,"interest":820}
+{"call":"pay_due","desk":5,"key":"d2","on":"2025-09-20","bond":1,"fund":1,"dept":10,"principal":810,"interest":820}
+CALLS
+# Interest of 30 days: 2,000.00 at 6 % is 10.00, and 500.00 is 2.50.
+[ "$(cd "$scratch/debt" && "$program" desk < in > replies && "$books" list | awk -F '\t' '$5 == "pay_due" { print $6, $7 }')" = "1510.00 1
+502.50 2" ]
+verdict "the amounts of payments of a debt" $?
+
+# ---- the lines of a chart's own file
+
+(cd "$scratch/first" && "$books" lines > lines-of && "$books" lines chart-alone.toml | cmp - lines-of)
+verdict "the lines of a chart's file" $?
+
 # ---- a later level of control
 
 found again examples/fairview/chart.toml
@@ -114,6 +138,37 @@ sys.exit(wrong > 0)
 PY
 verdict "a journal of $entries entries, cut at each of its $size bytes" $?
 
+# ---- an entry that the office refuses: its place is named, and its call is printed
+
+python3 - "$books" "$scratch/first/fund.journal" "$scratch/first/calls" << 'PY'
+import struct, subprocess, sys
+
+BOOKS, JOURNAL, CALLS = sys.argv[1:]
+data, calls = open(JOURNAL, "rb").read(), open(CALLS, "rb").read().splitlines(True)
+gates = [6 + struct.unpack(">I", data[2:6])[0]]
+while data[gates[-1]] == 1:
+    gates.append(gates[-1] + 5 + struct.unpack(">I", data[gates[-1] + 1:gates[-1] + 5])[0])
+
+
+def check(name, bytes, code, out, err):
+    open(JOURNAL + ".forged", "wb").write(bytes)
+    run = subprocess.run([BOOKS, "check", JOURNAL + ".forged"], stdout=subprocess.PIPE, stderr=subprocess.PIPE)
+    got = (run.returncode, run.stdout, run.stderr.decode())
+    if got != (code, out, err):
+        print(f"{name}: {got}, not {(code, out, err)}")
+    return got == (code, out, err)
+
+
+# Without its first entry the second, a voucher, is of a budget that wasn't adopted; with the last one twice it is a repeat.
+first = data[:gates[0]] + data[gates[1]:]
+last = data[gates[-2]:gates[-1]]
+twice = data[:gates[-1]] + last + data[gates[-1]:]
+held = [check("no budget", first, 9, calls[1], f"books: damaged at {gates[0]}: entry 1 is refused: 12 NotAdopted\n"),
+        check("a repeat", twice, 9, calls[-1], f"books: damaged at {gates[-1]}: entry {len(calls) + 1} is a repeat, or draws other numbers\n")]
+sys.exit(not all(held))
+PY
+verdict "an entry that the office refuses" $?
+
 # ---- what is refused, and that nothing changes
 
 cp "$scratch/first/fund.journal" "$scratch/before"
@@ -124,6 +179,7 @@ expect "no file" 4 "books: read fault" calls nowhere
 expect "a folder" 4 "books: read fault" calls folder
 expect "an empty file" 7 "books: not founded: the file has 0 bytes" list empty
 expect "no journal" 7 "books: not founded: the file has 11 bytes" check text
+expect "no chart for lines" 7 "books: not founded: the file has 11 bytes" lines text
 expect "no chart" 3 "books: chart refused: no TOML document" check-chart text
 expect "no words" 2 "books: bad words"
 expect "an unknown command" 2 "books: bad words" print
@@ -133,6 +189,7 @@ expect "an unknown option" 2 "books: bad words" list --tsv
 sed 's/^window = 60$/window = 61/' examples/rivertown/chart.toml > "$scratch/first/window.toml"
 sed 's/^level = "department"$/level = "dept"/' examples/rivertown/chart.toml > "$scratch/first/level.toml"
 expect "a bad level, with the id of its row" 3 "books: chart refused: fund 1 (id 2) has a bad level" check-chart level.toml
+expect "the lines of a chart that is refused" 3 "books: chart refused: fund 1 (id 2) has a bad level" lines level.toml
 expect "a window of 61 days" 3 "books: chart refused: source 1 has a window of 61 days" check-chart window.toml
 "$books" --help > "$scratch/help" 2> "$scratch/err" && grep -q '^books calls' "$scratch/help" && [ ! -s "$scratch/err" ]
 verdict "help" $?

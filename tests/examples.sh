@@ -1,10 +1,10 @@
 #!/bin/sh
 # Runs the examples through the launcher and compares what it prints with the replies beside them: each talk of
 # examples/ over a journal of its own, founded with the chart of Rivertown, or with the chart that stands beside it,
-# with the statements that stand beside a talk, a journal that an earlier program wrote (examples/older/), and the day of
-# examples/two-runs/ by two desks, one after the other, over one journal. The journal of each talk is read by its format alone
+# with the statements that stand beside a talk, a journal that an earlier program wrote (examples/older/), a month's interest that
+# is shared among the funds (examples/pooled/), and the day of examples/two-runs/ by two desks, one after the other, over one journal. The journal of each talk is read by its format alone
 # (journal.py). Then what founding and opening refuse, the launcher with stubs (launcher.sh), the program books (books.sh), calls of
-# sheets (sheets.sh) and the package (package.sh).
+# sheets (sheets.sh), the package (package.sh), the stored commands (commands), and a short run of the independent office (agree.sh).
 cd "$(dirname "$0")/.." || exit 1
 top=$(pwd)
 . tests/program.sh
@@ -116,6 +116,79 @@ expect "a lease in version 1" 9 "cityfund: damaged at $last" desk
 byte 1 377
 expect "another byte 1" 0 "" desk
 
+# claim DATE LINES: what is claimed of the grant of examples/grants/ on that day is these lines, and the journal stays.
+claim() {
+    cp "$scratch/fund.journal" "$scratch/before"
+    (cd "$scratch" && "$city/cityfund" claim 7 "$1" 6 < "$top/examples/grants/grants.toml" > got)
+    status=$?
+    [ "$status" -eq 0 ] && diff "$scratch/got" "$2" && cmp "$scratch/fund.journal" "$scratch/before"
+    verdict "the claim of $1: status $status" $?
+}
+
+# A year of one grant. A claim's lines are a talk as they were written, and the same claim after it writes nothing.
+fresh rivertown
+expect "found for a grant" 0 founded found
+talk examples/grants/autumn.jsonl examples/grants/autumn.replies
+claim 2026-01-15 examples/grants/january.jsonl
+talk examples/grants/january.jsonl examples/grants/january.replies
+claim 2026-01-15 /dev/null
+talk examples/grants/spring.jsonl examples/grants/spring.replies
+claim 2026-04-15 examples/grants/april.jsonl
+talk examples/grants/april.jsonl examples/grants/april.replies
+talk examples/grants/summer.jsonl examples/grants/summer.replies
+claim 2026-07-21 /dev/null
+expect "a claim of no day" 2 "cityfund: bad words" claim 7 2026-02-30 6
+
+# refused FAULT: the document of the scratch folder is refused, and nothing is written.
+refused() {
+    said=$(cd "$scratch" && "$city/cityfund" claim 7 2026-01-15 6 2>&1 < document)
+    status=$?
+    [ "$status" -eq 19 ] && [ "$said" = "cityfund: grant refused" ]
+    verdict "a document of grants with $1: status $status: $said" $?
+}
+
+# Documents with each fault, over a history of which the whole one claims three lines.
+fresh rivertown
+expect "found for documents of grants" 0 founded found
+talk examples/grants/autumn.jsonl examples/grants/autumn.replies
+claim 2026-01-15 examples/grants/january.jsonl
+grants=examples/grants/grants.toml
+: > "$scratch/document" && refused "no grant"
+sed 's/^id = 7/id = 8/' "$grants" > "$scratch/document" && refused "another grant"
+{ cat "$grants" && head -c 1048576 /dev/zero | tr '\0' '\n'; } > "$scratch/document" && refused "more than 1,048,576 bytes"
+echo "[[grant]" > "$scratch/document" && refused "no TOML"
+echo "grant = 7" > "$scratch/document" && refused "a grant that is no table"
+cat "$grants" "$grants" > "$scratch/document" && refused "a grant twice"
+{ cat "$grants" && sed 's/^id = 7/id = 8/' "$grants"; } > "$scratch/document" && refused "a source twice"
+for id in $(seq 1 65); do sed "s/^id = 7/id = $id/" "$grants"; done > "$scratch/document" && refused "65 grants"
+for key in id source payer award rate_bp lines; do
+    sed "/^$key = /d" "$grants" > "$scratch/document" && refused "no $key"
+    sed "s/^$key = .*/$key = true/" "$grants" > "$scratch/document" && refused "a $key of another type"
+done
+for fault in "id = 0" "id = 10000" "source = 1" "source = 4" "payer = -1" "payer = 4294967296" "award = 0" "award = 10000000000001" \
+    "rate_bp = 0" "rate_bp = 10001" "lines = []" "lines = [3]" "lines = [8]" "lines = [4, 4]"; do
+    sed "s/^${fault%% *} = .*/$fault/" "$grants" > "$scratch/document" && refused "$fault"
+done
+# A month's interest, shared among the funds: what `pool` writes a desk enters, and a second sending is answered as the first and
+# adds nothing.
+fresh rivertown
+expect "found for a month without cash" 0 founded found
+expect "pool without cash" 13 "cityfund: no share" pool 2025-07 100 5
+expect "words of no pool" 2 "cityfund: bad words" pool 2025-13 100 5
+fresh milltown
+expect "found for a month's interest" 0 founded found
+talk examples/milltown/pool.jsonl examples/milltown/pool.replies
+cp "$scratch/fund.journal" "$scratch/before"
+(cd "$scratch" && "$city/cityfund" pool 2025-07 100 5 > got) && cmp "$scratch/got" examples/pooled/lines.jsonl
+verdict "the lines of pool" $?
+cmp -s "$scratch/fund.journal" "$scratch/before"
+verdict "the journal after pool" $?
+talk examples/pooled/lines.jsonl examples/pooled/lines.replies
+cp "$scratch/fund.journal" "$scratch/before"
+talk examples/pooled/again.jsonl examples/pooled/again.replies
+cmp -s "$scratch/fund.journal" "$scratch/before"
+verdict "the journal after the lines of pool once more" $?
+
 fresh rivertown
 expect "found for two runs" 0 founded found
 talk examples/two-runs/morning.jsonl examples/two-runs/morning.replies
@@ -165,6 +238,7 @@ expect "a report of a head cut short" 9 "cityfund: damaged at 1" report 2026 bal
 fresh rivertown
 expect "a desk without a journal" 7 "cityfund: not founded" desk
 expect "a report without a journal" 7 "cityfund: not founded" report 2026 balance
+expect "pool without a journal" 7 "cityfund: not founded" pool 2025-07 100 5
 [ ! -e "$scratch/fund.journal" ]
 verdict "no journal is made" $?
 # A property tax window of 61 days breaks the chart's rule of 60 (GASB Codification P70).
@@ -180,5 +254,9 @@ sh tests/sheets.sh
 verdict "calls of sheets, and the tables of docs/CALLS.md" $?
 sh tests/package.sh
 verdict "the package" $?
+python3 tests/office/commands.py tests/commands "$program"
+verdict "the stored commands" $?
+sh tests/agree.sh 20 800
+verdict "the independent office, over the stored talks and 20 random ones" $?
 
 summary examples

@@ -17,7 +17,7 @@ trap 'rm -rf "$scratch"' EXIT
 # The repository as ./build leaves it, without the sources.
 city=$scratch/city
 mkdir -p "$city/out" "$scratch/desk" "$scratch/root"
-cp -R cityfund books package README.md docs examples "$city/"
+cp -R cityfund books package README.md docs examples page "$city/"
 cp "$program" "$city/out/cityfund"
 cp "$books" "$city/out/books"
 
@@ -57,8 +57,8 @@ verdict "the same twice, and by a link" $?
 dpkg-deb --fsys-tarfile "$made" | tar -tv > "$scratch/list"
 ! grep -vE '^[-dl]r[-w]xr-xr-x root/root|^-rw-r--r-- root/root' "$scratch/list"
 verdict "all belongs to root, and others only read" $?
-! awk '{ print $6 }' "$scratch/list" | grep -vE '^\./(opt/(cityfund/.*)?|usr/(lib/(systemd/(system/(cityfund\.service)?)?)?)?)?$'
-verdict "all stands in /opt/cityfund but the unit" $?
+! awk '{ print $6 }' "$scratch/list" | grep -vE '^\./(opt/(cityfund/.*)?|usr/(lib/(systemd/(system/(cityfund(-page|-ship)?\.(service|timer))?)?)?)?)?$'
+verdict "all stands in /opt/cityfund but the units" $?
 mkdir "$scratch/raw"
 dpkg-deb --raw-extract "$made" "$scratch/raw"
 # In the programs themselves stands what the compiler wrote.
@@ -84,11 +84,11 @@ else
     dpkg-deb --extract "$made" "$scratch/root"
 fi
 there=$scratch/root/opt/cityfund
-missing=$(grep -oE '/opt/cityfund/[a-z.]+' "$scratch/root/usr/lib/systemd/system/cityfund.service" | sort -u | while read -r file; do
+missing=$(grep -ohE '/opt/cityfund/[a-z./]+' "$scratch/root/usr/lib/systemd/system/"*.service | sort -u | while read -r file; do
     [ -x "$scratch/root$file" ] || echo "$file"
 done)
 [ -z "$missing" ]
-verdict "what the unit runs: $missing" $?
+verdict "what the units run: $missing" $?
 
 # ---- a first day
 

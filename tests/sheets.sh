@@ -2,7 +2,7 @@
 # Makes calls of the sheets of examples/clients/ and compares them with those that stand beside them, whose replies the independent office
 # gives; then sheets with a fault, each of which is named with its row and column. Where rt built the program, the calls are sent to it
 # twice: the second time each is answered with its place, and nothing is added. Before all that fields.py compares docs/CALLS.md with the
-# program's source and with the stored talks.
+# program's source and with the stored talks, and page/tables.py the page's tables with docs/.
 cd "$(dirname "$0")/.." || exit 1
 top=$(pwd)
 scratch=$(mktemp -d) || exit 1
@@ -14,6 +14,8 @@ export PYTHONDONTWRITEBYTECODE
 
 python3 tests/fields.py
 verdict "the tables of docs/CALLS.md" $?
+python3 page/tables.py --check
+verdict "the tables of the page" $?
 
 # ---- the sheets
 

@@ -3,6 +3,7 @@
     answers.py CHART TALK REPLIES       compares the answers with stored replies; what isn't a call in form is passed over
     answers.py CHART TALK YEAR KIND [--csv]    prints a statement
 """
+import functools
 import json
 import sys
 import tomllib
@@ -10,9 +11,18 @@ import tomllib
 from calls import Office, text_of
 
 
+@functools.lru_cache(2)
+def chart_of(text):
+    return {**dict.fromkeys(("function", "fund", "department", "object", "source", "line", "desk"), []), **tomllib.loads(text.decode())}
+
+
+def office_of_bytes(chart):
+    return Office(chart_of(chart))
+
+
 def office_of(chart):
     with open(chart, "rb") as file:
-        return Office({**dict.fromkeys(("function", "fund", "department", "object", "source", "line", "desk"), []), **tomllib.load(file)})
+        return office_of_bytes(file.read())
 
 
 def differing(office, calls, replies):

@@ -6,10 +6,11 @@ compares it with the program over random talks, and with the stored replies of e
 import datetime
 import json
 
+from classes import Classes
 from forms import fault_of
 from rules import same
 from state import Refused, unknown
-from statements import TITLES, Statements
+from statements import TITLES
 
 ROLES = dict(
     adopt="council", amend="council", transfer="council", requisition="dept", withdraw="dept", order="purchasing",
@@ -19,7 +20,7 @@ ROLES = dict(
 )
 
 
-class Office(Statements):
+class Office(Classes):
     """What each call is answered: the least broken rule, or what the call makes."""
 
     def answer(self, call):

@@ -41,6 +41,7 @@ class Books:
         self.assets, self.bonds, self.leave, self.loans = [], [], [], {}
         self.spendings = []  # (line, year, amount): debt payments, matured leave and leases
         self.posts = {"fund": [], "gov": []}  # (year, fund, account, amount)
+        self.cash_posts = []  # (place of the entry, from 0, fund, amount)
 
     # ---- the calendar
 
@@ -172,6 +173,8 @@ class Books:
         for account, amount in posts:
             if amount:
                 self.posts[basis].append((year, fund if basis == "fund" else 0, account, amount))
+                if (basis, account) == ("fund", 100000):
+                    self.cash_posts.append((len(self.entries), fund, amount))
 
     def post_both(self, year, fund, *posts):
         self.post("fund", year, fund, *posts)

@@ -10,6 +10,8 @@ TITLES = dict(
     reconcile="Reconciliation to net position",
     changes="Reconciliation to change in net position",
 )
+# Of the command `report` alone (classes.py).
+COMMAND_TITLES = dict(TITLES, classes="Fund balance classes", components="Net position components", major="Major funds")
 GRANTS = dict(charges=1, operating_grant=2, capital_grant=3)  # the column of a function's own revenue
 
 
@@ -157,7 +159,7 @@ class Statements(Rules):
     # ---- as text and as CSV
 
     def text(self, year, kind):
-        lines = ["%s: %s, fiscal year %d" % (self.chart["city"], TITLES[kind], year)]
+        lines = ["%s: %s, fiscal year %d" % (self.chart["city"], COMMAND_TITLES[kind], year)]
         for label, *amounts in self.statement(year, kind):
             lines.append("".join(["%-40s" % label if amounts else label, *("%20s" % money(amount) for amount in amounts)]))
         return "".join(line + "\n" for line in lines)

@@ -8,7 +8,7 @@ import sys
 
 from calls import ROLES, Office, text_of
 from state import Refused
-from statements import GRANTS, TITLES
+from statements import COMMAND_TITLES, GRANTS, TITLES
 
 WEIGHTS = dict(
     adopt=4, amend=2, transfer=2, requisition=5, withdraw=2, order=6, change_order=4, cancel_order=1, voucher=14, void_voucher=4,
@@ -21,6 +21,7 @@ PACES = (
 )
 DOCUMENTS = ("requisition", "order", "voucher", "bill", "asset", "bond")
 LOOKS = DOCUMENTS + ("line", "leave", "account", "reconcile", "report")
+TYPES = ("special_revenue", "capital_projects", "debt_service", "permanent")  # the first three may state a balance_class
 SPENT = (510, 520, 710, 715, 720)
 CAPITAL = (710, 715, 720)
 
@@ -31,7 +32,7 @@ def random_chart(rng):
     functions = [dict(id=n, name="Function %d%s" % (n, more)) for n in sorted(rng.sample(range(1, 64), rng.randint(1, 3)))]
     funds = [
         dict(
-            id=number, name="Fund %d%s" % (number, more), type="general" if number == 1 else "special_revenue",
+            id=number, name="Fund %d%s" % (number, more), type="general" if number == 1 else rng.choice(TYPES),
             level=rng.choice(["department", "class", "object"]), policy=rng.choice(["lapse", "carry"]),
         )
         for number in range(1, rng.randint(3, 5))
@@ -53,6 +54,8 @@ def random_chart(rng):
     lines = [line for fund in funds for dept in departments for line in random_lines(rng, fund["id"], fund["level"], dept["id"], objects)]
     first_year = rng.choice([2026, 2026, 2030, 1972, 2150])
     for fund in funds:
+        if fund["type"] in TYPES[:3] and rng.random() < 0.5:
+            fund.update(balance_class=rng.choice(["restricted", "committed", "assigned"]))
         if rng.random() < 0.7:
             fund.update(later_level=rng.choice(["department", "class", "object"]), later_year=first_year + rng.choice([1, 1, 1, 2, 3]))
             for dept in departments:
@@ -383,7 +386,7 @@ def write_talk(folder, office, lines):
             print(json.dumps(call, separators=(",", ":")), file=talked)
             print(reply, file=replies)
     for year in {office.chart["first_year"], min(2199, office.open_year())}:
-        for kind in TITLES:
+        for kind in COMMAND_TITLES:
             with open("%s/%d-%s.txt" % (folder, year, kind), "w") as text, open("%s/%d-%s.csv" % (folder, year, kind), "w") as csv:
                 text.write(office.text(year, kind))
                 csv.write(office.csv(year, kind))

@@ -13,7 +13,7 @@ books check [FILE]          says what a journal has, or where it is damaged (FIL
 books list [FILE] [--csv]   prints a row an entry: place, day, desk, key, call, amount, numbers drawn
 books calls [FILE]          prints the entries as calls, which make the journal again
 books chart [FILE]          prints the chart that a journal keeps
-books lines [FILE]          prints its control lines, with their numbers and names
+books lines [FILE]          prints its control lines, or those of a chart, with numbers and names
 books --help                prints this
 books --version             prints the version
 

@@ -1,5 +1,5 @@
 -- The line numbers of a book go on being those of its history.
-use Rattle.std.proofs.Common.{◌≡◌, ℕ, ◌%◌, List, [], ◌∷◌, ◌++◌, sym, subst, ◌∙◌}
+use Rattle.std.proofs.Common.{◌≡◌, ◌%◌, List, [], ◌∷◌, ◌++◌, sym, subst, ◌∙◌}
 use Rattle.cf_budget.specs.declared.changes.LineChange.{LineChange}
 use Rattle.cf_budget.specs.Changes.{Applies}
 use Rattle.cf_budget.specs.Tables.{Tables, SameRows, SameStripes}

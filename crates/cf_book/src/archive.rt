@@ -1,9 +1,9 @@
 //! An archive: a history kept on a disk, and one call over it with lent line numbers.
 
-ghost use Rattle.std.specs.Prelude.{◌≡◌, ◌++◌, ◌∷◌, [], false, ℕ, List, Ok, Some, None, IfSome, IsTrue};
+ghost use Rattle.std.specs.Prelude.{◌≡◌, ◌++◌, ◌∷◌, [], false, ℕ, List, Ok, Some, None, IfSome, IfOk, IfErr, OnOk, OnErr, IsTrue};
 ghost use Rattle.cf_articulation.specs.Articulates.{AllArticulate};
 ghost use Rattle.cf_budget.specs.Tables.{has_line, SameRows, SameStripes};
-ghost use Rattle.cf_calls.specs.Form.{IsCallInForm, IsChangeInForm};
+ghost use Rattle.cf_calls.specs.Form.{IsCallInForm, IsChangeInForm, IsEntryInForm};
 ghost use Rattle.cf_calls.specs.declared.call.Call.TheVariants as calls;
 ghost use Rattle.cf_calls.specs.declared.reply.Posted.TheVariants as posted;
 ghost use Rattle.cf_calls.specs.declared.reply.Verdict.TheVariants.{Accept};
@@ -18,8 +18,10 @@ ghost use Rattle.cf_registers.specs.Moved.{AreTablesOf};
 ghost use Rattle.cf_book.specs.Archives.{given, Grows, IsOwed, LendsCall};
 ghost use Rattle.cf_book.specs.Books.{accepts, IsInHand, RecoversNear};
 ghost use Rattle.cf_book.specs.DurableState.{state_of};
+ghost use Rattle.cf_book.specs.Recovery.{entry_refusal};
 ghost use Rattle.cf_book.specs.Settling.{Settles, entry_by};
 
+use crate::readmission::refusal_of;
 use crate::writing::write;
 use cf_budget::Lines;
 use cf_calls::{Body, Call, Change, Drawn, Entry, Posted, Reply, Verdict, entry_of};
@@ -187,6 +189,31 @@ impl<D: Disk + Drop> Archive<D> {
             Verdict::Accept(drawn) => self.accept(alloc, lines, change, drawn),
             Verdict::Repeat { was } => Settled::Kept(repeat_reply(&lent, was)),
             Verdict::Refuse(refusal) => Settled::Kept(refusal_reply(&lent, refusal)),
+        }
+    }
+
+    /// What comes of an entry of another history: the number of its refusal, or what is given where its change is accepted
+    /// with its numbers, as in `settle`.
+    pub fn admit(&mut self, alloc: Global, lines: &mut Lines, entry: &Entry) -> Result<Settled, u8>
+        requires form { IsEntryInForm entry.now }
+        requires tables { AreTablesOf self.old.plan self.old.entries lines.old }
+        requires lent { LendsTouched self.old.plan (has_line lines.old) entry.now.change.act }
+        ensures refused { IfErr result (λ n. entry_refusal self.old.plan self.old.entries entry.now ≡ Some n) }
+        ensures same { OnErr result (self.new ≡ self.old) }
+        ensures taken { OnOk result (entry_refusal self.old.plan self.old.entries entry.now ≡ None) }
+        ensures reply { IfOk result (λ s. Settles (state_of D.faults self.old) (calls.Change entry.now.change) (given s) (state_of D.faults self.new)) }
+        ensures grows { IfOk result (λ s. Grows self.old.plan self.old.entries self.new.entries (calls.Change entry.now.change) lines.new s) }
+        ensures plan { self.new.plan ≡ self.old.plan }
+        ensures rows { SameRows lines.old lines.new }
+        ensures stripes { SameStripes lines.old lines.new }
+        ensures memory { IfOk result (λ s. given s ≡ posted.NoMemory → self.new.disk ≡ self.old.disk) }
+        ensures any_moment { IsTrue D.tells → AtEachMoment D.moment D.was_image self.old.disk self.new.disk
+            (RecoversNear self.old.plan self.old.entries (IsInHand (state_of D.faults self.old) (calls.Change entry.now.change))) }
+    {
+        let lent = Lent::new(lines, &self.rest);
+        match refusal_of(&lent, entry) {
+            Some(refusal) => Err(refusal),
+            None => Ok(self.accept(alloc, lines, &entry.change, entry.drawn)),
         }
     }
 

@@ -10,14 +10,17 @@ use Rattle.cf_books_words.specs.declared.words.Command.{Command}
 use Rattle.cf_books_words.specs.declared.words.Command.TheVariants as asked
 use Rattle.cf_chart.specs.Plan.{Plan}
 use Rattle.cf_chart.specs.Reading.{chart_of}
+use Rattle.cf_calls.specs.declared.entry.Entry.{Entry}
 use Rattle.cf_chart.specs.declared.fault.ChartFault.{ChartFault}
+use Rattle.cf_chart.specs.declared.fault.ChartFault.TheVariants as chart_fault
 use Rattle.cf_desk.specs.Reads.{IsRead}
+use Rattle.cf_journal.specs.Frames.{frames}
 use Rattle.cf_journal.specs.declared.refused.OpenRefused.{OpenRefused}
 use Rattle.cf_journal.specs.declared.refused.OpenRefused.TheVariants as open_refused
 use Rattle.cf_model.specs.State.{OfficeState}
 use Rattle.cf_books.specs.declared.status.Status.{Status}
 use Rattle.cf_books.specs.declared.status.Status.TheVariants.{Done, BadWords, ChartRefused, ReadFault, WriteFault, NotFounded, Damaged, NoMemory, Cut}
-use Rattle.cf_books.specs.Answers.{AreLeft, Ends, Gave, book_refusal, chart_said, check_said, end_of, refusal_of, said, whole_said}
+use Rattle.cf_books.specs.Answers.{AreLeft, Ends, Gave, chart_lines_said, chart_said, end_of, entry_at, lines_said, office_said, refusal_of, refused_entry, refused_in, refused_said, said, whole_said}
 use Rattle.cf_books.specs.Whole.{Parts, whole_of}
 
 -- bytes that are fewer than could have been taken were read to the end
@@ -64,23 +67,45 @@ whole_no_fault : (command : Command) (len : ℕ) (r : Result Parts OpenRefused) 
 whole_no_fault command len (Ok p) = end_no_fault p.damage len
 whole_no_fault command len (Err e) = open_no_fault e
 
-book_no_fault : (e : BookRefused) → IsNoFault (book_refusal e)
-book_no_fault (book_refused.NotFounded len byte) = tt
-book_no_fault (book_refused.Damaged at refusal) = tt
-book_no_fault book_refused.Disk = tt
-book_no_fault book_refused.NoMemory = tt
+chart_lines_no_fault : (bytes : List ℕ) (r : Result Plan ChartFault) → IsNoFault (chart_lines_said bytes r).status
+chart_lines_no_fault bytes (Ok plan) = tt
+chart_lines_no_fault bytes (Err (chart_fault.TooLong limit)) = tt
+chart_lines_no_fault bytes (Err chart_fault.NotToml) = tt
+chart_lines_no_fault bytes (Err f) = tt
 
-check_no_fault : (r : Result OfficeState BookRefused) → IsNoFault (check_said r).status
-check_no_fault (Ok s) = tt
-check_no_fault (Err e) = book_no_fault e
+lines_no_fault : (bytes : List ℕ) (r : Result Parts OpenRefused) → IsNoFault (lines_said bytes r).status
+lines_no_fault bytes (Ok p) = end_no_fault p.damage (length bytes)
+lines_no_fault bytes (Err (open_refused.NotFounded len byte)) = chart_lines_no_fault bytes (chart_of bytes)
+lines_no_fault bytes (Err (open_refused.Damaged at)) = tt
+lines_no_fault bytes (Err open_refused.Disk) = tt
+lines_no_fault bytes (Err open_refused.NoMemory) = tt
+
+entry_no_fault : (offset number : ℕ) (found : Option (ℕ × Entry)) → IsNoFault (refused_entry offset number found).status
+entry_no_fault offset number None = tt
+entry_no_fault offset number (Some x) = tt
+
+refused_in_no_fault : (offset number : ℕ) (r : Result (List ℕ × List Entry) OpenRefused) → IsNoFault (refused_in offset number r).status
+refused_in_no_fault offset number (Ok x) = entry_no_fault offset number (entry_at offset (length x.0) x.1)
+refused_in_no_fault offset number (Err e) = open_no_fault e
+
+refused_no_fault : (bytes : List ℕ) (e : BookRefused) → IsNoFault (refused_said bytes e).status
+refused_no_fault bytes (book_refused.NotFounded len byte) = tt
+refused_no_fault bytes (book_refused.Damaged at None) = tt
+refused_no_fault bytes (book_refused.Damaged at (Some number)) = refused_in_no_fault at number (frames bytes)
+refused_no_fault bytes book_refused.Disk = tt
+refused_no_fault bytes book_refused.NoMemory = tt
+
+office_no_fault : (bytes : List ℕ) (r : Result OfficeState BookRefused) → IsNoFault (office_said bytes r).status
+office_no_fault bytes (Ok s) = tt
+office_no_fault bytes (Err e) = refused_no_fault bytes e
 
 pub no_fault : (command : Command) (bytes : List ℕ) → IsNoFault (said command bytes).status
 no_fault asked.CheckChart bytes = chart_no_fault bytes (chart_of bytes)
-no_fault asked.Check bytes = check_no_fault (recovered bytes)
+no_fault asked.Check bytes = office_no_fault bytes (recovered bytes)
 no_fault (asked.List csv) bytes = whole_no_fault (asked.List csv) (length bytes) (whole_of bytes)
 no_fault asked.Calls bytes = whole_no_fault asked.Calls (length bytes) (whole_of bytes)
 no_fault asked.Chart bytes = whole_no_fault asked.Chart (length bytes) (whole_of bytes)
-no_fault asked.Lines bytes = whole_no_fault asked.Lines (length bytes) (whole_of bytes)
+no_fault asked.Lines bytes = lines_no_fault bytes (whole_of bytes)
 
 -- ---- where memory was wanting nothing is printed
 
@@ -96,17 +121,45 @@ whole_silent : (command : Command) (len : ℕ) (r : Result Parts OpenRefused) �
 whole_silent command len (Ok p) e = absurd (end_known p.damage len e)
 whole_silent command len (Err why) e = refl
 
-check_silent : (r : Result OfficeState BookRefused) → (check_said r).status ≡ NoMemory → (check_said r).out ≡ []
-check_silent (Ok s) e = cc
-check_silent (Err why) e = refl
+chart_lines_silent : (bytes : List ℕ) (r : Result Plan ChartFault) → (chart_lines_said bytes r).status ≡ NoMemory → (chart_lines_said bytes r).out ≡ []
+chart_lines_silent bytes (Ok plan) e = cc
+chart_lines_silent bytes (Err (chart_fault.TooLong limit)) e = refl
+chart_lines_silent bytes (Err chart_fault.NotToml) e = refl
+chart_lines_silent bytes (Err f) e = refl
+
+lines_silent : (bytes : List ℕ) (r : Result Parts OpenRefused) → (lines_said bytes r).status ≡ NoMemory → (lines_said bytes r).out ≡ []
+lines_silent bytes (Ok p) e = absurd (end_known p.damage (length bytes) e)
+lines_silent bytes (Err (open_refused.NotFounded len byte)) e = chart_lines_silent bytes (chart_of bytes) e
+lines_silent bytes (Err (open_refused.Damaged at)) e = refl
+lines_silent bytes (Err open_refused.Disk) e = refl
+lines_silent bytes (Err open_refused.NoMemory) e = refl
+
+entry_silent : (offset number : ℕ) (found : Option (ℕ × Entry)) → (refused_entry offset number found).status ≡ NoMemory → (refused_entry offset number found).out ≡ []
+entry_silent offset number None e = refl
+entry_silent offset number (Some x) e = cc
+
+refused_in_silent : (offset number : ℕ) (r : Result (List ℕ × List Entry) OpenRefused) → (refused_in offset number r).status ≡ NoMemory → (refused_in offset number r).out ≡ []
+refused_in_silent offset number (Ok x) e = entry_silent offset number (entry_at offset (length x.0) x.1) e
+refused_in_silent offset number (Err why) e = refl
+
+refused_silent : (bytes : List ℕ) (why : BookRefused) → (refused_said bytes why).status ≡ NoMemory → (refused_said bytes why).out ≡ []
+refused_silent bytes (book_refused.NotFounded len byte) e = refl
+refused_silent bytes (book_refused.Damaged at None) e = refl
+refused_silent bytes (book_refused.Damaged at (Some number)) e = refused_in_silent at number (frames bytes) e
+refused_silent bytes book_refused.Disk e = refl
+refused_silent bytes book_refused.NoMemory e = refl
+
+office_silent : (bytes : List ℕ) (r : Result OfficeState BookRefused) → (office_said bytes r).status ≡ NoMemory → (office_said bytes r).out ≡ []
+office_silent bytes (Ok s) e = cc
+office_silent bytes (Err why) e = refused_silent bytes why e
 
 silent : (command : Command) (bytes : List ℕ) → (said command bytes).status ≡ NoMemory → (said command bytes).out ≡ []
 silent asked.CheckChart bytes = chart_silent bytes (chart_of bytes)
-silent asked.Check bytes = check_silent (recovered bytes)
+silent asked.Check bytes = office_silent bytes (recovered bytes)
 silent (asked.List csv) bytes = whole_silent (asked.List csv) (length bytes) (whole_of bytes)
 silent asked.Calls bytes = whole_silent asked.Calls (length bytes) (whole_of bytes)
 silent asked.Chart bytes = whole_silent asked.Chart (length bytes) (whole_of bytes)
-silent asked.Lines bytes = whole_silent asked.Lines (length bytes) (whole_of bytes)
+silent asked.Lines bytes = lines_silent bytes (whole_of bytes)
 
 -- ---- how an answer ends a run
 
@@ -123,6 +176,6 @@ gave_ends command left held held' WriteFault g = record {
   put = record { done = (said command g.bytes).out; joins = sym (append-nil (said command g.bytes).out); put = g.put };
 }
 gave_ends command left held held' (NotFounded len) g = g
-gave_ends command left held held' (Damaged at refusal) g = g
+gave_ends command left held held' (Damaged at entry) g = g
 gave_ends command left held held' NoMemory g = subst (Appends held held') (silent command g.bytes g.is) g.put
 gave_ends command left held held' (Cut at lost) g = g

@@ -1,6 +1,7 @@
 -- One step of a loop over a list.
-use Rattle.std.proofs.Common.{◌≡◌, ℕ, ◌+◌, ◌<◌, Bool, true, false, refl, List, [], ◌∷◌, ◌++◌, length, drop, get_or, sym, ap, ◌∙◌, subst, append_assoc, append-nil, add-one, drop-cons}
-use Rattle.std.specs.Prelude.{Vec}
+use Rattle.std.proofs.Common.{◌≡◌, ℕ, zero, suc, ◌+◌, ◌<◌, Bool, true, false, refl, List, [], ◌∷◌, ◌++◌, Some, length, drop, get_or, sym, ap, ◌∙◌, subst, append_assoc, append-nil, add-one, drop-cons, arith}
+use Rattle.std.specs.Prelude.{Vec, ◌-◌, codes, decimal, slice_get, slice_index_or}
+use Rattle.cf_books.specs.Notices.{refusal_names, refusal_text}
 use Rattle.std.specs.Global.{Global}
 use Rattle.csv.specs.declared.Writer.{Writer}
 use Rattle.csv.specs.Writing.{row_text}
@@ -32,3 +33,22 @@ three_texts out a b c x y z p q r = two_texts out a c x (y ++ z) p (two_texts a 
 pub header_first : (csv : Bool) (rows : List (List (List ℕ))) → rows_text csv (header_rows csv) ++ rows_text csv rows ≡ rows_text csv (header_rows csv ++ rows)
 header_first true rows = ap (λ t. t ++ rows_text true rows) (append-nil (row_text (setup true) header))
 header_first false rows = refl
+
+-- the item at a place, as it is looked up
+pub get-item : {A : Type 0} (xs : List A) (i : ℕ) (x : A) → i < length xs → x ≡ get_or xs i x → slice_get xs i ≡ Some x
+get-item [] i x below is = absurd (omega (arith, below))
+get-item (y ∷ ys) zero x below is = ap (λ z. Some z) (sym is)
+get-item (y ∷ ys) (suc i) x below is = get-item ys i x (omega (arith, below)) is
+
+-- ---- the text of a refusal
+
+pub refusal_is : (n : ℕ) → (n ≡ 0 → ⊥) → refusal_text n ≡ codes " is refused: " ++ (decimal n ++ 32 ∷ slice_index_or refusal_names (n - 1) [])
+refusal_is zero some = absurd (some refl)
+refusal_is (suc n) some =
+    let same : n + 1 ≡ suc n = omega arith in
+    let less : suc n - 1 ≡ n = omega arith in
+    ap (λ m. codes " is refused: " ++ (decimal m ++ 32 ∷ slice_index_or refusal_names n [])) same
+    ∙ ap (λ m. codes " is refused: " ++ (decimal (suc n) ++ 32 ∷ slice_index_or refusal_names m [])) (sym less)
+
+pub regrouped : (a b c d : List ℕ) → (a ++ (b ++ c)) ++ d ≡ a ++ (b ++ (c ++ d))
+regrouped a b c d = simp append_assoc

@@ -1,13 +1,18 @@
 -- What each command answers: a function of the bytes of its file.
-use Rattle.std.specs.Prelude.{◌≡◌, ⊤, ℕ, ◌-◌, List, [], length, Option, Some, None, Result, Ok, Err}
+use Rattle.std.specs.Prelude.{◌≡◌, ⊤, ℕ, zero, suc, ◌+◌, ◌-◌, List, [], ◌∷◌, length, Option, Some, None, Result, Ok, Err}
 use Rattle.std.specs.Io.KnownBytes.{Appends}
+use Rattle.cf_book.specs.DurableState.{DurableBook}
 use Rattle.cf_book.specs.Recovery.{recovered}
 use Rattle.cf_book.specs.declared.refused.BookRefused.{BookRefused}
 use Rattle.cf_book.specs.declared.refused.BookRefused.TheVariants.{NotFounded, Damaged, Disk, NoMemory}
+use Rattle.cf_calls.specs.declared.entry.Entry.{Entry}
 use Rattle.cf_chart.specs.declared.fault.ChartFault.{ChartFault}
+use Rattle.cf_chart.specs.declared.fault.ChartFault.TheVariants as fault
 use Rattle.cf_chart.specs.Plan.{Plan}
 use Rattle.cf_chart.specs.Reading.{chart_of}
 use Rattle.cf_desk.specs.Sinks.{Wrote}
+use Rattle.cf_journal.specs.Frames.{frames}
+use Rattle.cf_journal.specs.Records.{record_len}
 use Rattle.cf_journal.specs.declared.refused.OpenRefused.{OpenRefused}
 use Rattle.cf_journal.specs.declared.refused.OpenRefused.TheVariants as open_refused
 use Rattle.cf_model.specs.State.{OfficeState}
@@ -16,7 +21,7 @@ use Rattle.cf_books_words.specs.declared.words.Command.TheVariants.{CheckChart, 
 use Rattle.cf_books.specs.declared.answers.Answer.{Answer}
 use Rattle.cf_books.specs.declared.status.Status.{Status}
 use Rattle.cf_books.specs.declared.status.Status.TheVariants as status
-use Rattle.cf_books.specs.Calls.{calls_text}
+use Rattle.cf_books.specs.Calls.{call_line, calls_text}
 use Rattle.cf_books.specs.FaultRows.{fault_id}
 use Rattle.cf_books.specs.Lines.{lines_text}
 use Rattle.cf_books.specs.Listing.{list_text}
@@ -48,9 +53,7 @@ abbrev pub text_of : Command → Parts → List ℕ
 text_of Calls p = calls_text p.entries
 text_of (Listing csv) p = list_text csv p.entries
 text_of Chart p = p.chart
-text_of Lines p = lines_in (chart_of p.chart)
-text_of CheckChart p = []
-text_of Check p = []
+text_of _ p = []
 
 -- the bytes from the damage on are lost
 abbrev pub end_of : Option ℕ → ℕ → Status
@@ -68,29 +71,61 @@ abbrev pub whole_said : Command → ℕ → Result Parts OpenRefused → Said
 whole_said command len (Ok p) = record { out = text_of command p; status = end_of p.damage len }
 whole_said command len (Err e) = nothing (refusal_of e)
 
+-- ---- the lines of a journal's chart, or of a chart
+
+-- a file that is no journal is read as a chart, where it is a TOML document at all
+abbrev pub chart_lines_said : List ℕ → Result Plan ChartFault → Said
+chart_lines_said bytes (Ok plan) = record { out = lines_text plan; status = status.Done }
+chart_lines_said bytes (Err fault.NotToml) = nothing (status.NotFounded (length bytes))
+chart_lines_said bytes (Err (fault.TooLong limit)) = nothing (status.NotFounded (length bytes))
+chart_lines_said bytes (Err f) = nothing (status.ChartRefused f (fault_id bytes f))
+
+abbrev pub lines_said : List ℕ → Result Parts OpenRefused → Said
+lines_said bytes (Ok p) = record { out = lines_in (chart_of p.chart); status = end_of p.damage (length bytes) }
+lines_said bytes (Err (open_refused.NotFounded len byte)) = chart_lines_said bytes (chart_of bytes)
+lines_said bytes (Err e) = nothing (refusal_of e)
+
 -- ---- a journal, whose entries the office takes again
 
--- why it isn't that of an office
-abbrev pub book_refusal : BookRefused → Status
-book_refusal (NotFounded len byte) = status.NotFounded len
-book_refusal (Damaged at refusal) = status.Damaged at refusal
-book_refusal Disk = status.NoMemory
-book_refusal NoMemory = status.NoMemory
+-- the first of the entries that stands so many bytes behind the first gate, or further, with its place
+abbrev pub entry_behind : ℕ → ℕ → List Entry → Option (ℕ × Entry)
+entry_behind offset place [] = None
+entry_behind zero place (e ∷ later) = Some (place, e)
+entry_behind (suc n) place (e ∷ later) = entry_behind (suc n - record_len e) (place + 1) later
 
-abbrev pub check_said : Result OfficeState BookRefused → Said
-check_said (Ok s) = record { out = journal_text s.entries; status = status.Done }
-check_said (Err e) = nothing (book_refusal e)
+-- the entry whose gate stands at a place in the file, where the chart in front of the entries has so many bytes
+abbrev pub entry_at : ℕ → ℕ → List Entry → Option (ℕ × Entry)
+entry_at offset chart_len entries = entry_behind (offset - 6 - chart_len) 1 entries
 
--- the refusal alone
-abbrev pub refused : Result OfficeState BookRefused → Option Status
-refused (Ok s) = None
-refused (Err e) = Some (book_refusal e)
+abbrev pub refused_entry : ℕ → ℕ → Option (ℕ × Entry) → Said
+refused_entry offset number None = nothing (status.Damaged offset None)
+refused_entry offset number (Some x) = record { out = call_line x.1; status = status.Damaged offset (Some (record { place = x.0; number = number })) }
+
+abbrev pub refused_in : ℕ → ℕ → Result (List ℕ × List Entry) OpenRefused → Said
+refused_in offset number (Ok x) = refused_entry offset number (entry_at offset (length x.0) x.1)
+refused_in offset number (Err e) = nothing (refusal_of e)
+
+-- why these bytes aren't those of an office: an entry that it refuses is named by its place, and its call is printed
+abbrev pub refused_said : List ℕ → BookRefused → Said
+refused_said bytes (Damaged at (Some number)) = refused_in at number (frames bytes)
+refused_said bytes (Damaged at None) = nothing (status.Damaged at None)
+refused_said bytes (NotFounded len byte) = nothing (status.NotFounded len)
+refused_said bytes Disk = nothing status.NoMemory
+refused_said bytes NoMemory = nothing status.NoMemory
+
+abbrev pub office_text : OfficeState → List ℕ
+office_text s = journal_text s.entries
+
+abbrev pub office_said : List ℕ → Result OfficeState BookRefused → Said
+office_said bytes (Ok s) = record { out = office_text s; status = status.Done }
+office_said bytes (Err e) = refused_said bytes e
 
 -- ---- any command
 
 abbrev pub said : Command → List ℕ → Said
 said CheckChart bytes = chart_said bytes (chart_of bytes)
-said Check bytes = check_said (recovered bytes)
+said Lines bytes = lines_said bytes (whole_of bytes)
+said Check bytes = office_said bytes (recovered bytes)
 said command bytes = whole_said command (length bytes) (whole_of bytes)
 
 -- the answer is this one, or there was no memory for it
@@ -100,6 +135,20 @@ view a = record { out = a.out.items; status = a.status }
 abbrev pub Answers : {E : Type 0} → Result Answer E → Said → Type 0
 Answers (Ok a) x = x ≡ view a
 Answers (Err e) x = ⊤
+
+-- the book is that of the bytes, or this is why there is none; want of memory is free
+abbrev pub opened : {D : Type 0} → DurableBook D → OfficeState
+opened b = record { plan = b.plan; entries = b.entries }
+
+-- why there is none
+abbrev pub Refuses : BookRefused → Result OfficeState BookRefused → Type 0
+Refuses Disk x = ⊤
+Refuses NoMemory x = ⊤
+Refuses e x = x ≡ Err e
+
+abbrev pub Opens : {D : Type 0} → Result (DurableBook D) BookRefused → Result OfficeState BookRefused → Type 0
+Opens (Ok b) x = x ≡ Ok (opened b)
+Opens (Err e) x = Refuses e x
 
 -- ---- a run
 

@@ -1,6 +1,9 @@
 pub mod Again
 pub mod Calls
 pub mod Rows
+pub mod Amounts
+pub mod Payments
+pub mod Tables
 pub mod Listing
 pub mod Lines
 pub mod Summary

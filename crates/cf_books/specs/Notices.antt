@@ -5,6 +5,7 @@ use Rattle.cf_chart.specs.declared.fault.ChartFault.{ChartFault}
 use Rattle.cf_chart.specs.declared.fault.ChartFault.TheVariants as fault
 use Rattle.cf_chart.specs.declared.fault.TableName.{TableName}
 use Rattle.cf_books.specs.FaultRows.{table_word}
+use Rattle.cf_books.specs.declared.status.RefusedEntry.{RefusedEntry}
 use Rattle.cf_books.specs.declared.status.Status.{Status}
 use Rattle.cf_books.specs.declared.status.Status.TheVariants.{Done, BadWords, ChartRefused, ReadFault, WriteFault, NotFounded, Damaged, NoMemory, Cut}
 
@@ -38,12 +39,13 @@ refusal_names = codes "DeskUnknown" ∷ codes "Ahead" ∷ codes "KeyReused" ∷ 
 
 -- why the office doesn't take an entry: the number and name of the refusal, or 0 for a repeat and for other numbers
 abbrev pub refusal_text : ℕ → List ℕ
-refusal_text zero = codes "its entry is a repeat, or draws other numbers"
-refusal_text (suc n) = codes "its entry is refused: " ++ (decimal (n + 1) ++ 32 ∷ slice_index_or refusal_names n [])
+refusal_text zero = codes " is a repeat, or draws other numbers"
+refusal_text (suc n) = codes " is refused: " ++ (decimal (n + 1) ++ 32 ∷ slice_index_or refusal_names n [])
 
-abbrev pub damage_text : Option ℕ → List ℕ
+-- which entry it is, by its place, and why it isn't taken
+abbrev pub damage_text : Option RefusedEntry → List ℕ
 damage_text None = codes "no record of a journal stands there"
-damage_text (Some n) = refusal_text n
+damage_text (Some e) = codes "entry " ++ (decimal e.place ++ refusal_text e.number)
 
 abbrev pub at_text : ℕ → List ℕ
 at_text offset = codes "damaged at " ++ (decimal offset ++ codes ": ")
@@ -57,7 +59,7 @@ status_text (ChartRefused f id) = codes "chart refused: " ++ fault_text f id
 status_text ReadFault = codes "read fault"
 status_text WriteFault = codes "write fault"
 status_text (NotFounded len) = codes "not founded: the file has " ++ (decimal len ++ codes " bytes")
-status_text (Damaged offset refusal) = at_text offset ++ damage_text refusal
+status_text (Damaged offset entry) = at_text offset ++ damage_text entry
 status_text NoMemory = codes "no memory"
 status_text (Cut offset lost) = at_text offset ++ (codes "what stands before is given, and " ++ (decimal lost ++ codes " bytes are lost"))
 

@@ -1,8 +1,8 @@
 //! The amount of an act.
 
-ghost use Rattle.std.specs.Prelude.{◌≡◌, ◌≤◌, ◌*◌, ℕ, pos, length, sum_by};
+ghost use Rattle.std.specs.Prelude.{◌≡◌, ◌≤◌, ◌<◌, ◌*◌, ◌^◌, ℕ, length, sum_by};
 ghost use Rattle.cf_calls.specs.Form.{IsActInForm};
-ghost use Rattle.cf_books.specs.Listing as spec;
+ghost use Rattle.cf_books.specs.Amounts as spec;
 
 use cf_base::Day;
 use cf_calls::Act;
@@ -10,7 +10,7 @@ use cf_calls::acts::{AssetAct, LeaveAct};
 use cf_calls::items::{AccountItem, LineAmount, VoucherItem};
 
 /// What has an amount in cents.
-trait Amounted {
+pub trait Amounted {
     ghost amount: { Self → ℕ };
 
     fn amount(&self) -> u64
@@ -42,15 +42,16 @@ impl Amounted for VoucherItem {
 }
 
 /// The sum of the items' amounts.
-fn total<T: Amounted>(items: &[T]) -> i128
+pub fn total<T: Amounted>(items: &[T]) -> u128
     requires { length items.now ≤ 4096 }
-    ensures { result ≡ pos (sum_by T.amount items.now) }
+    ensures value { result ≡ sum_by T.amount items.now }
+    ensures small { result < 2 ^ 76 }
 {
     let mut total: u128 = 0;
     for item in items {
         total += item.amount() as u128;
     }
-    total as i128
+    total
 }
 
 fn asset_amount(act: &AssetAct) -> u64
@@ -77,13 +78,13 @@ pub fn amount_of(on: Day, act: &Act) -> Option<i128>
     ensures { result ≡ spec.amount_of act.now }
 {
     match act {
-        Act::Adopt(adoption) => Some(total(adoption.lines.as_slice())),
+        Act::Adopt(adoption) => Some(total(adoption.lines.as_slice()) as i128),
         Act::Amend(amendment) => Some(amendment.by as i128),
         Act::Transfer(transfer) => Some(transfer.amount as i128),
-        Act::Requisition(requisition) => Some(total(requisition.items.as_slice())),
-        Act::Order(order) => Some(total(order.items.as_slice())),
+        Act::Requisition(requisition) => Some(total(requisition.items.as_slice()) as i128),
+        Act::Order(order) => Some(total(order.items.as_slice()) as i128),
         Act::ChangeOrder(change) => Some(change.by as i128),
-        Act::Voucher(voucher) => Some(total(voucher.items.as_slice())),
+        Act::Voucher(voucher) => Some(total(voucher.items.as_slice()) as i128),
         Act::Bill(bill) => Some(bill.amount as i128),
         Act::Collect(settled) | Act::WriteOff(settled) => Some(settled.amount as i128),
         Act::Receive(receipt) => Some(receipt.amount as i128),

@@ -2,7 +2,6 @@
 
 ghost use Rattle.std.specs.Prelude.{◌≡◌, length, None, IfOk};
 ghost use Rattle.std.specs.List.{All};
-ghost use Rattle.cf_book.specs.Recovery.{recovered};
 ghost use Rattle.cf_chart.specs.Reading.{chart_of};
 ghost use Rattle.cf_journal.specs.Records.{HasRecord};
 ghost use Rattle.cf_books.specs.Answers as spec;
@@ -11,14 +10,14 @@ ghost use Rattle.cf_books.specs.Whole.{parts, whole_of};
 
 use crate::calls::put_calls;
 use crate::fault_rows::fault_id;
-use crate::judged::judge;
 use crate::lines::lines_text;
 use crate::listing::list_text;
+use crate::office::office_answer;
 use crate::status::Status;
-use crate::summary::{put_chart, put_journal};
-use crate::whole::{Whole, read_frames, read_whole};
+use crate::summary::put_chart;
+use crate::whole::{Whole, read_whole};
 use cf_books_words::Command;
-use cf_chart::{Chart, ChartRefused};
+use cf_chart::{Chart, ChartFault, ChartRefused};
 use cf_journal::OpenRefused;
 use std::alloc::{AllocError, Global};
 
@@ -30,7 +29,7 @@ pub struct Answer {
 }
 
 /// An answer of nothing.
-fn nothing(alloc: Global, status: Status) -> Answer
+pub fn nothing(alloc: Global, status: Status) -> Answer
     ensures { spec.view result ≡ spec.nothing status }
 {
     Answer {
@@ -71,6 +70,19 @@ fn lines_in(alloc: Global, chart: &[u8]) -> Result<Vec<u8>, AllocError>
     }
 }
 
+/// What is said of a journal in which no record stands at this place in the file.
+pub fn damaged(alloc: Global, offset: u64) -> Answer
+    ensures { spec.view result ≡ spec.nothing (Status.Damaged offset None) }
+{
+    nothing(
+        alloc,
+        Status::Damaged {
+            offset,
+            entry: None,
+        },
+    )
+}
+
 /// What a command prints of a journal.
 fn text_of(alloc: Global, command: Command, whole: &Whole) -> Result<Vec<u8>, AllocError>
     requires { All HasRecord whole.now.entries.items }
@@ -84,8 +96,7 @@ fn text_of(alloc: Global, command: Command, whole: &Whole) -> Result<Vec<u8>, Al
         }
         Command::List { csv } => list_text(alloc, csv, whole.entries.as_slice()),
         Command::Chart => Vec::from_slice(alloc, whole.chart.as_slice()),
-        Command::Lines => lines_in(alloc, whole.chart.as_slice()),
-        Command::CheckChart | Command::Check => Ok(Vec::new(alloc)),
+        _ => Ok(Vec::new(alloc)),
     }
 }
 
@@ -115,43 +126,49 @@ fn whole_answer(alloc: Global, command: Command, bytes: &[u8]) -> Result<Answer,
         Err(OpenRefused::NotFounded { len, byte: _ }) => {
             Ok(nothing(alloc, Status::NotFounded { len }))
         }
-        Err(OpenRefused::Damaged { offset }) => Ok(nothing(
-            alloc,
-            Status::Damaged {
-                offset,
-                refusal: None,
-            },
-        )),
+        Err(OpenRefused::Damaged { offset }) => Ok(damaged(alloc, offset)),
         // A disk in memory fails for want of memory alone.
         Err(OpenRefused::Disk | OpenRefused::NoMemory) => Err(AllocError),
     }
 }
 
-/// What a journal has whose entries the office takes again.
-fn journal_answer(alloc: Global, bytes: &[u8]) -> Result<Answer, AllocError>
-    requires { spec.refused (recovered bytes.now) ≡ None }
-    ensures { Answers result (spec.check_said (recovered bytes.now)) }
+/// The lines of a chart, or its fault. Bytes that aren't even a TOML document are no journal.
+fn chart_lines_answer(alloc: Global, bytes: &[u8]) -> Result<Answer, AllocError>
+    ensures { Answers result (spec.chart_lines_said bytes.now (chart_of bytes.now)) }
 {
-    let copy = Vec::from_slice(alloc, bytes)?;
-    let Ok((_, entries)) = read_frames(alloc, copy) else {
-        return Err(AllocError);
-    };
-    let mut out = Vec::new(alloc);
-    put_journal(&mut out, entries.as_slice())?;
-    Ok(Answer {
-        out,
-        status: Status::Done,
-    })
+    match Chart::read(alloc, bytes) {
+        Ok(chart) => {
+            let out = lines_text(alloc, &chart)?;
+            Ok(Answer {
+                out,
+                status: Status::Done,
+            })
+        }
+        Err(ChartRefused::Fault(ChartFault::NotToml | ChartFault::TooLong { .. })) => {
+            let len = bytes.len() as u64;
+            Ok(nothing(alloc, Status::NotFounded { len }))
+        }
+        Err(ChartRefused::Fault(fault)) => {
+            let id = fault_id(alloc, bytes, fault)?;
+            Ok(nothing(alloc, Status::ChartRefused { fault, id }))
+        }
+        Err(ChartRefused::NoMemory) => Err(AllocError),
+    }
 }
 
-/// What a journal has, or why it isn't that of an office.
-fn check_answer(alloc: Global, bytes: &[u8]) -> Result<Answer, AllocError>
-    ensures { Answers result (spec.check_said (recovered bytes.now)) }
+/// The lines of the chart that a journal keeps, or of a chart's file.
+fn lines_answer(alloc: Global, bytes: &[u8]) -> Result<Answer, AllocError>
+    ensures { Answers result (spec.lines_said bytes.now (whole_of bytes.now)) }
 {
-    let copy = Vec::from_slice(alloc, bytes)?;
-    match judge(alloc, copy)? {
-        Some(status) => Ok(nothing(alloc, status)),
-        None => journal_answer(alloc, bytes),
+    match read_whole(alloc, bytes) {
+        Ok(whole) => {
+            let out = lines_in(alloc, whole.chart.as_slice())?;
+            let status = end_of(whole.damage, bytes.len() as u64);
+            Ok(Answer { out, status })
+        }
+        Err(OpenRefused::NotFounded { len: _, byte: _ }) => chart_lines_answer(alloc, bytes),
+        Err(OpenRefused::Damaged { offset }) => Ok(damaged(alloc, offset)),
+        Err(OpenRefused::Disk | OpenRefused::NoMemory) => Err(AllocError),
     }
 }
 
@@ -161,7 +178,8 @@ pub fn answer_of(alloc: Global, command: Command, bytes: &[u8]) -> Result<Answer
 {
     match command {
         Command::CheckChart => chart_answer(alloc, bytes),
-        Command::Check => check_answer(alloc, bytes),
+        Command::Lines => lines_answer(alloc, bytes),
+        Command::Check => office_answer(alloc, bytes),
         _ => whole_answer(alloc, command, bytes),
     }
 }

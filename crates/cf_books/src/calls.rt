@@ -14,7 +14,7 @@ use cf_calls::Entry;
 use std::alloc::AllocError;
 
 /// Appends the line of an entry's call.
-fn put_call(out: &mut Vec<u8>, entry: &Entry) -> Result<(), AllocError>
+pub fn put_call(out: &mut Vec<u8>, entry: &Entry) -> Result<(), AllocError>
     requires { IsChangeInForm entry.now.change }
     ensures text { OnOk result (out.new.items ≡ out.old.items ++ call_line entry.now) }
     ensures back { OnOk result (ReadsBack entry.now) }

@@ -2,12 +2,11 @@
 
 ghost use Rattle.std.specs.Prelude.{◌≡◌, string_bytes, IfOk, OnOk};
 ghost use Rattle.std.specs.List.{All};
-ghost use Rattle.cf_calls.specs.Form.{IsChangeInForm};
 ghost use Rattle.cf_journal.specs.Records.{HasRecord};
 ghost use Rattle.cf_books.specs.Listing as spec;
 ghost use Rattle.cf_books.specs.Rows.{Adds, AddsAll};
 
-use crate::amounts::amount_of;
+use crate::payments::Tables;
 use crate::rows::{decimal_text, put_row, writer, written};
 use cf_base::{day_text, money_text};
 use cf_call_text::call_word;
@@ -41,17 +40,17 @@ fn put_entry(
     out: &mut Writer<Vec<u8>>,
     csv: bool,
     place: u64,
+    amount: Option<i128>,
     entry: &Entry,
 ) -> Result<(), AllocError>
-    requires { IsChangeInForm entry.now.change }
-    ensures { OnOk result (Adds csv (spec.entry_row place entry.now) out.old out.new) }
+    ensures { OnOk result (Adds csv (spec.entry_row place amount entry.now) out.old out.new) }
 {
     let change = &entry.change;
     let at = decimal_text(alloc, place)?;
     let day = day_text(change.on);
     let desk = decimal_text(alloc, change.desk as u64)?;
     let call = Vec::from_slice(alloc, call_word(&change.act).as_bytes())?;
-    let amount = amount_text(alloc, amount_of(change.on, &change.act))?;
+    let amount = amount_text(alloc, amount)?;
     let number = drawn_text(alloc, entry.drawn.number)?;
     let second = drawn_text(alloc, entry.drawn.second)?;
     let fields = [
@@ -87,9 +86,12 @@ pub fn list_text(alloc: Global, csv: bool, entries: &[Entry]) -> Result<Vec<u8>,
 {
     let mut out = writer(alloc, csv);
     put_header(&mut out, csv)?;
-    let mut place = 1;
+    let mut known = Tables::new(alloc);
+    let mut place = 0;
     for entry in entries {
-        put_entry(alloc, &mut out, csv, place, entry)?;
+        let amount = known.amount(entries, entry);
+        put_entry(alloc, &mut out, csv, place + 1, amount, entry)?;
+        known.note(entry, place)?;
         place += 1;
     }
     written(out, csv)

@@ -1,11 +1,11 @@
 //! What is said on standard error.
 
-ghost use Rattle.std.specs.Prelude.{◌≡◌, ◌++◌, ◌-◌, ◌≤◌, [], slice_index_or, decimal, OnOk};
+ghost use Rattle.std.specs.Prelude.{◌≡◌, ◌++◌, ◌-◌, ◌≤◌, [], slice_index_or, decimal, Some, OnOk};
 ghost use Rattle.cf_chart.specs.Faults.{word_of};
 ghost use Rattle.cf_books.specs.Notices as spec;
 
 use crate::fault_rows::table_word;
-use crate::status::Status;
+use crate::status::{RefusedEntry, Status};
 use cf_chart::{ChartFault, KeyName, TableName};
 use cf_members::parts::put_number;
 use std::alloc::AllocError;
@@ -125,20 +125,29 @@ fn put_refusal(out: &mut Vec<u8>, number: u8) -> Result<(), AllocError>
     ensures { OnOk result (out.new.items ≡ out.old.items ++ spec.refusal_text number) }
 {
     if number == 0 {
-        return out.extend_from_slice(b"its entry is a repeat, or draws other numbers");
+        return out.extend_from_slice(b" is a repeat, or draws other numbers");
     }
-    put_between(out, "its entry is refused: ", number as u64, " ")?;
-    out.extend_from_slice(refusal_name(number).as_bytes())
+    put_between(out, " is refused: ", number as u64, " ")?;
+    put_text(out, refusal_name(number))
+}
+
+/// Appends which entry the office doesn't take, and why.
+fn put_entry(out: &mut Vec<u8>, entry: RefusedEntry) -> Result<(), AllocError>
+    ensures { OnOk result (out.new.items ≡ out.old.items ++ spec.damage_text (Some entry)) }
+{
+    out.extend_from_slice(b"entry ")?;
+    put_number(out, entry.place)?;
+    put_refusal(out, entry.number)
 }
 
 /// Appends what is damaged.
-fn put_damage(out: &mut Vec<u8>, offset: u64, refusal: Option<u8>) -> Result<(), AllocError>
-    ensures { OnOk result (out.new.items ≡ out.old.items ++ (spec.at_text offset ++ spec.damage_text refusal)) }
+fn put_damage(out: &mut Vec<u8>, offset: u64, entry: Option<RefusedEntry>) -> Result<(), AllocError>
+    ensures { OnOk result (out.new.items ≡ out.old.items ++ (spec.at_text offset ++ spec.damage_text entry)) }
 {
     put_between(out, "damaged at ", offset, ": ")?;
-    match refusal {
+    match entry {
         None => put_text(out, "no record of a journal stands there"),
-        Some(number) => put_refusal(out, number),
+        Some(entry) => put_entry(out, entry),
     }
 }
 
@@ -158,7 +167,7 @@ fn put_status(out: &mut Vec<u8>, status: Status) -> Result<(), AllocError>
         Status::NotFounded { len } => {
             put_between(out, "not founded: the file has ", len, " bytes")
         }
-        Status::Damaged { offset, refusal } => put_damage(out, offset, refusal),
+        Status::Damaged { offset, entry } => put_damage(out, offset, entry),
         Status::NoMemory => out.extend_from_slice(b"no memory"),
         Status::Cut { offset, lost } => {
             put_between(out, "damaged at ", offset, ": ")?;

@@ -2,6 +2,15 @@
 
 use cf_chart::ChartFault;
 
+/// An entry that the office refuses.
+#[derive(Clone, Copy)]
+pub struct RefusedEntry {
+    /// Its place, from 1.
+    pub place: u64,
+    /// The number of the refusal: 0 for a repeat and for other drawn numbers.
+    pub number: u8,
+}
+
 /// How a run ends.
 #[derive(Clone, Copy)]
 pub enum Status {
@@ -11,20 +20,31 @@ pub enum Status {
     BadWords,
     /// The chart has this fault, and no journal is founded with it. The id is that of the row with the fault, where it has
     /// one in form: 0 to 65535.
-    ChartRefused { fault: ChartFault, id: Option<u16> },
+    ChartRefused {
+        fault: ChartFault,
+        id: Option<u16>,
+    },
     /// The file can't be read.
     ReadFault,
     /// The output failed.
     WriteFault,
     /// The file, of so many bytes, is no journal.
-    NotFounded { len: u64 },
-    /// The journal isn't what the program leaves: the place of what is wrong, and where that is an entry which the office
-    /// refuses, the number of the refusal. It is 0 for a repeat and for other drawn numbers.
-    Damaged { offset: u64, refusal: Option<u8> },
+    NotFounded {
+        len: u64,
+    },
+    /// The journal isn't what the program leaves: where what is wrong stands in the file, in bytes, and the entry that stands
+    /// there where it is one that the office refuses.
+    Damaged {
+        offset: u64,
+        entry: Option<RefusedEntry>,
+    },
     /// There was no memory.
     NoMemory,
     /// What stands before the damage was given. So many bytes from there on are lost.
-    Cut { offset: u64, lost: u64 },
+    Cut {
+        offset: u64,
+        lost: u64,
+    },
 }
 
 impl Status {

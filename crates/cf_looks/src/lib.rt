@@ -2,9 +2,11 @@
 #![tactic(auto)]
 
 mod books;
+mod classes;
 mod looks;
 mod reports;
 
 pub use books::Books;
+pub use classes::{class_rows, component_rows, major_rows};
 pub use looks::{answer, look_reply};
 pub use reports::report_rows;

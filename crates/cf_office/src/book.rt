@@ -1,9 +1,11 @@
 //! The office that answers by running numbers and look-ups.
 
-ghost use Rattle.std.specs.Prelude.{ℕ, true, ◌≡◌, ◌++◌, ◌∷◌, [], IfOk, IfSome, OnOk, OnErr};
+ghost use Rattle.std.specs.Prelude.{ℕ, true, ◌≡◌, ◌++◌, ◌∷◌, [], IfOk, IfSome, IsSome, OnOk, OnErr};
 ghost use Rattle.cf_budget.specs.Tables.{has_line};
 ghost use Rattle.cf_calls.specs.declared.entry.Entry.{Entry};
+ghost use Rattle.cf_calls.specs.declared.read.Basis.TheVariants.{Fund as FundBasis};
 ghost use Rattle.cf_model.proofs.Lawful.{IsWhole};
+ghost use Rattle.cf_model.specs.Postings.{act_posts};
 ghost use Rattle.cf_model.specs.Registers.{registers_of};
 ghost use Rattle.cf_model.specs.Results.{made_of};
 ghost use Rattle.cf_model.specs.State.{IsSoundState};
@@ -18,6 +20,7 @@ use cf_budget::Lines;
 use cf_calls::shown::ReconShown;
 use cf_calls::{Basis, Change, Entry, LineNumbers, Made};
 use cf_chart::{Chart, LineId};
+use cf_ledger::Post;
 use cf_recon::Changes;
 use cf_registers::Registers;
 use cf_rules::History;
@@ -73,6 +76,14 @@ impl BookOffice {
         ensures ok { IfOk result (λ p. IsPrepared self.new p entry) }
     {
         reserve(&mut self.lines, &mut self.rest, entry)
+    }
+
+    /// What the entry that is prepared posts on the fund basis: its debits above zero and its credits below, in cents.
+    pub fn posts(&self) -> &[Post]
+        requires { IsSome self.now.ready }
+        ensures { IfSome self.now.ready (λ e. result.now ≡ act_posts FundBasis self.now.plan (registers_of self.now.plan self.now.entries) e.change.on e.change.act) }
+    {
+        self.rest.posts()
     }
 
     /// Adds the entry that is prepared, and says what it made. It takes no memory.

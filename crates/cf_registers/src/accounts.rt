@@ -119,6 +119,13 @@ impl Accounts {
         Ok(())
     }
 
+    /// What the act whose posts are ready posts on the fund basis.
+    pub fn ready_posts(&self) -> &[Post]
+        ensures { result.now ≡ self.now.ready_fund }
+    {
+        self.fund.as_slice()
+    }
+
     /// Posts what is ready. It takes no memory.
     pub fn apply(&mut self)
         requires fund_years { All IsInYears self.old.ready_fund }

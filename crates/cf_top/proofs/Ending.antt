@@ -5,9 +5,10 @@ use Rattle.std.proofs.KnownBytes.{Consumes-nil}
 use Rattle.cf_disk.specs.Moments.{AtEachMoment}
 use Rattle.cf_words.specs.declared.words.Command.{Command}
 use Rattle.cf_words.specs.declared.words.Command.TheVariants as command
-use Rattle.cf_top.specs.declared.status.Status.{Status}
-use Rattle.cf_top.specs.declared.status.Status.TheVariants as status
-use Rattle.cf_top.specs.Devices.{Device, DoorKind}
+use Rattle.cf_runs.specs.declared.status.Status.{Status}
+use Rattle.cf_runs.specs.declared.status.Status.TheVariants as status
+use Rattle.cf_runs.specs.Devices.{Device}
+use Rattle.cf_top.specs.DoorKinds.{DoorKind}
 use Rattle.cf_top.specs.Runs.{Ends, Outside}
 use Rattle.cf_top.specs.Serves.{ServeEnds, ServeSays}
 
@@ -37,3 +38,7 @@ module _ {D R L : Type 0} (device : Device D) (kind : DoorKind R L) where
   ends_unread (Some (command.Serve port doors links)) o disk rest = (ends_unprepared doors links disk o.doors o.out rest, refl, refl)
   ends_unread (Some (command.Report year statement csv)) o disk rest = ((record { content = λ t. refl; any_moment = rest }, refl, λ fine. refl), refl, refl, refl)
   ends_unread (Some (command.Generate n)) o disk rest = (refl, refl, refl, refl, refl)
+  ends_unread (Some (command.Pool month amount desk)) o disk rest = ((record { content = λ t. refl; any_moment = rest }, refl, λ fine. refl), refl, refl, refl)
+  ends_unread (Some (command.Claim grant on desk)) o disk rest = ((record { content = λ t. refl; any_moment = rest }, refl, λ fine. refl), refl, refl)
+  ends_unread (Some (command.Ship from)) o disk rest = ((record { content = λ t. refl; any_moment = rest }, inl refl, λ fine. refl), refl, refl, refl)
+  ends_unread (Some command.Follow) o disk rest = (inl (record { unwritten = record { content = λ t. refl; any_moment = rest }; input = Consumes-nil o.input; out = refl }), refl, refl)

@@ -21,10 +21,11 @@ use Rattle.cf_top.specs.Talks.{RoseBy}
 use Rattle.cf_talk.specs.ServeRuns.{DoorState, faults_said}
 use Rattle.cf_top.specs.declared.serve_command.Kept.{Kept}
 use Rattle.cf_top.specs.declared.serve_command.Kept.TheVariants as kept
-use Rattle.cf_top.specs.declared.status.Status.{Status}
-use Rattle.cf_top.specs.declared.status.Status.TheVariants as status
-use Rattle.cf_top.specs.Devices.{Device, DoorKind}
-use Rattle.cf_top.specs.Refused.{status_of_refused}
+use Rattle.cf_runs.specs.declared.status.Status.{Status}
+use Rattle.cf_runs.specs.declared.status.Status.TheVariants as status
+use Rattle.cf_runs.specs.Devices.{Device}
+use Rattle.cf_top.specs.DoorKinds.{DoorKind}
+use Rattle.cf_runs.specs.Refused.{status_of_refused}
 use Rattle.cf_top.specs.Serves.{IsUnserved, KeepsDoors, PutsLine, ServeSays, Served, TellsKept, kept_of}
 
 -- what was moved to the end of an empty list, and then others after it, stands in front

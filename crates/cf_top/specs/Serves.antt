@@ -19,10 +19,11 @@ use Rattle.cf_talk.specs.ServeEnds.{AllQuiet, SomeRose, EndsWhole, EndsUnwritten
 use Rattle.cf_talk.specs.ServeRuns.{DoorState, ServeRan, faults_said}
 use Rattle.cf_top.specs.declared.serve_command.Kept.{Kept}
 use Rattle.cf_top.specs.declared.serve_command.Kept.TheVariants as kept
-use Rattle.cf_top.specs.declared.status.Status.{Status}
-use Rattle.cf_top.specs.declared.status.Status.TheVariants as status
-use Rattle.cf_top.specs.Devices.{Device, DoorKind}
-use Rattle.cf_top.specs.Refused.{status_of_refused}
+use Rattle.cf_runs.specs.declared.status.Status.{Status}
+use Rattle.cf_runs.specs.declared.status.Status.TheVariants as status
+use Rattle.cf_runs.specs.Devices.{Device}
+use Rattle.cf_top.specs.DoorKinds.{DoorKind}
+use Rattle.cf_runs.specs.Refused.{status_of_refused}
 
 -- Doors were kept over the journal of a disk, from the history that its content recovers to up to the last one. That is sound,
 -- no entry of it posts to a closed fiscal year, and its statements articulate. Whatever a crash leaves of the disk at the

@@ -5,16 +5,15 @@ ghost use Rattle.std.specs.Io.KnownBytes.{Consumes};
 ghost use Rattle.cf_base.specs.Causes.{Rose};
 ghost use Rattle.cf_desk.specs.declared.ended.Ended.TheVariants as ended;
 ghost use Rattle.cf_top.specs.Runs.{DeskEnds, DeskKept, opened, status_of_ended};
-ghost use Rattle.cf_top.specs.Devices.{device};
+ghost use Rattle.cf_runs.specs.Devices.{device};
 ghost use Rattle.cf_words.specs.Words.{command_of};
 
 use crate::clerk::Clerk;
-use crate::running::Ran;
-use crate::status::{Status, refusal_status};
 use cf_base::{Sink, Source};
 use cf_book::{Book, NotOpened, open};
 use cf_desk::{Ended, run_lines};
 use cf_disk::Disk;
+use cf_runs::{Ran, Status, refusal_status};
 use cf_words::{Command, WordsRefused, read_words};
 use std::alloc::Global;
 

@@ -8,13 +8,12 @@ ghost use Rattle.cf_top.specs.Generates as spec;
 ghost use Rattle.cf_top.specs.Generates.{GenerateEnds, IsGenerated};
 ghost use Rattle.cf_words.specs.Words.{command_of};
 
-use crate::printing::print;
-use crate::status::Status;
 use cf_base::Sink;
 use cf_calls::shown::ReconShown;
 use cf_calls::{Label, List, Row};
 use cf_generator::generate;
 use cf_office::{BookOffice, History};
+use cf_runs::{Status, print};
 use cf_text::{put_count, put_row};
 use cf_words::{Command, WordsRefused, read_words};
 use std::alloc::{AllocError, Global};

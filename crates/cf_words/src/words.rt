@@ -9,10 +9,23 @@ ghost use Rattle.cf_words.specs.Words.{command_of, is_dashes};
 
 use crate::parsed::command_found;
 use crate::program::program;
-use cf_base::Kind;
+use cf_base::{Day, Kind, Month};
 use clap::error::ErrorKind;
 use clap::{ArgMatches, Error};
 use std::alloc::Global;
+
+/// A statement that `report` prints.
+#[derive(Clone, Copy)]
+pub enum ReportKind {
+    /// A statement that a look may ask for too.
+    Look(Kind),
+    /// The fund balances by class (GASB Statement 54).
+    Classes,
+    /// The components of net position (GASB Statement 34).
+    Components,
+    /// The major funds and the others together (GASB Statement 34).
+    Major,
+}
 
 /// What the words ask for.
 #[derive(Clone, Copy)]
@@ -22,17 +35,46 @@ pub enum Command {
     /// Read calls from the input, one a line, and answer each on one line.
     Desk,
     /// Serve this many links at each of so many doors, the first of them at this port.
-    Serve { port: u16, doors: u16, links: u32 },
+    Serve {
+        port: u16,
+        doors: u16,
+        links: u32,
+    },
     /// Print a statement.
-    Report { year: u16, kind: Kind, csv: bool },
+    Report {
+        year: u16,
+        kind: ReportKind,
+        csv: bool,
+    },
     /// Run the calls of the generator.
-    Generate { n: u32 },
+    Generate {
+        n: u32,
+    },
+    /// Write the receive calls that share the month's interest of the pooled cash, so many cents, out among the
+    /// funds, as calls of this desk.
+    Pool {
+        month: Month,
+        amount: u64,
+        desk: u16,
+    },
+    /// Write the bill calls by which this grant is claimed on this day, as calls of this desk.
+    Claim {
+        grant: u16,
+        on: Day,
+        desk: u16,
+    },
+    /// Write the entries after this place as a stream.
+    Ship {
+        from: u32,
+    },
+    /// Read a stream of entries into the journal.
+    Follow,
 }
 
 /// Why the words give no command.
 #[derive(Clone, Copy)]
 pub enum WordsRefused {
-    /// They are none of the five forms.
+    /// They are none of the nine forms.
     BadWords,
     /// There was no memory to read them.
     NoMemory,

@@ -6,9 +6,11 @@ ghost use Rattle.std.specs.Prelude.{◌≤◌, ◌+◌};
 use cf_base::{FileSource, StdSink, StdSource};
 use cf_disk::FileDisk;
 use cf_links::TcpDoor;
-use cf_top::{Ran, Status, run};
+use cf_runs::{Ran, Status, tell};
+use cf_top::run;
 use cf_words::{Command, WordsRefused, read_words};
 use std::alloc::{AllocError, Global};
+use std::io::BufReader;
 use std::net::{Net, TcpListener, TcpStream};
 use std::process::ExitCode;
 use std::{env, io};
@@ -59,30 +61,33 @@ fn doors_for<'a, R: Net<Listener = TcpListener, Stream = TcpStream>>(
 
 fn main(rt: HostRuntime) -> ExitCode {
     let mut chart = FileSource::new(&rt, "chart.toml");
-    let mut input = StdSource::new(rt.reader());
     let mut out = StdSink::new(rt.stdout());
     let disk = FileDisk::new(&rt, "fund.journal");
     let status = match words(&rt) {
         Ok(words) => match doors_for(&rt, rt.alloc(), words.as_slice()) {
-            Ok(mut doors) => {
-                let Ran { status, disk: _ } = run(
-                    &rt,
-                    rt.alloc(),
-                    words.as_slice(),
-                    &mut chart,
-                    &mut input,
-                    &mut out,
-                    disk,
-                    &mut doors,
-                );
-                status
-            }
+            // A stream is read piece by piece, so the input stands in a buffer first.
+            Ok(mut doors) => match BufReader::new(rt.alloc(), rt.reader()) {
+                Ok(reader) => {
+                    let mut input = StdSource::new(reader);
+                    let Ran { status, disk: _ } = run(
+                        &rt,
+                        rt.alloc(),
+                        words.as_slice(),
+                        &mut chart,
+                        &mut input,
+                        &mut out,
+                        disk,
+                        &mut doors,
+                    );
+                    status
+                }
+                Err(_) => Status::NoMemory,
+            },
             Err(AllocError) => Status::NoMemory,
         },
         Err(error) => wordless(&error),
     };
-    if !matches!(status, Status::Ok) {
-        let _ = eprintln!(rt; "cityfund: {status}");
-    }
+    let mut err = StdSink::new(rt.stderr());
+    let _ = tell(&mut err, status);
     ExitCode::from(status.code())
 }

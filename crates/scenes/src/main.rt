@@ -10,6 +10,7 @@
 //! | `check OLD => NEW` | prints the exit code and the notice of `books check-chart` for that chart with a change, in which `;` is the end of a line |
 //! | `fail N`, `stop N` | the next run's disk fails at its call N, or stops there |
 //! | `limit N` | the next run's output takes N bytes |
+//! | `feed`, `feed N` | the next run reads the stream that was shipped last, or N bytes of it |
 //! | `door`, `door N` | a door more for the next run, whose call N for a link fails |
 //! | `link`, `link N` | a link more at that door, which takes N bytes |
 //! | `get TARGET`, `post CALL` | a request more on that link |

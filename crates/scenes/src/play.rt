@@ -7,12 +7,26 @@ use crate::stage::Stage;
 use crate::status::whole_text;
 use crate::tears::show_tears;
 use crate::word::{Word, byte};
+use cf_runs::Status;
 use std::rt::Files;
 use std::sync::Wait;
 use std::thread::Threads;
 use std::{fs, io};
 
-/// A run of these words: what was said at its doors, what it said, how it ended and how long the journal is.
+/// Keeps the stream that a run of `ship` wrote, and says how long it is.
+fn show_shipped(
+    rt: &impl Print,
+    stage: &mut Stage,
+    stream: &[u8],
+    status: Status,
+) -> io::Result<()> {
+    stage.shipped = Vec::from_slice(stage.alloc, stream)?;
+    let ended = whole_text(stage.alloc, status)?;
+    println!(rt; "= {ended}; {} bytes shipped", stream.len())
+}
+
+/// A run of these words: what was said at its doors, what it said, how it ended and how long the journal is. Of a stream only its
+/// length is said.
 fn show_run<R: Print + Threads + Wait + Sync>(
     rt: &R,
     stage: &mut Stage,
@@ -20,6 +34,9 @@ fn show_run<R: Print + Threads + Wait + Sync>(
 ) -> io::Result<()> {
     let (status, out, doors) = stage.run_words(rt, words)?;
     show_doors(rt, doors.as_slice())?;
+    if words.starts_with("ship ") {
+        return show_shipped(rt, stage, out.bytes(), status);
+    }
     let said = str::from_utf8(out.bytes()).unwrap_or("no text");
     let ended = whole_text(stage.alloc, status)?;
     println!(rt; "{said}= {ended}; {} bytes", stage.bytes.len())
@@ -85,6 +102,7 @@ pub fn play<R: Files + Print + AllocGlobal + Threads + Wait + Sync>(
         Word::Fail(call) => stage.fails.push(call)?,
         Word::Stop(call) => stage.stop = call,
         Word::Limit(limit) => stage.limit = limit,
+        Word::Feed(count) => stage.feed(count)?,
         Word::Empty => stage.bytes.clear(),
         Word::Cut(len) => stage.bytes.truncate(len),
         Word::Set { at, byte } => stage.set_byte(at, byte),

@@ -4,7 +4,8 @@ use crate::doors::Doors;
 use cf_base::{MemSink, MemSource};
 use cf_disk::MemDisk;
 use cf_links::MemDoor;
-use cf_top::{Ran, Status, run, run_desk};
+use cf_runs::{Ran, Status};
+use cf_top::{run, run_desk};
 use std::alloc::{AllocError, Global};
 use std::sync::Wait;
 use std::thread::Threads;
@@ -17,6 +18,10 @@ pub struct Stage {
     pub chart: String,
     /// The lines that a desk reads.
     pub lines: String,
+    /// What the next run reads behind these lines.
+    pub fed: Vec<u8>,
+    /// The stream that the last `ship` wrote.
+    pub shipped: Vec<u8>,
     /// What the disk holds, all of it synced.
     pub bytes: Vec<u8>,
     /// What it held when the script said so.
@@ -94,6 +99,8 @@ impl Stage {
             alloc,
             chart: String::new(alloc),
             lines: String::new(alloc),
+            fed: Vec::new(alloc),
+            shipped: Vec::new(alloc),
             bytes: Vec::new(alloc),
             kept: Vec::new(alloc),
             fails: Vec::new(alloc),
@@ -103,6 +110,20 @@ impl Stage {
             before: Vec::new(alloc),
             last: None,
         }
+    }
+
+    /// What the next run reads: the lines, and what it is fed behind them.
+    fn input(&self) -> Result<Vec<u8>, AllocError> {
+        let mut bytes = Vec::from_slice(self.alloc, self.lines.as_bytes())?;
+        bytes.extend_from_slice(self.fed.as_slice())?;
+        Ok(bytes)
+    }
+
+    /// Feeds the next run the first so many bytes of the stream that was shipped last.
+    pub fn feed(&mut self, count: usize) -> Result<(), AllocError> {
+        self.fed = Vec::from_slice(self.alloc, self.shipped.as_slice())?;
+        self.fed.truncate(count);
+        Ok(())
     }
 
     /// A run of these words at these doors, with what was prepared.
@@ -116,7 +137,7 @@ impl Stage {
         let disk = disk_with(self.alloc, self.bytes.as_slice(), fails, stop)?;
         let words = words_of(self.alloc, words)?;
         let mut chart = source(self.alloc, self.chart.as_str())?;
-        let mut input = source(self.alloc, self.lines.as_str())?;
+        let mut input = MemSource::new(self.input()?);
         let mut out = MemSink::limited(self.alloc, self.limit);
         let Ran { status, disk } = run(
             rt,
@@ -137,6 +158,7 @@ impl Stage {
         self.bytes = Vec::from_slice(self.alloc, disk.bytes())?;
         self.last = Some(disk);
         self.lines.clear();
+        self.fed.clear();
         self.fails.clear();
         self.stop = 0;
         self.limit = usize::MAX;

@@ -1,13 +1,16 @@
 //! How a run ended, as text.
 
-use cf_top::Status;
+use cf_runs::Status;
 use std::alloc::{AllocError, Global};
 
 /// The exit code, and what the program says on standard error.
 pub fn brief_text(alloc: Global, status: Status) -> Result<String, AllocError> {
     match status {
         Status::Ok => String::from_str(alloc, "0"),
-        _ => format!(in alloc; "{} {status}", status.code()),
+        Status::Damaged { offset, .. } => {
+            format!(in alloc; "{} {} at {offset}", status.code(), status.text())
+        }
+        _ => format!(in alloc; "{} {}", status.code(), status.text()),
     }
 }
 
@@ -29,6 +32,15 @@ fn values_text(alloc: Global, status: Status) -> Result<String, AllocError> {
             refusal: Some(number),
             ..
         } => format!(in alloc; ", refusal {number}"),
+        Status::GrantRefused { fault } => format!(in alloc; ", {fault}"),
+        Status::NoShare { sum } => format!(in alloc; ", sum {sum}"),
+        Status::OtherChart { at } => format!(in alloc; ", at {at}"),
+        Status::Gap { from, length } => format!(in alloc; ", from {from}, length {length}"),
+        Status::StreamFault { offset } => format!(in alloc; ", at {offset}"),
+        Status::Forked { place } => format!(in alloc; ", place {place}"),
+        Status::EntryRefused { place, refusal } => {
+            format!(in alloc; ", place {place}, refusal {refusal}")
+        }
         _ => Ok(String::new(alloc)),
     }
 }

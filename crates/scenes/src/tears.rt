@@ -3,7 +3,7 @@
 use crate::images::{TEARS, Tear, image_after};
 use crate::stage::{Left, Stage, desk_over, disk_with};
 use crate::status::brief_text;
-use cf_top::Status;
+use cf_runs::Status;
 use std::alloc::{AllocError, Global};
 use std::io;
 

@@ -12,6 +12,7 @@ pub enum Word<'a> {
     Fail(u64),
     Stop(u64),
     Limit(usize),
+    Feed(usize),
     Door(u64),
     Link(usize),
     Get(&'a str),
@@ -66,8 +67,8 @@ fn set(rest: &str) -> Word<'_> {
     }
 }
 
-/// How many bytes a link takes: all, where the script doesn't say.
-fn link_limit(word: &str) -> usize {
+/// How many bytes a link takes, or a run is fed: all, where the script doesn't say.
+fn count_or_all(word: &str) -> usize {
     word.parse::<usize>().unwrap_or(usize::MAX)
 }
 
@@ -75,7 +76,7 @@ fn link_limit(word: &str) -> usize {
 fn door_word<'a>(verb: &str, rest: &'a str) -> Word<'a> {
     match verb {
         "door" => Word::Door(number(rest)),
-        "link" => Word::Link(link_limit(rest)),
+        "link" => Word::Link(count_or_all(rest)),
         "get" => Word::Get(rest),
         "post" => Word::Post(rest),
         _ => disk_word(verb, rest),
@@ -112,6 +113,7 @@ pub fn word_of(line: &str) -> Word<'_> {
         "fail" => Word::Fail(number(rest)),
         "stop" => Word::Stop(number(rest)),
         "limit" => Word::Limit(size(rest)),
+        "feed" => Word::Feed(count_or_all(rest)),
         "run" => Word::Run(rest),
         "calls" => Word::Calls,
         _ => door_word(verb, rest),

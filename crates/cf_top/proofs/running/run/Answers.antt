@@ -1,5 +1,6 @@
 use Rattle.std.proofs.Common.{◌≡◌, Some, map, string_bytes, refl, ap, ◌∙◌}
-use Rattle.cf_top.specs.Devices.{device, door_kind}
+use Rattle.cf_runs.specs.Devices.{device}
+use Rattle.cf_top.specs.DoorKinds.{door_kind}
 use Rattle.cf_top.specs.Runs.{outside}
 use Rattle.cf_words.specs.Words.{command_of}
 use Rattle.cf_words.specs.declared.words.Command.TheVariants as command
@@ -40,3 +41,25 @@ returns-in-Ok-Report-clause-ends g c =
     let asked : command_of (map string_bytes c.args.words.now) ≡ Some (command.Report c.in-Ok-Report.field-0-0 c.in-Ok-Report.field-0-1 c.in-Ok-Report.field-0-2) = c.in-Ok-Report.ensures.command ∙ ap Some c.in-Ok-Report.field-0-is in
     let prints = c.run_report.ensures.ends c.in-Ok-Report.field-0-0 c.in-Ok-Report.field-0-1 c.in-Ok-Report.field-0-2 asked in
     rw asked (prints, refl, refl, refl)
+
+pub returns-in-Ok-Pool-clause-ends : goal.returns-in-Ok-Pool-clause-ends
+returns-in-Ok-Pool-clause-ends g c =
+    let asked : command_of (map string_bytes c.args.words.now) ≡ Some (command.Pool c.in-Ok-Pool.field-0-0 c.in-Ok-Pool.field-0-1 c.in-Ok-Pool.field-0-2) = c.in-Ok-Pool.ensures.command ∙ ap Some c.in-Ok-Pool.field-0-is in
+    let pools = c.run_pool.ensures.ends c.in-Ok-Pool.field-0-0 c.in-Ok-Pool.field-0-1 c.in-Ok-Pool.field-0-2 asked in
+    rw asked (pools, refl, refl, refl)
+
+pub returns-in-Ok-Claim-clause-ends : goal.returns-in-Ok-Claim-clause-ends
+returns-in-Ok-Claim-clause-ends g c =
+    let asked : command_of (map string_bytes c.args.words.now) ≡ Some (command.Claim c.in-Ok-Claim.field-0-0 c.in-Ok-Claim.field-0-1 c.in-Ok-Claim.field-0-2) = c.in-Ok-Claim.ensures.command ∙ ap Some c.in-Ok-Claim.field-0-is in
+    let claims = c.run_claim.ensures.ends c.in-Ok-Claim.field-0-0 c.in-Ok-Claim.field-0-1 c.in-Ok-Claim.field-0-2 asked in
+    rw asked (claims, refl, refl)
+
+pub returns-in-Ok-Ship-clause-ends : goal.returns-in-Ok-Ship-clause-ends
+returns-in-Ok-Ship-clause-ends g c =
+    let asked : command_of (map string_bytes c.args.words.now) ≡ Some (command.Ship c.in-Ok-Ship.field-0-0) = c.in-Ok-Ship.ensures.command ∙ ap Some c.in-Ok-Ship.field-0-is in
+    rw asked (c.run_ship.ensures.ends c.in-Ok-Ship.field-0-0 asked, refl, refl, refl)
+
+pub returns-in-Ok-Follow-clause-read : goal.returns-in-Ok-Follow-clause-read
+returns-in-Ok-Follow-clause-read g c = λ is.
+    let asked : command_of (map string_bytes c.args.words.now) ≡ Some command.Follow = c.in-Ok-Follow.ensures.command ∙ ap Some c.in-Ok-Follow.field-0-is in
+    rw asked (c.run_follow.ensures.read is, refl)

@@ -1,0 +1,5 @@
+pub mod Claiming
+pub mod Kept
+pub mod LegalHistory
+pub mod Numbers
+pub mod Years

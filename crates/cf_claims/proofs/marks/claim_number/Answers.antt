@@ -1,0 +1,21 @@
+use Rattle.std.proofs.Common.{◌≡◌, ◌++◌, codes, decimal, ap, sym, ◌∙◌, arith, true≢false, rules}
+use Rattle.std.proofs.lemmas.Slice.Eq.{bytes_eq-Decides}
+use Rattle.std.proofs.lemmas.Fmt.{parse-decimal}
+use Rattle.cf_base.proofs.Reading.{ok_is, ok≢err}
+use Rattle.cf_claims.proofs.Numbers.{tail_of}
+use Rattle.cf_claims.proofs.marks.claim_number.Goals as goal
+
+pub returns-in-Err : goal.returns-in-Err
+returns-in-Err c = λ n lt e.
+    let whole : c.args.key.now ≡ codes "claim-" ++ c.in-Some.text.now = search rules in
+    let text : c.in-Some.text.now ≡ decimal n = tail_of c.args.key.now c.in-Some.text.now n whole e in
+    ok≢err n c.in-Err.field-0 (parse-decimal 32 n c.in-Some.text.now _ lt (omega (arith, lt)) text c.in-Err.ensures.value.0)
+
+pub returns-else-written : goal.returns-else-written
+returns-else-written c = λ n lt e.
+    let whole : c.args.key.now ≡ codes "claim-" ++ c.in-Some.text.now = search rules in
+    let text : c.in-Some.text.now ≡ decimal n = tail_of c.args.key.now c.in-Some.text.now n whole e in
+    let same = ok_is c.in-Ok.number n c.parse.result c.in-Ok.is (parse-decimal 32 n c.in-Some.text.now c.parse.result lt (omega (arith, lt)) text c.parse.ensures.value.0) in
+    let written = text ∙ ap decimal (sym same) in
+    let read = c.format.ensures.text ∙ sym written in
+    true≢false (sym ((bytes_eq-Decides c.format.result.now c.in-Some.text.now).1 read) ∙ sym c.eq-written.ensures ∙ c.if-written.false)

@@ -1,0 +1,8 @@
+use Rattle.std.proofs.Common.{◌≡◌, ℕ, take}
+use Rattle.std.specs.BTreeSet.{contains}
+use Rattle.std.specs.Ordering.{nat_cmp}
+use Rattle.cf_claims.specs.Claims.{has_number}
+use Rattle.cf_claims.proofs.marks.set_of.Given as goal
+
+abbrev pub invariant-loop-number : goal.invariant-loop-number
+invariant-loop-number l = (q : ℕ) → contains nat_cmp l.set q ≡ has_number q (take l.number-index l.numbers)

@@ -1,0 +1,4 @@
+pub mod Claims
+pub mod Kept
+pub mod Marks
+pub mod Texts

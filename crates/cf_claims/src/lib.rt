@@ -1,0 +1,11 @@
+//! What a grantor is billed for: the share of paid vouchers that a grant pays, up to its award.
+#![tactic(auto)]
+
+mod billed;
+mod bills;
+mod eligible;
+mod marks;
+mod text;
+
+pub use bills::claims;
+pub use text::claim_text;

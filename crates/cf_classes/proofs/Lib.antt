@@ -1,0 +1,4 @@
+pub mod Legal
+pub mod Next
+pub mod Together
+pub mod Whole

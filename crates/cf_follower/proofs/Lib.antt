@@ -1,0 +1,3 @@
+pub mod Shipping
+pub mod Admitted
+pub mod Following

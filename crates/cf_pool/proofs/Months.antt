@@ -1,0 +1,12 @@
+-- The months that a call may state.
+use Rattle.std.proofs.Common.{◌≡◌, ◌≤◌, ◌&&◌, Bool, true, nat_le, arith, leb-true}
+use Rattle.std.proofs.lemmas.Bool.{and_parts}
+use Rattle.cf_base.specs.Calendar.{is_call_month}
+use Rattle.cf_base.specs.declared.calendar.Month.{Month}
+
+pub call_month_year : (m : Month) → is_call_month m ≡ true → m.year ≤ 2199
+call_month_year m h =
+    let p = and_parts (nat_le 1970 m.year && nat_le m.year 2199 && nat_le 1 m.month) (nat_le m.month 12) h in
+    let q = and_parts (nat_le 1970 m.year && nat_le m.year 2199) (nat_le 1 m.month) p.0 in
+    let r = and_parts (nat_le 1970 m.year) (nat_le m.year 2199) q.0 in
+    leb-true m.year 2199 r.1

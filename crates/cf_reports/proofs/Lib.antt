@@ -1,0 +1,3 @@
+pub mod Claiming
+pub mod Pooling
+pub mod Reporting

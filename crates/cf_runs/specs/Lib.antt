@@ -1,0 +1,5 @@
+pub mod Devices
+pub mod Notices
+pub mod Printing
+pub mod Refused
+pub mod Unwritten
