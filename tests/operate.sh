@@ -22,17 +22,21 @@ missing() {
 # The programs' folder, as at a city without the sources.
 city=$scratch/city
 mkdir -p "$city/out"
-cp cityfund books examples/operate/doors.sh "$city/"
+cp -R cityfund books page examples/operate/doors.sh "$city/"
 cp "$program" "$city/out/cityfund"
 cp "$books" "$city/out/books"
 
-# ---- the unit
+# ---- the units
 
 if ! missing systemd-analyze; then
-    sed "s|/opt/cityfund/|$city/|" examples/operate/cityfund.service > "$scratch/cityfund.service"
-    said=$(systemd-analyze verify --man=no "$scratch/cityfund.service" 2>&1)
-    [ -z "$said" ]
-    verdict "the unit: $said" $?
+    for unit in cityfund.service cityfund-page.service cityfund-page.timer; do
+        sed "s|/opt/cityfund/|$city/|g" "examples/operate/$unit" > "$scratch/$unit"
+    done
+    for unit in cityfund.service cityfund-page.service cityfund-page.timer; do
+        said=$(systemd-analyze verify --man=no "$scratch/$unit" 2>&1)
+        [ -z "$said" ]
+        verdict "the unit $unit: $said" $?
+    done
 fi
 
 # ---- the wall before the doors, in a network of its own: root and the proxy's user come through, nobody else
@@ -63,8 +67,8 @@ if ! missing nft unshare setpriv; then
     fi
 fi
 
-module=/usr/lib/nginx/modules/ngx_http_js_module.so
 . tests/serving.sh
+. tests/proxying.sh
 serving 4 100000
 
 # ---- the doors are counted: of this user's that listen, until all do or the program has ended
@@ -135,29 +139,8 @@ elif [ ! -e $module ]; then
     summary operate
     exit
 fi
-etc=$scratch/etc
-mkdir -p "$etc/tls"
 serving 4 100000
-port=$(PYTHONPATH=tests python3 -c 'import doors; print(doors.free_ports(1))')
-cp examples/operate/desk.js "$etc/"
-openssl req -x509 -newkey rsa:2048 -nodes -days 1 -subj /CN=localhost -addext subjectAltName=DNS:localhost \
-    -keyout "$etc/tls/key.pem" -out "$etc/tls/certificate.pem" 2> /dev/null
-for user in council payables treasury auditor; do
-    echo "$user:$(openssl passwd -6 "$user's word")"
-    printf 'machine localhost login %s password "%s"\n' "$user" "$user's word" > "$etc/$user.netrc"
-done > "$etc/passwords"
-sed -e "s|/etc/cityfund/|$etc/|" -e "s|listen 443|listen 127.0.0.1:$port|" -e "s|127.0.0.1:8101|127.0.0.1:$first|" \
-    -e "s|127.0.0.1:8102|127.0.0.1:$((first + 1))|" -e "s|127.0.0.1:8103|127.0.0.1:$((first + 2))|" \
-    -e "s|127.0.0.1:8104|127.0.0.1:$((first + 3))|" examples/operate/nginx.conf > "$etc/cityfund.conf"
-{
-    [ "$(id -u)" -ne 0 ] || echo "user root;"
-    echo "load_module $module; pid $scratch/nginx.pid; error_log $scratch/error.log; worker_processes 2; daemon off; events {}"
-    echo "http { access_log off; client_body_temp_path $scratch/temp; proxy_temp_path $scratch/temp; fastcgi_temp_path $scratch/temp;"
-    echo "uwsgi_temp_path $scratch/temp; scgi_temp_path $scratch/temp; include $etc/cityfund.conf; }"
-} > "$etc/nginx.conf"
-nginx -c "$etc/nginx.conf" 2> "$scratch/said" &
-proxy=$!
-url=https://localhost:$port
+proxying council payables treasury auditor
 
 # asked NAME USER CODE BODY WORDS..: curl with these words as this user, or as nobody where it is -; BODY is a pattern of grep.
 asked() {
@@ -169,10 +152,6 @@ asked() {
     verdict "$name by $user: $said" $?
 }
 
-for try in $(seq 100); do
-    curl --silent --output /dev/null --insecure "$url/" && break
-    sleep 0.1
-done
 adopt='"call":"adopt","key":"b1","on":"2025-07-01","fund":1,"year":2026,"lines":[{"line":3,"amount":100000}],"estimates":[]'
 calls=$url/calls
 
@@ -210,6 +189,8 @@ asked "a call of two origins" council 403 "$foreign" --header "Origin: $url" --h
 asked "a foreign page's call, by the other field" council 403 "$foreign" --header 'Sec-Fetch-Site: cross-site' "$@"
 asked "a call of a neighbour's page" council 403 "$foreign" --header 'Sec-Fetch-Site: same-site' "$@"
 asked "a foreign page's call with our origin" council 403 "$foreign" --header "Origin: $url" --header 'Sec-Fetch-Site: cross-site' "$@"
+asked "a call of a page that another user opened" council 403 '^{"proxy":"not this user"}$' --header 'Cityfund-User: payables' \
+    --data "{\"desk\":1,$adopt}" "$calls"
 asked "nothing was added" council 200 '^{"at":0,' "$url/lines/3/2026"
 asked "the council's own call" council 200 '^{"at":1,"ok":{}}$' "$calls" --data "{\"desk\":1,$adopt}"
 
@@ -219,6 +200,7 @@ asked "a report" auditor 200 '^{"at":1,"is":{"rows":' "$url/reports/2026/balance
 asked "a body in chunks" council 200 '"was":1' --header 'Transfer-Encoding: chunked' "$calls" --data "{\"desk\":1,$adopt}"
 asked "many fields" council 200 '"was":1' $(seq -f '--header x%g:1' 60) "$calls" --data "{\"desk\":1,$adopt}"
 asked "a call of a page of its own" council 200 '"was":1' --header "Origin: $url" --header 'Sec-Fetch-Site: same-origin' "$calls" --data "{\"desk\":1,$adopt}"
+asked "a call of a page that its user opened" council 200 '"was":1' --header 'Cityfund-User: council' "$calls" --data "{\"desk\":1,$adopt}"
 asked "a call that waits for 100" council 200 '"was":1' --header 'Expect: 100-continue' "$calls" --data "{\"desk\":1,$adopt}"
 asked "no JSON" council 400 '^{"form":"json"}$' "$calls" --data hello
 asked "no JSON object" council 400 '^{"form":"json"}$' "$calls" --data null
@@ -232,6 +214,21 @@ asked "a body that is too long" council 413 '^{"form":"long"}$' "$calls" --data-
 asked "a look at the calls" council 405 '^{"form":"method"}$' "$calls"
 asked "no route" council 404 '^{"form":"route"}$' "$url/nothing"
 asked "no TLS" - 400 "" "http://localhost:$port/lines/3/2026"
+
+# The page.
+echo '{}' > "$etc/page/chart.json"
+asked "the page without a password" - 401 "" "$url/desk/"
+asked "the page" auditor 200 "^Content-Security-Policy: default-src 'none'; script-src 'self'" --head "$url/desk/"
+asked "a file of the page" auditor 200 "^'use strict'\|import" "$url/desk/page.js"
+asked "a list of the page" auditor 200 '^{}$' "$url/desk/data/chart.json"
+asked "a list without a password" - 401 "" "$url/desk/data/chart.json"
+asked "a file that isn't the page's" auditor 404 "" --path-as-is "$url/desk/../desk.js"
+asked "a file above the page" auditor 404 "" "$url/desk/tables.py"
+asked "a change of the page" council 403 "" --request PUT --data x "$url/desk/page.js"
+asked "who asks" payables 200 '^{"user":"payables","desk":4}$' "$url/whoami"
+asked "who asks without a desk" auditor 200 '^{"user":"auditor","desk":0}$' "$url/whoami"
+asked "who asks without a password" - 401 "" "$url/whoami"
+asked "signing out" payables 401 "You are signed out" "$url/signout"
 
 # A caller that sends slowly holds up nobody: nginx takes a door once it has the whole call.
 for slow in 1 2 3 4 5 6 7 8; do

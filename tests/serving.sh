@@ -1,11 +1,11 @@
 # Read by the scripts of tests/ that speak to a `serve` by other programs, with `top`, `program` and `scratch` set and expect.sh read.
 
 # serving DOORS LINKS: founds a journal in the folder of the scratch folder that is named so, and serves it in the background. Sets `first`,
-# the first port, and `serving`, the process.
+# the first port, and `serving`, the process. `chart` names a chart; without it the city is Rivertown.
 serving() {
     rm -rf "$scratch/serving"
     mkdir "$scratch/serving"
-    cp "$top/examples/rivertown/chart.toml" "$scratch/serving/"
+    cp "${chart:-$top/examples/rivertown/chart.toml}" "$scratch/serving/chart.toml"
     first=$(PYTHONPATH=$top/tests python3 -c "import doors; print(doors.free_ports($1))")
     (cd "$scratch/serving" && "$program" found > /dev/null)
     start_serving "$1" "$2"

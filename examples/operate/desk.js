@@ -15,6 +15,12 @@ function isForeign(fields) {
     return origin !== undefined && origin !== 'https://' + fields['Host'] || site !== undefined && site !== 'same-origin';
 }
 
+// Whether a page that another user opened in this browser asks: it says for whom it was opened. Programs don't.
+function isOfAnother(r) {
+    var user = r.headersIn['Cityfund-User'];
+    return user !== undefined && user !== encodeURIComponent(r.variables.remote_user);
+}
+
 function post(r) {
     // What isn't a POST is no call, and a door says so.
     if (r.method !== 'POST') {
@@ -22,6 +28,9 @@ function post(r) {
     }
     if (isForeign(r.headersIn)) {
         return said(r, 403, {proxy: 'a foreign page'});
+    }
+    if (isOfAnother(r)) {
+        return said(r, 403, {proxy: 'not this user'});
     }
     var text, call;
     try {
@@ -41,4 +50,10 @@ function post(r) {
     r.internalRedirect('@doors');
 }
 
-export default {post};
+// Who asks, and for which desk: 0 where for none.
+function whoami(r) {
+    r.headersOut['Cache-Control'] = 'no-store';
+    said(r, 200, {user: r.variables.remote_user, desk: Number(r.variables.cityfund_desk) || 0});
+}
+
+export default {post, whoami};

@@ -1,0 +1,92 @@
+// Nodes of the page. What comes from a chart or a door becomes text alone, never markup.
+
+export const byId = id => document.getElementById(id);
+
+/** A node with properties, or attributes where the name has a dash, and parts that are nodes or texts. */
+export function made(tag, more = {}, ...parts) {
+    const node = document.createElement(tag);
+    for (const [name, value] of Object.entries(more)) {
+        if (value === undefined || value === false) continue;
+        if (name.includes('-') || name === 'role' || name === 'for') node.setAttribute(name, value);
+        else node[name] = value;
+    }
+    node.append(...parts.filter(part => part !== undefined && part !== null));
+    return node;
+}
+
+const SVG = 'http://www.w3.org/2000/svg';
+
+/** A node of a picture, with attributes. */
+export function drawn(tag, more = {}, ...parts) {
+    const node = document.createElementNS(SVG, tag);
+    for (const [name, value] of Object.entries(more)) node.setAttribute(name, value);
+    node.append(...parts);
+    return node;
+}
+
+/** A choice of [value, text] pairs, below a first one without a value where `blank` is said. */
+export function choice(more, pairs, blank) {
+    const node = made('select', more);
+    fill(node, pairs, blank);
+    return node;
+}
+
+/** Puts other pairs into a choice, and keeps what was chosen where it is still there. */
+export function fill(node, pairs, blank) {
+    const chosen = node.value;
+    node.replaceChildren();
+    if (blank !== undefined) node.append(made('option', {value: ''}, blank));
+    for (const [value, text] of pairs) node.append(made('option', {value: String(value)}, text));
+    if ([...node.options].some(option => option.value === chosen)) node.value = chosen;
+    else node.value = pairs.length === 1 && blank !== undefined ? String(pairs[0][0]) : node.options.length ? node.options[0].value : '';
+}
+
+let last = 0;
+
+/** An input below its label, with a hint and a place for a fault, all joined for who reads by ear. */
+export function labelled(text, input, hint) {
+    const id = input.id || 'field-' + ++last;
+    input.id = id;
+    const fault = made('span', {className: 'fault', id: id + '-fault'});
+    const about = hint ? made('span', {className: 'hint', id: id + '-hint'}, hint) : undefined;
+    input.setAttribute('aria-describedby', (hint ? id + '-hint ' : '') + id + '-fault');
+    const box = made('div', {className: 'field'}, made('label', {htmlFor: id}, text), input, about, fault);
+    input.box = box;
+    return box;
+}
+
+/** Says what is wrong with an input, or nothing. */
+export function wrong(input, text = '') {
+    const fault = document.getElementById(input.id + '-fault');
+    if (fault) fault.textContent = text;
+    if (text) input.setAttribute('aria-invalid', 'true');
+    else input.removeAttribute('aria-invalid');
+}
+
+/** A table with a caption, heads and rows; a head is its text, or [text, true] above amounts. */
+export function table(caption, heads, rows) {
+    const head = made('tr', {}, ...heads.map(each => {
+        const [text, isAmount] = Array.isArray(each) ? each : [each];
+        return text === '' ? made('td', {}) : made('th', {scope: 'col', className: isAmount ? 'amount' : ''}, text);
+    }));
+    return made('div', {className: 'scroll', tabIndex: 0, role: 'region', 'aria-label': caption},
+        made('table', {}, made('caption', {}, caption), made('thead', {}, head), made('tbody', {}, ...rows)));
+}
+
+const AMOUNT = /^-?[\d,]+\.\d\d$/, DAY = /^\d{4}-\d\d-\d\d$/;
+const kindOf = part => typeof part !== 'string' ? '' : AMOUNT.test(part) ? 'amount' : DAY.test(part) ? 'day' : '';
+
+/** A row of cells, the first of which heads it. */
+export function row(parts, className = '') {
+    return made('tr', {className}, ...parts.map((part, place) => {
+        const more = {className: kindOf(part)};
+        return place === 0 ? made('th', {scope: 'row', ...more}, part) : made('td', more, part);
+    }));
+}
+
+/** Gives a file to the browser's downloads. */
+export function give(name, text, type = 'text/plain') {
+    const link = made('a', {href: URL.createObjectURL(new Blob([text], {type})), download: name});
+    link.click();
+    setTimeout(() => URL.revokeObjectURL(link.href), 10000);
+}

@@ -1,0 +1,96 @@
+// The items of a requisition, an order or a voucher: an account with its amount each, and of a voucher the item of an order that it is of.
+
+import {choice, labelled, made} from './dom.js';
+import {Account, Fault, inputOf, read} from './fields.js';
+import {money, sum} from './money.js';
+
+export class Items {
+    constructor(field, context, doors, changed) {
+        Object.assign(this, {field, context, doors, changed, rows: []});
+        this.total = made('p', {className: 'total', role: 'status'});
+        this.more = made('button', {type: 'button', onclick: () => { this.add().focus(); changed(); }}, 'One more item');
+        this.box = made('fieldset', {className: 'list'}, made('legend', {}, field.label), this.more, this.total);
+        this.box.readList = isWhole => this.read(isWhole);
+        this.box.offer = () => this.rows.forEach(row => row.account.offer());
+        this.box.say = () => this.say();
+        this.add();
+    }
+
+    /** Another item; its first choice, to be focused. */
+    add() {
+        const {field, context} = this, place = this.rows.length + 1;
+        const make = part => part.name === 'order' ? this.orders() : inputOf(part, context);
+        const inputs = Object.fromEntries(field.parts.map(part => [part.name, make(part)]));
+        const out = {type: 'button', className: 'away', 'aria-label': `Take item ${place} out`, onclick: () => this.remove(row)};
+        const about = part => part.label + (part.optional && part.type !== 'true or false' ? ' (optional)' : '');
+        const boxes = field.parts.map(part => labelled(about(part), inputs[part.name], part.hint));
+        const ofOrder = ['item', 'recorded', 'final'].map(name => inputs[name]?.box).filter(Boolean);
+        const note = made('p', {className: 'note', role: 'status'});
+        const row = {inputs, note, box: made('div', {className: 'item', role: 'group', 'aria-label': `Item ${place}`}, ...boxes, made('button', out, 'Take out'), note)};
+        row.account = new Account(context, {fund: inputs.fund, dept: inputs.dept, object: inputs.object});
+        if (inputs.order) {
+            const show = () => ofOrder.forEach(box => { box.hidden = !inputs.order.value; });
+            inputs.order.addEventListener('change', () => { show(); this.fillItem(row); });
+            inputs.item.addEventListener('change', () => this.fillAccount(row));
+            show();
+        }
+        this.rows.push(row);
+        this.box.insertBefore(row.box, this.more);
+        this.more.disabled = this.rows.length >= field.most;
+        return inputs.fund;
+    }
+
+    remove(row) {
+        if (this.rows.length === 1) return;
+        this.rows.splice(this.rows.indexOf(row), 1);
+        row.box.remove();
+        this.rows.forEach((each, place) => each.box.setAttribute('aria-label', `Item ${place + 1}`));
+        this.more.disabled = false;
+        this.more.focus();
+        this.changed();
+    }
+
+    /** The orders that may be open, by their names. */
+    orders() {
+        return choice({name: 'order'}, this.context.lists.of('order').map(each => [each.number, `${each.number} ${each.key}, vendor ${each.who}`]), 'None');
+    }
+
+    async fillItem(row) {
+        const {inputs} = row, number = inputs.order.value, found = this.context.lists.document('order', number);
+        if (!number) return;
+        if (!inputs.item.value) inputs.item.value = '1';
+        this.fillAccount(row);
+        if (found && !this.context.form.elements.vendor.value) this.context.form.elements.vendor.value = found.who;
+    }
+
+    fillAccount({inputs, account}) {
+        const found = this.context.lists.document('order', inputs.order.value)?.items[Number(inputs.item.value) - 1];
+        if (found) account.set(...found.slice(0, 3));
+        this.changed();
+    }
+
+    read(isWhole) {
+        const used = this.rows.filter(({inputs}) => isWhole || inputs.amount.value);
+        return used.map(({inputs}) => {
+            const isOf = Boolean(inputs.order?.value);
+            const made = this.field.parts.flatMap(part => {
+                if (part.optional && !isOf) return [];
+                const needed = isWhole && (!part.optional || part.name === 'item');
+                const found = read(part, inputs[part.name], needed);
+                return found === undefined ? [] : [[part.name, found]];
+            });
+            const item = Object.fromEntries(made);
+            if (item.final && item.recorded !== undefined) throw new Fault(inputs.recorded, 'An item has one of these, not both');
+            return item;
+        });
+    }
+
+    say() {
+        try {
+            const items = this.read(false);
+            this.total.textContent = items.length > 1 ? `${items.length} items, ${money(sum(items.map(item => item.amount)))} in all` : '';
+        } catch {
+            this.total.textContent = '';
+        }
+    }
+}

@@ -1,0 +1,87 @@
+// What is open: documents by the lists, each with its state as a door has it now.
+
+import {byId, fill, made, row, table} from './dom.js';
+import {dated} from './chart.js';
+import {money} from './money.js';
+
+const KINDS = [['requisition', 'Requisitions'], ['order', 'Orders'], ['voucher', 'Vouchers to be paid'], ['bill', 'Bills'], ['asset', 'Assets'],
+    ['bond', 'Bonds and leases']];
+const MORE = 40;
+// What can be done with a document of a kind, by call and field.
+const NEXT = {requisition: [['withdraw', 'requisition'], ['order', 'requisition']], order: [['change_order', 'order'], ['cancel_order', 'order']],
+    voucher: [['void_voucher', 'voucher']], bill: [['collect', 'bill'], ['write_off', 'bill']], asset: [], bond: [['pay_due', 'bond']]};
+
+export class States {
+    constructor(chart) {
+        this.chart = chart;
+    }
+
+    isOpen(kind, is) {
+        return {order: () => is.items.some(item => item.state === 'live'), requisition: () => is.state === 'open', voucher: () => is.state === 'open',
+            bill: () => is.left !== '0', asset: () => is.state === 'held', bond: () => is.next !== ''}[kind]();
+    }
+
+    /** The state of a document in words. */
+    say(kind, is) {
+        const item = (each, place) => `${place + 1}: ${this.chart.lineName(each.line)}, ` +
+            (each.state === 'live' ? `${money(each.open)} open, of ${each.year}` : each.state);
+        return {
+            order: () => `vendor ${is.vendor}; ` + is.items.map((each, place) => item(each, place)).join('; '),
+            requisition: () => `${is.state}, of ${is.year}: ` + is.items.map(each => `${this.chart.lineName(each.line)} ${money(each.amount)}`).join('; '),
+            voucher: () => `${is.state}, ${money(is.amount)}, of ${is.year}`,
+            bill: () => `${money(is.left)} left of ${this.chart.name('source', is.source)} ${is.levy_year}`,
+            asset: () => `${is.state}, cost ${money(is.cost)}, depreciation ${money(is.depreciation)}`,
+            bond: () => `${money(is.outstanding)} owed, ` + (is.next ? `next payment ${dated(is.next)}` : 'paid off'),
+        }[kind]();
+    }
+}
+
+export class Open {
+    constructor(city) {
+        Object.assign(this, city);
+        fill(byId('open-kind'), KINDS);
+        byId('open-form').addEventListener('submit', event => { event.preventDefault(); this.show(); });
+        byId('open-kind').addEventListener('change', () => this.show());
+        byId('open-more').addEventListener('click', () => this.more());
+    }
+
+    async show() {
+        byId('open-said').textContent = 'Asking for what is open ..';
+        const kind = byId('open-kind').value, find = byId('open-find').value.trim().toLowerCase();
+        await this.lists.load().catch(() => {});
+        const has = each => !find || [each.key, each.day, String(each.number), String(each.who ?? '')].some(text => text.toLowerCase().includes(find));
+        this.left = this.lists.of(kind).filter(has);
+        this.rows = [];
+        this.turn = Symbol();
+        byId('open-table').replaceChildren();
+        await this.more();
+    }
+
+    /** Asks a door for the states of the next documents, a few at a time. */
+    async more() {
+        const kind = byId('open-kind').value, {turn} = this, until = this.rows.length + MORE;
+        byId('open-more').hidden = true;
+        byId('open-said').textContent = 'Asking for their states ..';
+        while (this.left.length && this.rows.length < until) {
+            const asked = this.left.splice(0, 4);
+            const look = async each => ({each, said: await this.doors.look({call: kind, [kind]: each.number}).catch(() => ({}))});
+            const rows = await Promise.all(asked.map(look));
+            if (turn !== this.turn) return;
+            for (const {each, said} of rows) if (said.is && this.states.isOpen(kind, said.is)) this.rows.push(this.row(kind, each, said.is));
+        }
+        const who = kind === 'bill' ? 'Payer' : 'Vendor';
+        const name = KINDS.find(([each]) => each === kind)[1], heads = ['Number', 'Day', 'Key', who, ['Amount', true], 'Now', ''];
+        byId('open-table').replaceChildren(this.rows.length ? table(name, heads, this.rows) : '');
+        byId('open-said').textContent = `${this.rows.length || 'None'} open${this.left.length ? ', and more that may be' : ''}. ` +
+            `The list has the entries up to ${this.lists.state.entries}.`;
+        byId('open-more').hidden = this.left.length === 0;
+    }
+
+    row(kind, each, is) {
+        const {calls} = this.tables, able = NEXT[kind].filter(([call]) => this.roles.includes(calls[call].role));
+        const next = able.map(([call, field]) =>
+            made('button', {type: 'button', className: 'small', onclick: () => this.begin(call, {[field]: each.number})}, calls[call].title));
+        const cents = each.cents === null ? '' : money(each.cents);
+        return row([String(each.number), each.day, each.key, String(each.who ?? ''), cents, this.states.say(kind, is), made('span', {}, ...next)]);
+    }
+}

@@ -1,0 +1,95 @@
+"""What the tests of the page stand on: the program behind the proxy, the lists, and a browser with a context a user."""
+import json
+import os
+import subprocess
+import sys
+import time
+
+import doors
+from browser import Browser
+from clerk import Clerk
+
+TOP = os.path.join(os.path.dirname(os.path.abspath(__file__)), "..", "..")
+# The desks of Harborview with users of their own; `second` shares the desk of payables, and the auditor has none.
+USERS = {1: "council", 2: "streets", 3: "purchasing", 4: "payables", 5: "treasury", 6: "revenue", 7: "assets", 8: "payroll", 9: "controller",
+         14: "invoices", 15: "deputy", 20: "roads"}
+
+
+class Stand:
+    def __init__(self, url, journal, lists, program, first, pictures=None):
+        self.url, self.journal, self.lists, self.program, self.first, self.pictures = url, journal, lists, program, int(first), pictures
+        self.books = os.environ["BOOKS"]
+        self.verdicts, self.browser = doors.Verdicts("page"), Browser()
+        self.contexts, self.pages, self.serving = {}, [], None
+        self.start()
+
+    def start(self):
+        words = ["serve", "--port", str(self.first), "--doors", "4", "--links", "1000000"]
+        self.serving = subprocess.Popen([self.program, *words], cwd=self.journal, stdout=subprocess.DEVNULL)
+        doors.Link(self.first + 3, self.serving).close()
+
+    def kill(self):
+        self.serving.kill()
+        self.serving.wait()
+
+    def end(self):
+        self.kill()
+        self.browser.end()
+
+    def context(self, user):
+        if user not in self.contexts:
+            self.contexts[user] = self.browser.context()
+        return self.contexts[user]
+
+    def tab(self, user, context=None):
+        page = self.browser.page(context or self.context(user), user, user + "'s word")
+        self.pages.append(page)
+        return page
+
+    def clerk(self, user, context=None):
+        """A tab of a user at the page."""
+        return Clerk(self.tab(user, context), self.url)
+
+    def desk(self, number):
+        return self.clerk(USERS[number])
+
+    def make_lists(self):
+        """What the timer does."""
+        subprocess.run([sys.executable, os.path.join(TOP, "page", "lists.py"), self.books, os.path.join(self.journal, "fund.journal"), self.lists],
+                       check=True, stdout=subprocess.DEVNULL)
+
+    def calls(self):
+        """The entries of the journal, each as its call."""
+        done = subprocess.run([self.books, "calls", os.path.join(self.journal, "fund.journal")], stdout=subprocess.PIPE, check=True)
+        return [json.loads(line) for line in done.stdout.splitlines()]
+
+    def entries(self):
+        return len(self.calls())
+
+    def ask(self, call):
+        """A look or a call at a door itself."""
+        with doors.Link(self.first, self.serving) as link:
+            return link.call(call)[1]
+
+    def holds(self, name, what, said=""):
+        self.verdicts.verdict(name, what, said)
+
+    def same(self, name, got, wanted):
+        self.verdicts.same(name, got, wanted)
+
+    def picture(self, page, name, whole=False):
+        if self.pictures:
+            page.shot(os.path.join(self.pictures, name + ".png"), whole)
+
+    def waited(self, what, seconds=60):
+        """Whether something comes to hold. The browser's requests go on meanwhile."""
+        end = time.time() + seconds
+        while time.time() < end:
+            self.browser.send("Browser.getVersion")
+            if what():
+                return True
+            time.sleep(0.05)
+        return False
+
+    def logs(self):
+        return [line for page in self.pages for line in page.logs]
