@@ -9,7 +9,7 @@
 # are kept in the file that GATE_SECONDS names, or gate.seconds in the folder for temporary files, a line for each crate, so
 # that crates can be measured on different days; what follows from them is printed for all crates of that file. Measuring
 # all takes about twice the processor time of `rt ci`. A program's tests are its two runs. Edits are tried as the gate tries
-# them, with nothing kept.
+# them, with nothing kept: by `rt must-fail --anew` where the kit's rt knows it, and else over a crate whose kept work is removed.
 #
 # The second form measures nothing: it reckons each crate's price from the size of what its last check kept in out/, in
 # seconds of an otherwise idle machine; with all processors busy each takes up to twice as long. Neither is part of the gate.
@@ -46,6 +46,9 @@ def all_below(deps, name):
                 left.append(it)
     return seen
 
+
+# Whether this kit's rt keeps what it passed, and so is asked to try edits anew; it then makes a seed for a crate's edits.
+KEEPS = "--anew" in subprocess.run(["rt", "help"], stdout=subprocess.PIPE, stderr=subprocess.STDOUT, text=True).stdout
 
 # rt then does one thing at a time.
 ONE_LANE = {**os.environ, "RT_JOBS": "1"}
@@ -88,7 +91,8 @@ def measured(root, name):
         shutil.rmtree(f"{folder}/out", ignore_errors=True)
         os.rename(kept, f"{folder}/out")
     if edits_of(name):
-        edits, well = seconds(root, "rt", "must-fail", "--anew", name)
+        shutil.rmtree(f"{folder}/out/incremental", ignore_errors=True)
+        edits, well = seconds(root, "rt", "must-fail", *(["--anew"] if KEEPS else []), name)
         if not well:
             sys.exit(f"an edit of {name} isn't refused")
     return proof, tests, edits
@@ -120,7 +124,7 @@ def reckoned(name):
     proof = START + MEGABYTE * size + FUNCTION * functions(folder)
     tests = BUILDS if os.path.exists(f"{folder}/src/main.rt") else 0
     tests += (proof + TESTS) if has(folder, "#[test]") else 0
-    # A single edit is tried from nothing, as is the seed of several.
+    # A single edit is tried from nothing, as is the seed of several, or the first of them where there is no seed.
     count = edits_of(name)
     edits = proof + (EDIT * count + LAST if count > 1 else 0)
     return proof, tests, edits if count else 0
@@ -168,7 +172,8 @@ def measure(names):
 
 
 def tasks_of(found, deps):
-    """The tasks of the gate, each with those that it waits for and its seconds. A seed begins beside the crate's own proof."""
+    """The tasks of the gate, each with those that it waits for and its seconds. A seed begins beside the crate's own proof; without
+    one a crate's edits are tried in turn."""
     tasks = {}
     for name, (proof, tests, edits) in found.items():
         lower = [(it, "proof") for it in all_below(deps, name) if it in found]
@@ -176,15 +181,15 @@ def tasks_of(found, deps):
         if tests:
             tasks[name, "tests"] = (lower, tests)
         own, count = [(name, it) for it in ("proof", "tests") if (name, it) in tasks], edits_of(name)
-        if count == 1:
-            tasks[name, "edit 1"] = (own, edits)
-        elif count:
+        if count > 1 and KEEPS:
             seed = min(proof, edits)
             each = (edits - seed) / (count + 1)
             tasks[name, "seed"] = (lower, seed)
             for number in range(1, count + 1):
                 tasks[name, f"edit {number}"] = ([*own, (name, "seed")], each)
             tasks[name, "last"] = ([(name, f"edit {number}") for number in range(1, count + 1)], each)
+        elif count:
+            tasks[name, "edits"] = (own, edits)
     return tasks
 
 

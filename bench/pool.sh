@@ -1,7 +1,8 @@
 #!/bin/sh
 # How long `pool` takes over a long journal beside a report, on the built program: with two funds that share, and with the most that a
-# chart may have, since the movements are read once for each fund. The journal has 100,000 receipts over the days of a month, or as many
-# as the argument says. Prints the least seconds of seven runs of each, in turn; `pool` is to take at most 1.2 times what the report does.
+# chart may have. The movements are read once, and each finds its fund by halving, so the number of funds is to tell little. The journal
+# has 100,000 receipts over the days of a month, or as many as the argument says. Prints the least seconds of seven runs of each, in
+# turn; `pool` is to take at most 1.2 times what the report does.
 top=$(cd "$(dirname "$0")/.." && pwd)
 . "$top/tests/program.sh"
 scratch=$(mktemp -d) || exit 1

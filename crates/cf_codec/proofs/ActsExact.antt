@@ -22,7 +22,7 @@ use Rattle.cf_calls.specs.declared.kind.ActKind.TheVariants as kind
 use Rattle.cf_fields.specs.Formats.{Format, and_then, kept}
 use Rattle.cf_fields.specs.Fields.{byte, half, word, one_of, flag, year, amount, most_amount, signed, month}
 use Rattle.cf_fields.specs.Kinds.{kind_of, value_in, kinds, kind_value, kind_code, kind, moves, move_value, move_code, move_kind}
-use Rattle.cf_codec.specs.Acts.{source_amount, account_item, line_amounts, source_amounts, account_items, voucher_items, voucher_numbers, principals, adoption, amendment, other_than, transfer, new_requisition, optional_by, optional, new_order, order_change, new_voucher, payment, new_bill, bill_amount, donation, disposal, issue, lease, lease_principals, debt_payment, leave_amount, maturity, fund_move, made, asset_act_bytes, asset_act_fits, asset_act_by, asset_act, leave_act_bytes, leave_act_fits, leave_act_by, leave_act, period_bytes, period_fits, period_by, closed_period, act_bytes, act_fits, act_at, act_for}
+use Rattle.cf_codec.specs.Acts.{source_amount, account_item, line_amounts, source_amounts, account_items, voucher_items, voucher_numbers, principals, adoption, amendment, other_than, transfer, new_requisition, optional_by, optional, new_order, order_change, new_voucher, payment, new_bill, bill_amount, donation, disposal, issue, lease, lease_principals, debt_payment, leave_amount, maturity, fund_move, made, asset_act_by, asset_act, leave_act_by, leave_act, period_by, closed_period, act_bytes, act_fits, act_at, act_for}
 use Rattle.cf_fields.proofs.Exact.{IsBytes, Takes, IsExact, IsWhole, Any, step, last, same, ok_is, then_ok, then_err, kept-exact, converted-exact}
 use Rattle.cf_fields.proofs.FieldsExact.{byte-exact, half-exact, word-exact, one_of-exact, flag-exact, year-exact, amount-exact, most_amount-exact, signed-exact, month-exact}
 use Rattle.cf_codec.proofs.ItemsExact.{source_amount-exact, account_item-exact, IsDistinctList, line_amounts-exact, source_amounts-exact, account_items-exact, voucher_items-exact, voucher_numbers-exact, IsRepaymentList, principals-exact}
@@ -349,12 +349,12 @@ tag_then which Form exact next a text rest b fits form e =
 abbrev AssetForm : AssetAct → Type 0
 AssetForm a = IsWithinLimits (Asset a)
 
-asset_back : (a : AssetAct) (rest : List ℕ) → asset_act_fits a → AssetForm a → asset_act.read (asset_act_bytes a ++ rest) ≡ Ok (a, rest)
+asset_back : (a : AssetAct) (rest : List ℕ) → asset_act.fits a → AssetForm a → asset_act.read (asset_act.bytes a ++ rest) ≡ Ok (a, rest)
 asset_back (Donate d) rest fits form = tag_then flag Any flag-exact asset_act_by false (donation.bytes d) rest (Donate d) (omega arith) tt (variant_back Donate donation _ donation-exact d rest fits form)
 asset_back (Dispose d) rest fits form = tag_then flag Any flag-exact asset_act_by true (disposal.bytes d) rest (Dispose d) (omega arith) tt (variant_back Dispose disposal _ disposal-exact d rest fits form)
 
 abbrev AssetRead : Bool → List ℕ → List ℕ → AssetAct → Type 0
-AssetRead b bytes rest a = Takes (flag.bytes b ++ bytes) (asset_act_bytes a) rest × asset_act_fits a × AssetForm a
+AssetRead b bytes rest a = Takes (flag.bytes b ++ bytes) (asset_act.bytes a) rest × asset_act.fits a × AssetForm a
 
 asset_only : (b : Bool) (bytes : List ℕ) (a : AssetAct) (rest : List ℕ) → IsBytes bytes → asset_act_by b bytes ≡ Ok (a, rest) → AssetRead b bytes rest a
 asset_only false bytes a rest are e = variant_only Donate donation _ donation-exact bytes a rest are e (AssetRead false bytes rest) (λ d takes fits form. (behind_tag (flag.bytes false) takes, fits, form))
@@ -376,7 +376,7 @@ asset_act-exact : IsWhole asset_act AssetForm
 asset_act-exact = record {
   back = λ a rest known fits form. asset_back a rest fits form;
   only = λ bytes a rest are e.
-      let p = taken flag Any flag-exact asset_act_by bytes a rest are e (λ x. Takes x (asset_act_bytes a) rest × asset_act_fits a × AssetForm a) (λ b after are' form e'. asset_only b after a rest are' e') in
+      let p = taken flag Any flag-exact asset_act_by bytes a rest are e (λ x. Takes x (asset_act.bytes a) rest × asset_act.fits a × AssetForm a) (λ b after are' form e'. asset_only b after a rest are' e') in
       (p.0, tt, p.1, p.2);
   left = λ bytes n are e. behind flag Any flag-exact asset_act_by bytes n are (λ b rest are' e'. asset_left b rest n are' e') e;
 }
@@ -384,13 +384,13 @@ asset_act-exact = record {
 abbrev LeaveForm : LeaveAct → Type 0
 LeaveForm a = IsWithinLimits (Leave a)
 
-leave_back : (a : LeaveAct) (rest : List ℕ) → leave_act_fits a → LeaveForm a → leave_act.read (leave_act_bytes a ++ rest) ≡ Ok (a, rest)
+leave_back : (a : LeaveAct) (rest : List ℕ) → leave_act.fits a → LeaveForm a → leave_act.read (leave_act.bytes a ++ rest) ≡ Ok (a, rest)
 leave_back (Earn l) rest fits form = tag_then (one_of 3) (λ n. n < 3) (one_of-exact 3) leave_act_by 0 (leave_amount.bytes l) rest (Earn l) (omega arith) (omega arith) (variant_back Earn leave_amount _ leave_amount-exact l rest fits form)
 leave_back (Use l) rest fits form = tag_then (one_of 3) (λ n. n < 3) (one_of-exact 3) leave_act_by 1 (leave_amount.bytes l) rest (Use l) (omega arith) (omega arith) (variant_back Use leave_amount _ leave_amount-exact l rest fits form)
 leave_back (Mature m) rest fits form = tag_then (one_of 3) (λ n. n < 3) (one_of-exact 3) leave_act_by 2 (maturity.bytes m) rest (Mature m) (omega arith) (omega arith) (variant_back Mature maturity _ maturity-exact m rest fits form)
 
 abbrev LeaveRead : ℕ → List ℕ → List ℕ → LeaveAct → Type 0
-LeaveRead n bytes rest a = Takes (byte.bytes n ++ bytes) (leave_act_bytes a) rest × leave_act_fits a × LeaveForm a
+LeaveRead n bytes rest a = Takes (byte.bytes n ++ bytes) (leave_act.bytes a) rest × leave_act.fits a × LeaveForm a
 
 leave_only : (n : ℕ) (bytes : List ℕ) (a : LeaveAct) (rest : List ℕ) → n < 3 → IsBytes bytes → leave_act_by n bytes ≡ Ok (a, rest) → LeaveRead n bytes rest a
 leave_only zero bytes a rest lt are e = variant_only Earn leave_amount _ leave_amount-exact bytes a rest are e (LeaveRead 0 bytes rest) (λ l takes fits form. (behind_tag (byte.bytes 0) takes, fits, form))
@@ -409,17 +409,17 @@ leave_act-exact : IsWhole leave_act LeaveForm
 leave_act-exact = record {
   back = λ a rest known fits form. leave_back a rest fits form;
   only = λ bytes a rest are e.
-      let p = taken (one_of 3) (λ n. n < 3) (one_of-exact 3) leave_act_by bytes a rest are e (λ x. Takes x (leave_act_bytes a) rest × leave_act_fits a × LeaveForm a) (λ n after are' form e'. leave_only n after a rest form are' e') in
+      let p = taken (one_of 3) (λ n. n < 3) (one_of-exact 3) leave_act_by bytes a rest are e (λ x. Takes x (leave_act.bytes a) rest × leave_act.fits a × LeaveForm a) (λ n after are' form e'. leave_only n after a rest form are' e') in
       (p.0, tt, p.1, p.2);
   left = λ bytes m are e. behind (one_of 3) (λ n. n < 3) (one_of-exact 3) leave_act_by bytes m are (λ n rest are' e'. leave_left n rest m are' e') e;
 }
 
-period_back : (p : Period) (rest : List ℕ) → period_fits p → IsPeriodForm p → closed_period.read (period_bytes p ++ rest) ≡ Ok (p, rest)
+period_back : (p : Period) (rest : List ℕ) → closed_period.fits p → IsPeriodForm p → closed_period.read (closed_period.bytes p ++ rest) ≡ Ok (p, rest)
 period_back (period.Month m) rest fits form = tag_then flag Any flag-exact period_by false (month.bytes m) rest (period.Month m) (omega arith) tt (variant_back period.Month month _ month-exact m rest fits form)
 period_back (period.Year y) rest fits form = tag_then flag Any flag-exact period_by true (year.bytes y) rest (period.Year y) (omega arith) tt (variant_back period.Year year _ year-exact y rest fits form)
 
 abbrev PeriodRead : Bool → List ℕ → List ℕ → Period → Type 0
-PeriodRead b bytes rest p = Takes (flag.bytes b ++ bytes) (period_bytes p) rest × period_fits p × IsPeriodForm p
+PeriodRead b bytes rest p = Takes (flag.bytes b ++ bytes) (closed_period.bytes p) rest × closed_period.fits p × IsPeriodForm p
 
 period_only : (b : Bool) (bytes : List ℕ) (p : Period) (rest : List ℕ) → IsBytes bytes → period_by b bytes ≡ Ok (p, rest) → PeriodRead b bytes rest p
 period_only false bytes p rest are e = variant_only period.Month month _ month-exact bytes p rest are e (PeriodRead false bytes rest) (λ m takes fits form. (behind_tag (flag.bytes false) takes, fits, form))
@@ -433,7 +433,7 @@ closed_period-exact : IsWhole closed_period IsPeriodForm
 closed_period-exact = record {
   back = λ p rest known fits form. period_back p rest fits form;
   only = λ bytes p rest are e.
-      let q = taken flag Any flag-exact period_by bytes p rest are e (λ x. Takes x (period_bytes p) rest × period_fits p × IsPeriodForm p) (λ b after are' form e'. period_only b after p rest are' e') in
+      let q = taken flag Any flag-exact period_by bytes p rest are e (λ x. Takes x (closed_period.bytes p) rest × closed_period.fits p × IsPeriodForm p) (λ b after are' form e'. period_only b after p rest are' e') in
       (q.0, tt, q.1, q.2);
   left = λ bytes n are e. behind flag Any flag-exact period_by bytes n are (λ b rest are' e'. period_left b rest n are' e') e;
 }

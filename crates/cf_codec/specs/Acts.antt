@@ -315,41 +315,45 @@ fund_move = do
 abbrev pub made : {A B : Type 0} → (A → B) → Result (A × List ℕ) ℕ → Result (B × List ℕ) ℕ
 made make reading = and_then reading (λ a rest. Ok (make a, rest))
 
+-- how a value is written: its bytes, how many they are, and that its numbers fit
+pub record Written : Type 1 where
+  pub bytes : List ℕ
+  pub size : ℕ
+  pub fits : Type 0
+
+abbrev pub written : {A : Type 0} → Format A → A → Written
+written f a = record { bytes = f.bytes a; size = f.size a; fits = f.fits a }
+
+-- behind a field that says which of several kinds it is
+abbrev pub behind : {K A : Type 0} → Format K → K → Format A → A → Written
+behind which kind f a = record { bytes = which.bytes kind ++ f.bytes a; size = which.size kind + f.size a; fits = f.fits a }
+
+-- values of several kinds, the kind in front
+abbrev pub one_of_kinds : {K A : Type 0} → Format K → (A → Written) → (K → List ℕ → Result (A × List ℕ) ℕ) → Format A
+one_of_kinds which writing reading = record {
+  bytes = λ a. (writing a).bytes;
+  size = λ a. (writing a).size;
+  fits = λ a. (writing a).fits;
+  read = λ bytes. and_then (which.read bytes) reading;
+}
+
 -- 0 for a donation, 1 for a disposal
-abbrev pub asset_act_bytes : AssetAct → List ℕ
-asset_act_bytes (Donate d) = flag.bytes false ++ donation.bytes d
-asset_act_bytes (Dispose d) = flag.bytes true ++ disposal.bytes d
-
-abbrev pub asset_act_size : AssetAct → ℕ
-asset_act_size (Donate d) = 1 + donation.size d
-asset_act_size (Dispose d) = 1 + disposal.size d
-
-abbrev pub asset_act_fits : AssetAct → Type 0
-asset_act_fits (Donate d) = donation.fits d
-asset_act_fits (Dispose d) = disposal.fits d
+abbrev pub asset_act_written : AssetAct → Written
+asset_act_written (Donate d) = behind flag false donation d
+asset_act_written (Dispose d) = behind flag true disposal d
 
 abbrev pub asset_act_by : Bool → List ℕ → Result (AssetAct × List ℕ) ℕ
 asset_act_by false bytes = made Donate (donation.read bytes)
 asset_act_by true bytes = made Dispose (disposal.read bytes)
 
 abbrev pub asset_act : Format AssetAct
-asset_act = record { bytes = asset_act_bytes; size = asset_act_size; fits = asset_act_fits; read = λ bytes. and_then (flag.read bytes) asset_act_by }
+asset_act = one_of_kinds flag asset_act_written asset_act_by
 
 -- 0 where leave is earned, 1 where it is used, 2 where it is paid out
-abbrev pub leave_act_bytes : LeaveAct → List ℕ
-leave_act_bytes (Earn a) = byte.bytes 0 ++ leave_amount.bytes a
-leave_act_bytes (Use a) = byte.bytes 1 ++ leave_amount.bytes a
-leave_act_bytes (Mature m) = byte.bytes 2 ++ maturity.bytes m
-
-abbrev pub leave_act_size : LeaveAct → ℕ
-leave_act_size (Earn a) = 1 + leave_amount.size a
-leave_act_size (Use a) = 1 + leave_amount.size a
-leave_act_size (Mature m) = 1 + maturity.size m
-
-abbrev pub leave_act_fits : LeaveAct → Type 0
-leave_act_fits (Earn a) = leave_amount.fits a
-leave_act_fits (Use a) = leave_amount.fits a
-leave_act_fits (Mature m) = maturity.fits m
+abbrev pub leave_act_written : LeaveAct → Written
+leave_act_written (Earn a) = behind (one_of 3) 0 leave_amount a
+leave_act_written (Use a) = behind (one_of 3) 1 leave_amount a
+leave_act_written (Mature m) = behind (one_of 3) 2 maturity m
 
 abbrev pub leave_act_by : ℕ → List ℕ → Result (LeaveAct × List ℕ) ℕ
 leave_act_by zero bytes = made Earn (leave_amount.read bytes)
@@ -357,101 +361,54 @@ leave_act_by (suc zero) bytes = made Use (leave_amount.read bytes)
 leave_act_by _ bytes = made Mature (maturity.read bytes)
 
 abbrev pub leave_act : Format LeaveAct
-leave_act = record { bytes = leave_act_bytes; size = leave_act_size; fits = leave_act_fits; read = λ bytes. and_then ((one_of 3).read bytes) leave_act_by }
+leave_act = one_of_kinds (one_of 3) leave_act_written leave_act_by
 
 -- 0 for a month, 1 for a year
-abbrev pub period_bytes : Period → List ℕ
-period_bytes (period.Month m) = flag.bytes false ++ month.bytes m
-period_bytes (period.Year y) = flag.bytes true ++ year.bytes y
-
-abbrev pub period_size : Period → ℕ
-period_size (period.Month m) = 1 + month.size m
-period_size (period.Year y) = 1 + year.size y
-
-abbrev pub period_fits : Period → Type 0
-period_fits (period.Month m) = month.fits m
-period_fits (period.Year y) = year.fits y
+abbrev pub period_written : Period → Written
+period_written (period.Month m) = behind flag false month m
+period_written (period.Year y) = behind flag true year y
 
 abbrev pub period_by : Bool → List ℕ → Result (Period × List ℕ) ℕ
 period_by false bytes = made period.Month (month.read bytes)
 period_by true bytes = made period.Year (year.read bytes)
 
 abbrev pub closed_period : Format Period
-closed_period = record { bytes = period_bytes; size = period_size; fits = period_fits; read = λ bytes. and_then (flag.read bytes) period_by }
+closed_period = one_of_kinds flag period_written period_by
 
 -- ---- the fields of an act, whose kind stands in front of the entry
 
+abbrev pub act_written : Day → Act → Written
+act_written on (Adopt a) = written adoption a
+act_written on (Amend a) = written amendment a
+act_written on (Transfer t) = written transfer t
+act_written on (Requisition r) = written new_requisition r
+act_written on (Withdraw n) = written word n
+act_written on (Order p) = written new_order p
+act_written on (ChangeOrder c) = written order_change c
+act_written on (CancelOrder n) = written word n
+act_written on (Voucher i) = written new_voucher i
+act_written on (VoidVoucher n) = written word n
+act_written on (Pay p) = written payment p
+act_written on (Bill l) = written new_bill l
+act_written on (Collect a) = written bill_amount a
+act_written on (Receive a) = written source_amount a
+act_written on (WriteOff a) = written bill_amount a
+act_written on (Asset a) = written asset_act a
+act_written on (Issue i) = written (issue on) i
+act_written on (PayDue p) = written debt_payment p
+act_written on (Leave l) = written leave_act l
+act_written on (Interfund m) = written fund_move m
+act_written on (Close p) = written closed_period p
+act_written on (Lease l) = written (lease on) l
+
 unfoldable pub act_bytes : Day → Act → List ℕ
-act_bytes on (Adopt a) = adoption.bytes a
-act_bytes on (Amend a) = amendment.bytes a
-act_bytes on (Transfer t) = transfer.bytes t
-act_bytes on (Requisition r) = new_requisition.bytes r
-act_bytes on (Withdraw n) = word.bytes n
-act_bytes on (Order p) = new_order.bytes p
-act_bytes on (ChangeOrder c) = order_change.bytes c
-act_bytes on (CancelOrder n) = word.bytes n
-act_bytes on (Voucher i) = new_voucher.bytes i
-act_bytes on (VoidVoucher n) = word.bytes n
-act_bytes on (Pay p) = payment.bytes p
-act_bytes on (Bill l) = new_bill.bytes l
-act_bytes on (Collect a) = bill_amount.bytes a
-act_bytes on (Receive a) = source_amount.bytes a
-act_bytes on (WriteOff a) = bill_amount.bytes a
-act_bytes on (Asset a) = asset_act.bytes a
-act_bytes on (Issue i) = (issue on).bytes i
-act_bytes on (PayDue p) = debt_payment.bytes p
-act_bytes on (Leave l) = leave_act.bytes l
-act_bytes on (Interfund m) = fund_move.bytes m
-act_bytes on (Close p) = closed_period.bytes p
-act_bytes on (Lease l) = (lease on).bytes l
+act_bytes on a = (act_written on a).bytes
 
 unfoldable pub act_size : Day → Act → ℕ
-act_size on (Adopt a) = adoption.size a
-act_size on (Amend a) = amendment.size a
-act_size on (Transfer t) = transfer.size t
-act_size on (Requisition r) = new_requisition.size r
-act_size on (Withdraw n) = word.size n
-act_size on (Order p) = new_order.size p
-act_size on (ChangeOrder c) = order_change.size c
-act_size on (CancelOrder n) = word.size n
-act_size on (Voucher i) = new_voucher.size i
-act_size on (VoidVoucher n) = word.size n
-act_size on (Pay p) = payment.size p
-act_size on (Bill l) = new_bill.size l
-act_size on (Collect a) = bill_amount.size a
-act_size on (Receive a) = source_amount.size a
-act_size on (WriteOff a) = bill_amount.size a
-act_size on (Asset a) = asset_act.size a
-act_size on (Issue i) = (issue on).size i
-act_size on (PayDue p) = debt_payment.size p
-act_size on (Leave l) = leave_act.size l
-act_size on (Interfund m) = fund_move.size m
-act_size on (Close p) = closed_period.size p
-act_size on (Lease l) = (lease on).size l
+act_size on a = (act_written on a).size
 
 unfoldable pub act_fits : Day → Act → Type 0
-act_fits on (Adopt a) = adoption.fits a
-act_fits on (Amend a) = amendment.fits a
-act_fits on (Transfer t) = transfer.fits t
-act_fits on (Requisition r) = new_requisition.fits r
-act_fits on (Withdraw n) = word.fits n
-act_fits on (Order p) = new_order.fits p
-act_fits on (ChangeOrder c) = order_change.fits c
-act_fits on (CancelOrder n) = word.fits n
-act_fits on (Voucher i) = new_voucher.fits i
-act_fits on (VoidVoucher n) = word.fits n
-act_fits on (Pay p) = payment.fits p
-act_fits on (Bill l) = new_bill.fits l
-act_fits on (Collect a) = bill_amount.fits a
-act_fits on (Receive a) = source_amount.fits a
-act_fits on (WriteOff a) = bill_amount.fits a
-act_fits on (Asset a) = asset_act.fits a
-act_fits on (Issue i) = (issue on).fits i
-act_fits on (PayDue p) = debt_payment.fits p
-act_fits on (Leave l) = leave_act.fits l
-act_fits on (Interfund m) = fund_move.fits m
-act_fits on (Close p) = closed_period.fits p
-act_fits on (Lease l) = (lease on).fits l
+act_fits on a = (act_written on a).fits
 
 unfoldable pub act_at : ActKind → Day → List ℕ → Result (Act × List ℕ) ℕ
 act_at kind.Adopt on bytes = made Adopt (adoption.read bytes)

@@ -32,6 +32,10 @@ pub fn found<D: Disk>(alloc: Global, disk: &mut D, chart: &[u8]) -> Result<(), F
         → (D.content disk.new ≡ D.content disk.old) × AddsNone (D.is_image disk.old) (D.is_image disk.new) }
     ensures memory { IsErrOf result found_refused.NoMemory → disk.new ≡ disk.old }
 
+    // Over a founded journal a crash leaves at any moment of the call what it could have left when that began.
+    ensures unwritten { IsTrue D.tells → is_founded (length (D.content disk.old)) (D.content disk.old) ≡ true
+        → AtEachMoment D.moment D.was_image disk.old disk.new (D.is_image disk.old) }
+
     // What a crash leaves at any moment of the call, where nothing is pending when it begins; and else from its
     // first sync that succeeded on.
     ensures any_moment { IsTrue D.tells → is_founded (length (D.content disk.old)) (D.content disk.old) ≡ false
