@@ -1,7 +1,9 @@
 pub mod Bounds
 pub mod Forms
 pub mod Keys
+pub mod Months
+pub mod Places
 pub mod ReadBack
 pub mod Received
-pub mod Months
 pub mod Swapped
+pub mod Tables

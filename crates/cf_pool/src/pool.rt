@@ -137,7 +137,7 @@ fn put_shares(
 
 /// Appends the receipts by which a desk shares a month's interest, 1 to 10^13 cents, among the funds by their daily balances:
 /// one line for each fund by id with a share. It is refused, and nothing is appended, exactly where the weights come to nothing or to more
-/// than 2^64 - 1. Where there is no memory a part of the lines may be appended. Each movement is read once a fund.
+/// than 2^64 - 1. Where there is no memory a part of the lines may be appended. Each movement is read once.
 #[tactic(auto, using(crate::proofs::Months::call_month_year))]
 pub fn pool_lines(
     alloc: Global,
