@@ -9,10 +9,22 @@ use std::fs::{File, Files, OpenFile, OpenOptions};
 use std::io::{ErrorKind, Read, Seek, SeekFrom, Write};
 use std::path::Path;
 
-/// A disk over a file. Its first call opens the file and locks it, so that no second program that does the same
-/// writes it; a file that can't be opened, or that another holds, is a fault of that call. A missing file has
-/// no bytes, and is made by the first write or cut. Each sync is one of the system: of the file's data, and,
-/// where this disk made the file, of the folder that it lies in.
+/// The lock of an open file, for code that is generic over files.
+pub trait Lock {
+    /// Takes the lock on the file, without waiting. Whether it has it: another open of the file may hold it.
+    fn take_lock(&self) -> bool;
+}
+
+impl Lock for File {
+    fn take_lock(&self) -> bool {
+        self.try_lock().is_ok()
+    }
+}
+
+/// A disk over a file, of the system or of what stands in for it. Its first call opens the file and locks it, so that no
+/// second program that does the same writes it; a file that can't be opened, or that another holds, is a fault of that
+/// call. A missing file has no bytes, and is made by the first write or cut. Each sync is one of the system: of the file's
+/// data, and, where this disk made the file, of the folder that it lies in.
 #[derive(Drop)]
 pub struct FileDisk<'a, R: Files> {
     files: &'a R,
@@ -23,7 +35,10 @@ pub struct FileDisk<'a, R: Files> {
     faults: u64,
 }
 
-impl<'a, R: Files<File = File>> FileDisk<'a, R> {
+impl<'a, R: Files> FileDisk<'a, R>
+where
+    R::File: Lock,
+{
     /// The disk of the file at this path, which is opened later.
     pub fn new(files: &'a R, path: &'a str) -> Self {
         FileDisk {
@@ -71,10 +86,12 @@ impl<'a, R: Files<File = File>> FileDisk<'a, R> {
     }
 
     /// Keeps the file, if no other program has its lock.
-    fn hold(&mut self, file: File) -> Option<()>
+    fn hold(&mut self, file: R::File) -> Option<()>
         ensures { self.new.faults ≡ self.old.faults }
     {
-        file.try_lock().ok()?;
+        if !file.take_lock() {
+            return None;
+        }
         self.file = Some(file);
         Some(())
     }
@@ -168,7 +185,10 @@ fn sync_data<F: OpenFile>(file: &Option<F>) -> Option<()> {
     }
 }
 
-impl<R: Files<File = File>> Disk for FileDisk<'_, R> {
+impl<R: Files> Disk for FileDisk<'_, R>
+where
+    R::File: Lock,
+{
     ghost tells = { false };
 
     ghost content = { λ _. [] };

@@ -6,5 +6,5 @@ mod file;
 mod memory;
 
 pub use disk::Disk;
-pub use file::FileDisk;
+pub use file::{FileDisk, Lock};
 pub use memory::{DiskCall, MemDisk};

@@ -8,6 +8,10 @@
 //! | `ends` | what reads and writes give over a reader and a writer, and over memory |
 //! | `file PATH`, `missing PATH`, `nowhere PATH` | what the calls of a disk over a file give: one that is made, one that isn't, and one that can't be |
 //! | `memory FAIL STOP` | what five calls give of a disk in memory: it fails at the call FAIL and stops at STOP |
+//! | `found FAIL PATH CHART` | each call of the file at PATH, by its number, and whether a journal with the chart of a file is founded there; the call FAIL fails |
+//! | `append FAIL PATH PAYLOAD` | the same where it is opened and the entry of a file's payload appended, and where the entry is in doubt then, taken back and appended again |
+//! | `faults PATH CHART PAYLOAD` | how many calls a founding and an append make of the file, and how many of their failures are told, where each fails once |
+//! | `remove PATH` | nothing: removes the file |
 //! | `talk TEXT` | how a run over lines ends and what it writes; a bar stands for a newline and a hash for a return |
 //! | `long LETTERS` | the same over a line of so many letters and a short one |
 //! | `drip READS TEXT` | the same over a source that gives a byte at a time, and fails after so many reads |
@@ -18,10 +22,12 @@
 
 mod disks;
 mod ends;
+mod journals;
 mod office;
 mod play;
 mod said;
 mod talks;
+mod traced;
 mod word;
 mod years;
 

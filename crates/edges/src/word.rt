@@ -4,18 +4,52 @@
 #[derive(Clone, Copy)]
 pub enum Word<'a> {
     Heading,
-    Source { size: usize, file: &'a str },
+    Source {
+        size: usize,
+        file: &'a str,
+    },
     Ends,
     File(&'a str),
     Missing(&'a str),
     Nowhere(&'a str),
-    Memory { fail: u64, stop: u64 },
+    Memory {
+        fail: u64,
+        stop: u64,
+    },
+    Found {
+        fail: u64,
+        path: &'a str,
+        chart: &'a str,
+    },
+    Append {
+        fail: u64,
+        path: &'a str,
+        payload: &'a str,
+    },
+    Faults {
+        path: &'a str,
+        chart: &'a str,
+        payload: &'a str,
+    },
+    Remove(&'a str),
     Talk(&'a str),
     Long(usize),
-    Drip { reads: u64, text: &'a str },
-    Limit { limit: usize, text: &'a str },
-    Counted { each: bool, text: &'a str },
-    YearEnd { first_month: u8, year: u16 },
+    Drip {
+        reads: u64,
+        text: &'a str,
+    },
+    Limit {
+        limit: usize,
+        text: &'a str,
+    },
+    Counted {
+        each: bool,
+        text: &'a str,
+    },
+    YearEnd {
+        first_month: u8,
+        year: u16,
+    },
 }
 
 /// The first word of a text, and the rest.
@@ -36,7 +70,32 @@ fn year_word<'a>(first_month: &str, year: &str) -> Word<'a> {
     }
 }
 
-/// What a line of the script asks for. What is none of the words is a heading.
+/// A word on a journal in a file. What is none of these words is a heading.
+fn journal_word<'a>(verb: &str, rest: &'a str) -> Word<'a> {
+    let (first, behind) = pair(rest);
+    let (second, third) = pair(behind);
+    match verb {
+        "found" => Word::Found {
+            fail: u64::from(number(first)),
+            path: second,
+            chart: third,
+        },
+        "append" => Word::Append {
+            fail: u64::from(number(first)),
+            path: second,
+            payload: third,
+        },
+        "faults" => Word::Faults {
+            path: first,
+            chart: second,
+            payload: third,
+        },
+        "remove" => Word::Remove(rest),
+        _ => Word::Heading,
+    }
+}
+
+/// What a line of the script asks for.
 pub fn word_of(line: &str) -> Word<'_> {
     let (verb, rest) = pair(line);
     let (first, second) = pair(rest);
@@ -72,6 +131,6 @@ pub fn word_of(line: &str) -> Word<'_> {
             text: rest,
         },
         "year_end" => year_word(first, second),
-        _ => Word::Heading,
+        _ => journal_word(verb, rest),
     }
 }

@@ -3,6 +3,7 @@
 
 mod clerk;
 mod cut;
+mod noted;
 mod peers;
 mod script;
 mod stage;

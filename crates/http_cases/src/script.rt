@@ -9,12 +9,14 @@
 //! | `answer WORD` | how calls in form are answered from here on: `accepted`, `refused`, `disk`, `memory` |
 //! | `fail N`, `limit N` | the next link's read N, from 0, fails; it takes N bytes |
 //! | `play`, `play N ..`, `play each` | serves the link in one piece, and again in pieces of N bytes, and as N bytes and then all the rest; with `each` so for every number of bytes up to its length; prints what it was answered, and where that differs by the pieces |
+//! | `reads N ..` | serves the link in pieces of N bytes; prints how many bytes had come, and how many were sent, before each read |
 //! | `count` | serves the link, each request by one fixed answer, and prints how it ended and how many bytes it took |
 //! | `link N` | lets the link be the next one of the door, in pieces of N bytes |
 //! | `peers LINKS` | serves so many links of a door over the loopback device, at which a peer for each `link` stands; one without bytes says nothing |
 //! | `door LINKS N` | serves so many links of the door, whose call N of `next` fails, from 1 |
 
 use crate::clerk::Verdict;
+use crate::noted::Passed;
 use crate::peers::see_peers;
 use crate::stage::{Played, Stage};
 use cf_http::{DoorEnd, LinkEnd};
@@ -129,6 +131,25 @@ fn see_link(rt: &impl Print, stage: &Stage, words: &str) -> io::Result<()> {
     Ok(())
 }
 
+/// Prints what had passed before each read of a link.
+fn print_reads(rt: &impl Print, piece: usize, notes: &[Passed]) -> io::Result<()> {
+    println!(rt; "= in pieces of {piece}")?;
+    for Passed { came, sent } in notes {
+        println!(rt; "{came} came, {sent} sent")?;
+    }
+    Ok(())
+}
+
+/// Serves the link in pieces by the words, and prints what had passed before each read.
+fn see_reads(rt: &impl Print, stage: &Stage, words: &str) -> io::Result<()> {
+    for word in words.split_whitespace() {
+        let piece = number(word) as usize;
+        let notes = stage.serve_noted(piece)?;
+        print_reads(rt, piece, notes.as_slice())?;
+    }
+    Ok(())
+}
+
 fn see_count(rt: &impl Print, stage: &Stage) -> io::Result<()> {
     let (how, sent) = stage.serve_fixed()?;
     let end = end_name(how);
@@ -198,6 +219,11 @@ pub fn play(rt: &HostRuntime, stage: &mut Stage, line: &str) -> io::Result<()> {
         "#" => println!(rt; "{line}"),
         "play" => {
             see_link(rt, stage, rest)?;
+            stage.clear();
+            Ok(())
+        }
+        "reads" => {
+            see_reads(rt, stage, rest)?;
             stage.clear();
             Ok(())
         }

@@ -2,6 +2,7 @@
 
 use crate::clerk::{Clerk, FixedAnswer, Verdict};
 use crate::cut::CutLink;
+use crate::noted::{NotedLink, Passed};
 use cf_http::{DoorEnd, LinkEnd, serve_door, serve_link};
 use cf_links::{Coming, MemDoor, MemLink};
 use std::alloc::{AllocError, Global};
@@ -81,6 +82,16 @@ impl Stage {
         let sent = Vec::from_slice(self.alloc, link.link.sent())?;
         let asked = clerk.asked;
         Ok(Played { sent, how, asked })
+    }
+
+    /// Serves a link that gives the text in pieces of at most so many bytes: what had passed before each of its reads.
+    pub fn serve_noted(&self, piece: usize) -> Result<Vec<Passed>, AllocError> {
+        let mut link = NotedLink {
+            link: self.link(piece)?,
+            notes: Vec::new(self.alloc),
+        };
+        serve_link(self.alloc, &mut link, &mut self.clerk());
+        Ok(link.notes)
     }
 
     /// Serves the text whole, each request by one answer: how the link ended, and how many bytes it took.

@@ -5,6 +5,14 @@ use cf_links::{Coming, MemDoor, MemLink};
 use std::alloc::{AllocError, Global};
 use std::{io, mem};
 
+/// A request with a call.
+pub fn post_text(alloc: Global, call: &str) -> Result<String, AllocError> {
+    format!(in alloc;
+        "POST /calls HTTP/1.1\r\nHost: a\r\nContent-Length: {}\r\n\r\n{call}",
+        call.len()
+    )
+}
+
 /// What comes at a door of the next run.
 #[derive(Drop)]
 pub struct Visits {
@@ -68,12 +76,8 @@ impl Doors {
 
     /// A request with a call.
     pub fn add_post(&mut self, call: &str) -> Result<(), AllocError> {
-        let head = format!(in self.alloc;
-            "POST /calls HTTP/1.1\r\nHost: a\r\nContent-Length: {}\r\n\r\n",
-            call.len()
-        )?;
-        self.add_bytes(head.as_bytes())?;
-        self.add_bytes(call.as_bytes())
+        let text = post_text(self.alloc, call)?;
+        self.add_bytes(text.as_bytes())
     }
 
     /// The doors, which are told no more.
@@ -97,14 +101,19 @@ fn show_answer(rt: &impl Print, answer: &str) -> io::Result<()> {
     Ok(())
 }
 
-/// Prints what was said on a link.
-fn show_link(rt: &impl Print, link: &MemLink) -> io::Result<()> {
-    println!(rt; "  link, {} bytes came", link.received())?;
-    let said = str::from_utf8(link.sent()).unwrap_or("no text");
+/// Prints the answers that were sent on a link.
+pub fn show_answers(rt: &impl Print, sent: &[u8]) -> io::Result<()> {
+    let said = str::from_utf8(sent).unwrap_or("no text");
     for answer in said.split("HTTP/1.1 ").skip(1) {
         show_answer(rt, answer)?;
     }
     Ok(())
+}
+
+/// Prints what was said on a link.
+fn show_link(rt: &impl Print, link: &MemLink) -> io::Result<()> {
+    println!(rt; "  link, {} bytes came", link.received())?;
+    show_answers(rt, link.sent())
 }
 
 /// Prints what was said on the links that each door finished.

@@ -15,7 +15,7 @@
 //! | `mixed N` | plays them so many times, and prints what is the same whoever comes first: the replies without their places, then the places, both sorted |
 //! | `time`, `time desk`, `time read` | plays them, has a desk take their calls one after another, or reads their calls alone, and prints how long that took |
 
-mod board;
+pub mod board;
 mod caller;
 mod hall;
 mod journal;

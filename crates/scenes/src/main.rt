@@ -15,6 +15,8 @@
 //! | `link`, `link N` | a link more at that door, which takes N bytes |
 //! | `get TARGET`, `post CALL` | a request more on that link |
 //! | `run WORD ..` | a run of these words: prints what was said at its doors, what it says, how it ended, and the length of the journal |
+//! | `seat`, `wait N`, `ask CALL` | a door more for the next meeting, with one link; a request more on it, which comes once N requests were answered at all doors |
+//! | `meet` | a run of `serve` at these doors: prints what was said there, how many links gave up waiting, and the same as `run` |
 //! | `calls` | prints how many calls the last run made of its disk |
 //! | `empty`, `cut N`, `set AT BYTE`, `add BYTE ..` | changes what the disk holds |
 //! | `keep`, `back`, `same` | remembers it, puts it back, prints whether it is the same |
@@ -28,6 +30,7 @@ mod cuts;
 mod doors;
 mod halls;
 mod images;
+mod meeting;
 mod play;
 mod stage;
 mod status;

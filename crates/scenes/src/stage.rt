@@ -1,8 +1,10 @@
 //! A disk in memory between runs, and what the next run is given.
 
 use crate::doors::Doors;
+use crate::meeting::Meeting;
 use cf_base::{MemSink, MemSource};
 use cf_disk::MemDisk;
+use cf_http::Door;
 use cf_links::MemDoor;
 use cf_runs::{Ran, Status};
 use cf_top::{run, run_desk};
@@ -34,6 +36,8 @@ pub struct Stage {
     pub limit: usize,
     /// What comes at the doors of the next run.
     pub doors: Doors,
+    /// What comes at the doors of the next meeting.
+    pub meeting: Meeting,
     /// What the disk held before the last run.
     pub before: Vec<u8>,
     /// The disk of the last run.
@@ -107,6 +111,7 @@ impl Stage {
             stop: 0,
             limit: usize::MAX,
             doors: Doors::new(alloc),
+            meeting: Meeting::new(alloc),
             before: Vec::new(alloc),
             last: None,
         }
@@ -127,12 +132,15 @@ impl Stage {
     }
 
     /// A run of these words at these doors, with what was prepared.
-    fn ran<R: Threads + Wait + Sync>(
+    fn ran<R: Threads + Wait + Sync, D: Door + Drop + Send>(
         &self,
         rt: &R,
         words: &str,
-        doors: &mut Vec<MemDoor>,
-    ) -> Result<Left, AllocError> {
+        doors: &mut Vec<D>,
+    ) -> Result<Left, AllocError>
+    where
+        D::Link: Send,
+    {
         let (fails, stop) = (self.fails.as_slice(), self.stop);
         let disk = disk_with(self.alloc, self.bytes.as_slice(), fails, stop)?;
         let words = words_of(self.alloc, words)?;
@@ -165,6 +173,21 @@ impl Stage {
         Ok(())
     }
 
+    /// Runs these words at these doors: how it ended, and what it printed.
+    pub fn run_at<R: Threads + Wait + Sync, D: Door + Drop + Send>(
+        &mut self,
+        rt: &R,
+        words: &str,
+        doors: &mut Vec<D>,
+    ) -> Result<(Status, MemSink), AllocError>
+    where
+        D::Link: Send,
+    {
+        let Left { status, out, disk } = self.ran(rt, words, doors)?;
+        self.keep_left(disk)?;
+        Ok((status, out))
+    }
+
     /// Runs these words: how it ended, what it printed, and the doors.
     pub fn run_words<R: Threads + Wait + Sync>(
         &mut self,
@@ -172,8 +195,7 @@ impl Stage {
         words: &str,
     ) -> Result<(Status, MemSink, Vec<MemDoor>), AllocError> {
         let mut doors = self.doors.take()?;
-        let Left { status, out, disk } = self.ran(rt, words, &mut doors)?;
-        self.keep_left(disk)?;
+        let (status, out) = self.run_at(rt, words, &mut doors)?;
         Ok((status, out, doors))
     }
 

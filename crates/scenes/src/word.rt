@@ -17,6 +17,10 @@ pub enum Word<'a> {
     Link(usize),
     Get(&'a str),
     Post(&'a str),
+    Seat,
+    Wait(u64),
+    Ask(&'a str),
+    Meet,
     Run(&'a str),
     Calls,
     Empty,
@@ -79,6 +83,17 @@ fn door_word<'a>(verb: &str, rest: &'a str) -> Word<'a> {
         "link" => Word::Link(count_or_all(rest)),
         "get" => Word::Get(rest),
         "post" => Word::Post(rest),
+        _ => meeting_word(verb, rest),
+    }
+}
+
+/// A word of a meeting.
+fn meeting_word<'a>(verb: &str, rest: &'a str) -> Word<'a> {
+    match verb {
+        "seat" => Word::Seat,
+        "wait" => Word::Wait(number(rest)),
+        "ask" => Word::Ask(rest),
+        "meet" => Word::Meet,
         _ => disk_word(verb, rest),
     }
 }
