@@ -1,6 +1,6 @@
 -- The rules on short histories, worked by hand: what the definitions say of each is computed by the checker. So a slip that a definition and its
 -- code made alike is seen here.
-use Rattle.std.specs.Prelude.{◌≡◌, ℕ, Bool, false, List, [], ◌∷◌, ◌++◌, Option, Some, None, map, ℤ, pos, negsuc, codes, take}
+use Rattle.std.specs.Prelude.{◌≡◌, ℕ, false, List, [], ◌∷◌, ◌++◌, Option, Some, None, map, ℤ, pos, negsuc, codes, take}
 use Rattle.cf_base.specs.declared.calendar.Day.{Day}
 use Rattle.cf_base.specs.declared.statement.Kind.TheVariants as statement
 use Rattle.cf_calls.specs.declared.acts.Act.{Act}
@@ -13,7 +13,6 @@ use Rattle.cf_calls.specs.declared.call.Change.{Change}
 use Rattle.cf_calls.specs.declared.entry.Entry.{Entry}
 use Rattle.cf_calls.specs.declared.items.Charge.{Charge}
 use Rattle.cf_calls.specs.declared.items.Charge.TheVariants.{Direct, OnOrder}
-use Rattle.cf_calls.specs.declared.items.Liquidation.{Liquidation}
 use Rattle.cf_calls.specs.declared.items.Liquidation.TheVariants.{Lesser, Final}
 use Rattle.cf_calls.specs.declared.names.NameKind.TheVariants as kind
 use Rattle.cf_calls.specs.declared.refusal.Refusal.{Refusal}
@@ -40,7 +39,7 @@ use Rattle.cf_model.specs.Leave.{leave_of}
 use Rattle.cf_model.specs.LineNumbers.{numbers, room}
 use Rattle.cf_model.specs.OrderItems.{open_of, state_of}
 use Rattle.cf_model.specs.RegisterRules.{debt_refusal}
-use Rattle.cf_model.specs.Registers.{Registers, registers_of}
+use Rattle.cf_model.specs.Registers.{registers_of}
 use Rattle.cf_model.specs.Report.{fund_balance, report_rows}
 use Rattle.cf_model.specs.Results.{entry_with}
 use Rattle.cf_model.specs.Rules.{exceeds_at}
