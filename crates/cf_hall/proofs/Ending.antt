@@ -4,7 +4,7 @@ use Rattle.std.proofs.lemmas.List.Elements.{All-cons, All-head, All-tail, All-ma
 use Rattle.cf_turns.specs.Lists.{TaggedEntry, count_of, places_of}
 use Rattle.cf_turns.specs.States.{PassState, ReceiptsState}
 use Rattle.cf_turns.proofs.Numbers.{once_more}
-use Rattle.cf_names.specs.Closing.{AreApart, AreReceiptsOf, Closes, RoseBy, accepted_of, faults_in, numbers_of, receipts_of}
+use Rattle.cf_names.specs.Closing.{AreApart, AreReceiptsOf, Closes, RoseBy, accepted_of, failed_calls, faults_in, numbers_of, receipts_of}
 use Rattle.cf_hall.proofs.Counting.{places_many, each_once}
 
 map_push : {A B : Type 0} (f : A → B) (xs : List A) (x : A) → map f (xs ++ x ∷ []) ≡ map f xs ++ f x ∷ []
@@ -34,6 +34,17 @@ faults_push (q ∷ rs) r = omega (arith, faults_push rs r)
 pub faulted_on : (first now new : ℕ) (xs : List PassState) (p : PassState) → first + faults_in (map receipts_of xs) ≤ now → now + p.faults ≤ new → first + faults_in (map receipts_of (xs ++ p ∷ [])) ≤ new
 faulted_on first now new xs p is more =
     omega (arith, is, more, faults_push (map receipts_of xs) (receipts_of p), ap faults_in (map_push receipts_of xs p))
+
+failed_push : (ps : List PassState) (p : PassState) → length (failed_calls (ps ++ p ∷ [])) ≡ length (failed_calls ps) + length p.failed
+failed_push [] p = let here = length-append p.failed [] in omega (arith, here)
+failed_push (q ∷ ps) p =
+    let here = length-append q.failed (failed_calls (ps ++ p ∷ [])) in
+    let less = length-append q.failed (failed_calls ps) in
+    let rest = failed_push ps p in
+    omega (arith, here, less, rest)
+
+pub counted_on : (first now new : ℕ) (xs : List PassState) (p : PassState) → now ≡ first + length (failed_calls xs) → new ≡ now + length p.failed → new ≡ first + length (failed_calls (xs ++ p ∷ []))
+counted_on first now new xs p is more = omega (arith, is, more, failed_push xs p)
 
 -- a count that stood where no pass had a fault reply
 pub quiet_on : (first now new : ℕ) (xs : List PassState) (p : PassState) → (faults_in (map receipts_of xs) ≡ 0 → now ≡ first) → (p.faults ≡ 0 → new ≡ now)

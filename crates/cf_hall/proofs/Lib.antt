@@ -1,6 +1,7 @@
 pub mod Begun
 pub mod Counting
 pub mod Ending
+pub mod Failed
 pub mod Fronts
 pub mod Lasting
 pub mod Longer

@@ -17,10 +17,10 @@ use Rattle.cf_names.specs.Closing.{RoseBy}
 use Rattle.cf_names.specs.Lists.{entries_of}
 use Rattle.cf_names.specs.Telling.{IsAccepted, Reads, Tells}
 use Rattle.cf_names.proofs.Entries.{entries_length}
-use Rattle.cf_turns.specs.Lists.{TaggedEntry, longer}
+use Rattle.cf_turns.specs.Lists.{TaggedCall, TaggedEntry, longer}
 use Rattle.cf_turns.specs.States.{PassState}
 use Rattle.cf_turns.proofs.Beginnings.{IsPrefix-shorter}
-use Rattle.cf_hall.specs.Passes.{Sights, faults_by}
+use Rattle.cf_hall.specs.Passes.{Sights, failed_after, faults_by}
 use Rattle.cf_hall.specs.Recordings.{HasAsked, HasNoted}
 use Rattle.cf_hall.proofs.Longer.{longer_second}
 
@@ -44,6 +44,12 @@ pub risen_by : (s : DurableState) (c : Call) (given : Posted) (after : DurableSt
 risen_by s c given after n risen (Settles.replied body is) rose = omega (arith, rose)
 risen_by s c given after n risen Settles.memory rose = omega (arith, rose)
 risen_by s c given after n risen (Settles.failed _ fails) rose = omega (arith, rose, fails.rose)
+
+-- each fault reply is noted
+pub noted_by : (failed : List TaggedCall) (c : Call) (k : ℕ) (given : Posted) (n : ℕ) → n ≡ length failed → n + faults_by given ≡ length (failed_after failed c k given)
+noted_by failed c k (posted.Reply r) n is = omega (arith, is)
+noted_by failed c k posted.NoMemory n is = omega (arith, is)
+noted_by failed c k posted.Disk n is = omega (arith, is, length-append failed ((c, k) ∷ []))
 
 -- and where there was no fault reply it stands
 pub quiet_by : (s : DurableState) (c : Call) (given : Posted) (after : DurableState) (n risen : ℕ) → Settles s c given after → (n ≡ 0 → s.faults ≡ risen) → n + faults_by given ≡ 0 → after.faults ≡ risen
@@ -89,12 +95,12 @@ module _ (plan : Plan) (old now new : PassState) (list : List TaggedEntry) (c : 
   }
 
   -- it has seen the whole list
-  learned : new ≡ record now { seen = longer now.seen list } → new.seen ≡ list
-  learned is = ap (λ (p : PassState). p.seen) is ∙ ap (λ (xs : List TaggedEntry). longer xs list) seen_now ∙ longer_second old.seen list short
+  learned : new.seen ≡ longer now.seen list → new.seen ≡ list
+  learned is = is ∙ ap (λ (xs : List TaggedEntry). longer xs list) seen_now ∙ longer_second old.seen list short
 
-  pub told_kept : (given : Posted) → Said plan (entries_of list) c given (entries_of list) → IsLegal plan (entries_of list) → Sights now list given new → IsPrefix now.seen new.seen → Tells plan old new c given
+  pub told_kept : (given : Posted) → Said plan (entries_of list) c given (entries_of list) → IsLegal plan (entries_of list) → Sights now list c given new → IsPrefix now.seen new.seen → Tells plan old new c given
   told_kept (posted.Reply r) s legal is pre =
-      let seen = learned is in
+      let seen = learned (ap (λ (p : PassState). p.seen) is) in
       let entries : entries_of list ≡ entries_of new.seen = ap entries_of (sym seen) in
       let at : r.at ≡ length new.seen = s.1.1 ∙ entries_length list ∙ ap length (sym seen) in
       let last : new.last_read ≡ asked.read = ap (λ (p : PassState). p.last_read) is ∙ ap (λ (p : PassState). p.last_read) asked.now_is in (
@@ -104,6 +110,7 @@ module _ (plan : Plan) (old now new : PassState) (list : List TaggedEntry) (c : 
             at = at;
             fresh = omega (arith, last, asked.to, at, ap length seen);
             faults = ap (λ (p : PassState). p.faults) is ∙ ap (λ (p : PassState). p.faults) asked.now_is;
+            failed = ap (λ (p : PassState). p.failed) is ∙ ap (λ (p : PassState). p.failed) asked.now_is;
           },
           inr (record {
             body = subst (λ (h : List Entry). body_of plan h c ≡ r.body) entries s.0;
@@ -115,18 +122,25 @@ module _ (plan : Plan) (old now new : PassState) (list : List TaggedEntry) (c : 
   told_kept posted.NoMemory s legal is pre = (
     reads_of new (ap (λ (p : PassState). p.table) is) (ap (λ (p : PassState). p.number) is) (ap (λ (p : PassState). p.reads) is) pre,
     (
-      record { seen = ap (λ (p : PassState). p.seen) is ∙ seen_now; places = ap (λ (p : PassState). p.places) is ∙ ap (λ (p : PassState). p.places) asked.now_is },
+      record {
+        seen = ap (λ (p : PassState). p.seen) is ∙ seen_now;
+        places = ap (λ (p : PassState). p.places) is ∙ ap (λ (p : PassState). p.places) asked.now_is;
+        failed = ap (λ (p : PassState). p.failed) is ∙ ap (λ (p : PassState). p.failed) asked.now_is;
+      },
       ap (λ (p : PassState). p.faults) is ∙ ap (λ (p : PassState). p.faults) asked.now_is,
     ),
   )
-  told_kept posted.Disk s legal is pre = (
-    reads_of new (ap (λ (p : PassState). p.table) is) (ap (λ (p : PassState). p.number) is) (ap (λ (p : PassState). p.reads) is) pre,
-    (
-      record { seen = ap (λ (p : PassState). p.seen) is ∙ seen_now; places = ap (λ (p : PassState). p.places) is ∙ ap (λ (p : PassState). p.places) asked.now_is },
-      ap (λ (p : PassState). p.faults) is ∙ ap (λ (n : ℕ). min (n + 1) (2 ^ 64 - 1)) (ap (λ (p : PassState). p.faults) asked.now_is),
-      record { history = entries_of list; legal = legal; long = omega (arith, short, entries_length list); accepted = s },
-    ),
-  )
+  told_kept posted.Disk s legal is pre =
+      let entries : entries_of list ≡ entries_of new.seen = ap entries_of (sym (learned (ap (λ (p : PassState). p.seen) is))) in (
+        reads_of new (ap (λ (p : PassState). p.table) is) (ap (λ (p : PassState). p.number) is) (ap (λ (p : PassState). p.reads) is) pre,
+        record {
+          legal = subst (IsLegal plan) entries legal;
+          accepted = subst (λ (h : List Entry). IsAccepted plan h c) entries s;
+          places = ap (λ (p : PassState). p.places) is ∙ ap (λ (p : PassState). p.places) asked.now_is;
+          faults = ap (λ (p : PassState). p.faults) is ∙ ap (λ (n : ℕ). min (n + 1) (2 ^ 64 - 1)) (ap (λ (p : PassState). p.faults) asked.now_is);
+          failed = ap (λ (p : PassState). p.failed) is ∙ ap (λ (cs : List Call). cs ++ c ∷ []) (ap (λ (p : PassState). p.failed) asked.now_is);
+        },
+      )
 
   -- an entry was recorded for the pass
   pub told_added : (list' : List TaggedEntry) (e : Entry) (r : Reply) → list' ≡ list ++ (e, now.number) ∷ [] → Said plan (entries_of list) c (posted.Reply r) (entries_of list') → HasNoted now list' new →
@@ -147,6 +161,7 @@ module _ (plan : Plan) (old now new : PassState) (list : List TaggedEntry) (c : 
             at = at ∙ ap length (sym seen);
             fresh = omega (arith, last, asked.to, at, longer_by);
             faults = ap (λ (p : PassState). p.faults) is ∙ ap (λ (p : PassState). p.faults) asked.now_is;
+            failed = ap (λ (p : PassState). p.failed) is ∙ ap (λ (p : PassState). p.failed) asked.now_is;
           },
           inl (record {
             before = list;

@@ -7,7 +7,7 @@ use Rattle.cf_hall.specs.declared.opening.Blanks.{Blanks}
 
 -- the recorder of an empty list
 abbrev pub first_recorder : TableId → RecorderState
-first_recorder table = record { table = table; list = []; opened = 0; ended = []; floor = 0 }
+first_recorder table = record { table = table; list = []; opened = 0; ended = []; floor = 0; failed = [] }
 
 -- the name of a stripe's ledger, and its parts
 abbrev pub name_at : Blanks → ℕ → ℕ

@@ -1,10 +1,11 @@
 -- A pass of a hall, and what it sees after an answer.
-use Rattle.std.specs.Prelude.{◌≡◌, ℕ, ◌+◌, ◌^◌, ◌-◌, min, List, length}
+use Rattle.std.specs.Prelude.{◌≡◌, ℕ, ◌+◌, ◌^◌, ◌-◌, min, List, [], ◌∷◌, ◌++◌, length}
 use Rattle.atomic_table.specs.Seated.{TableId}
+use Rattle.cf_calls.specs.declared.call.Call.{Call}
 use Rattle.cf_calls.specs.declared.reply.Posted.{Posted}
 use Rattle.cf_calls.specs.declared.reply.Posted.TheVariants as posted
 use Rattle.cf_names.specs.Shares.{SharesState}
-use Rattle.cf_turns.specs.Lists.{TaggedEntry, longer}
+use Rattle.cf_turns.specs.Lists.{TaggedCall, TaggedEntry, longer}
 use Rattle.cf_turns.specs.States.{PassState}
 
 -- the pass is of this table, and its part of the ledgers counts its accepted calls and its fault replies
@@ -13,12 +14,18 @@ pub record IsCounted (table : TableId) (p : PassState) (s : SharesState) : Type 
   pub part : s.parts ≡ 1
   pub accepted : s.accepted ≡ length p.places
   pub faulted : p.faults ≡ min s.faulted (2 ^ 64 - 1)
+  pub failed : s.faulted ≡ length p.failed
 
--- after an answer that added nothing: the whole list, but after want of memory and a fault of the disk what it had seen
-abbrev pub Sights : PassState → List TaggedEntry → Posted → PassState → Type 0
-Sights old list (posted.Reply r) new = new ≡ record old { seen = longer old.seen list }
-Sights old list posted.NoMemory new = new ≡ old
-Sights old list posted.Disk new = new ≡ record old { faults = min (old.faults + 1) (2 ^ 64 - 1) }
+-- after an answer that added nothing: the whole list, but after want of memory what it had seen
+abbrev pub Sights : PassState → List TaggedEntry → Call → Posted → PassState → Type 0
+Sights old list c (posted.Reply r) new = new ≡ record old { seen = longer old.seen list }
+Sights old list c posted.NoMemory new = new ≡ old
+Sights old list c posted.Disk new = new ≡ record old { seen = longer old.seen list; faults = min (old.faults + 1) (2 ^ 64 - 1); failed = old.failed ++ c ∷ [] }
+
+-- the calls that were answered by a fault of the disk, after this answer to a call of the pass of this number
+abbrev pub failed_after : List TaggedCall → Call → ℕ → Posted → List TaggedCall
+failed_after failed c number posted.Disk = failed ++ (c, number) ∷ []
+failed_after failed c number _ = failed
 
 -- how many fault replies that is
 abbrev pub faults_by : Posted → ℕ

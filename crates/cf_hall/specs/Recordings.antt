@@ -15,11 +15,12 @@ pub record IsRecording (table : TableId) (plan : Plan) (recorder : RecorderState
   pub legal : IsLegal plan (entries_of recorder.list)
   pub counts : AreCounts plan recorder.list totals
 
--- the recorder is of the same table, and gave out and ended no pass
+-- the recorder is of the same table, gave out and ended no pass, and no call failed
 pub record SameRecorder (old new : RecorderState) : Type 0 where
   pub table : new.table ≡ old.table
   pub opened : new.opened ≡ old.opened
   pub ended : new.ended ≡ old.ended
+  pub failed : new.failed ≡ old.failed
 
 -- a pass has asked, and the whole list is no shorter than what it read
 pub record HasAsked (old now : PassState) (list : List TaggedEntry) : Type 0 where

@@ -17,7 +17,7 @@ ghost use Rattle.cf_names.specs.Lists.{entries_of};
 ghost use Rattle.cf_names.specs.Telling.{Tells};
 ghost use Rattle.cf_hall.specs.Endings.{HallEnds};
 ghost use Rattle.cf_hall.specs.HallState.{ListGrows, WasAdded};
-ghost use Rattle.cf_hall.specs.Passes.{Sights, faults_by};
+ghost use Rattle.cf_hall.specs.Passes.{Sights, failed_after, faults_by};
 ghost use Rattle.cf_hall.specs.Recordings.{HasNoted, SameRecorder};
 ghost use Rattle.cf_hall.specs.TakenState.{AllSeen};
 
@@ -36,7 +36,8 @@ use std::marker::Model;
 
 /// The history with its journal and disk, and all that counts it. Contracts see the archive and the recorder. Whatever a
 /// crash leaves of the disk recovers to the history, or to it and the entry in doubt, for that is the archive's promise; and
-/// what it left at each moment since the hall was opened, to a front of the history, or to that and one entry.
+/// what it left at each moment since the hall was opened, to a front of the history, or to that and one entry: one that was in
+/// doubt at opening, or that of a call which was answered by a fault of the disk.
 #[derive(Drop)]
 pub struct HallBook<N: City, D: Disk + Drop> {
     pub(crate) archive: Archive<D>,
@@ -54,25 +55,26 @@ impl<N: City, D: Disk + Drop> Model for HallBook<N, D> {
     ghost invariant = { λ b. IsHallBook D.tells D.moment D.was_image D.faults N.plan N.first N.doubt N.begun N.risen b.archive b.recording b.totals };
 }
 
-/// What the pass sees after an answer that added nothing. A fault reply is counted.
+/// What the pass sees after an answer that added nothing. A fault reply is noted and counted.
 fn see<N: City>(
     turns: &Turns,
     recording: &mut Recording<N>,
     totals: &mut Totals<N>,
     pass: &mut HallPass<N>,
+    call: &Call,
     answer: &Posted,
 )
     requires own { turns.now ≡ N.table }
-    ensures recorder { recording.new ≡ recording.old }
+    ensures recorder { recording.new ≡ record recording.old { failed = failed_after recording.old.failed call.now pass.old.number answer.now } }
     ensures totals { totals.new ≡ record totals.old { faulted = totals.old.faulted + faults_by answer.now } }
-    ensures pass { Sights pass.old recording.old.list answer.now pass.new }
+    ensures pass { Sights pass.old recording.old.list call.now answer.now pass.new }
     ensures seen { IsPrefix pass.old.seen pass.new.seen }
 {
     match answer {
         Posted::Reply(_) => recording.tell(turns, &mut pass.pass),
         Posted::NoMemory => {}
         Posted::Disk => {
-            pass.pass.fault();
+            recording.fail(turns, call, &mut pass.pass);
             totals.fault(&mut pass.shares);
         }
     }
@@ -115,7 +117,7 @@ impl<N: City, D: Disk + Drop> HallBook<N, D> {
         requires own { turns.now ≡ N.table }
         ensures table { result.table ≡ N.table }
         ensures seen { N.first ≤ length result.seen }
-        ensures fresh { (result.places ≡ []) × (result.faults ≡ 0) }
+        ensures fresh { (result.places ≡ []) × (result.faults ≡ 0) × (result.failed ≡ []) }
     {
         let mut pass = self.recording.open_pass(turns);
         self.recording.tell(turns, &mut pass);
@@ -152,7 +154,14 @@ impl<N: City, D: Disk + Drop> HallBook<N, D> {
         self.recording.catch_up(turns, taken, &mut pass.pass);
         match self.archive.settle(alloc, &mut taken.lines, call) {
             Settled::Kept(answer) => {
-                see(turns, &mut self.recording, &mut self.totals, pass, &answer);
+                see(
+                    turns,
+                    &mut self.recording,
+                    &mut self.totals,
+                    pass,
+                    call,
+                    &answer,
+                );
                 answer
             }
             Settled::Added(reply, owed) => {

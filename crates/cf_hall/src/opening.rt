@@ -101,7 +101,7 @@ pub(crate) fn open_ties<N: City>(
     requires own { (turns.now ≡ N.table) × (recorder.old.table ≡ N.table) }
     requires names { (k : ℕ) → k < 8 → name_at blanks k ≡ N.stripes k }
     requires parts { (k : ℕ) → k < 8 → part_at blanks k ≡ 1 }
-    ensures recorder { (recorder.new.table ≡ recorder.old.table) × (recorder.new.list ≡ recorder.old.list) × (recorder.new.ended ≡ recorder.old.ended) }
+    ensures recorder { (recorder.new.table ≡ recorder.old.table) × (recorder.new.list ≡ recorder.old.list) × (recorder.new.ended ≡ recorder.old.ended) × (recorder.new.failed ≡ recorder.old.failed) }
     ensures counts { (k : ℕ) → k < 8 → total_at result.0 k ≡ 0 }
     ensures ties { (k : ℕ) → k < 8 → HasSeen N.table [] (tie_at result.1 k) }
 {
@@ -151,7 +151,7 @@ fn record_one<N: City>(
     ensures totals { totals.new ≡ record totals.old { accepted = totals.old.accepted + 1 } }
     ensures places { pass.new.places ≡ pass.old.places ++ (length recorder.old.list + 1) ∷ [] }
     ensures seen { pass.new.seen ≡ pass.old.seen }
-    ensures faults { pass.new.faults ≡ pass.old.faults }
+    ensures faults { (pass.new.faults ≡ pass.old.faults) × (pass.new.failed ≡ pass.old.failed) }
 {
     recorder.record(turns, entry, &mut pass.pass);
     totals.accept(&mut pass.shares);
@@ -174,7 +174,7 @@ pub(crate) fn record_all<N: City>(
     ensures totals { totals.new ≡ record totals.old { accepted = totals.old.accepted + length entries.now } }
     ensures places { HasFirst (length entries.now) pass.new.places }
     ensures seen { pass.new.seen ≡ recorder.new.list }
-    ensures faults { pass.new.faults ≡ pass.old.faults }
+    ensures faults { (pass.new.faults ≡ pass.old.faults) × (pass.new.failed ≡ pass.old.failed) }
 {
     for entry in entries {
         record_one(entry, turns, recorder, totals, pass);

@@ -30,7 +30,7 @@ impl<N: City> Model for HallPass<N> {
 impl<N: City> HallPass<N> {
     pub(crate) fn new(pass: Pass, shares: Shares<N>) -> HallPass<N>
         requires own { pass.table ≡ N.table }
-        requires fresh { (pass.places ≡ []) × (pass.faults ≡ 0) }
+        requires fresh { (pass.places ≡ []) × (pass.faults ≡ 0) × (pass.failed ≡ []) }
         requires shares { shares ≡ record { parts = 1; accepted = 0; faulted = 0 } }
         ensures { result ≡ pass }
     {

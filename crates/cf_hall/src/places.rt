@@ -13,10 +13,27 @@ use cf_office::taken_stripes;
 use std::sync::{Condvar, Mutex, Wait};
 
 /// The place of a stripe, which is empty while a call has taken the stripe.
-#[derive(Drop)]
 struct Place<N: City, const K: usize> {
     stripe: Mutex<Option<Stripe<N, K>>>,
     given_back: Condvar,
+}
+
+/// Parts with what a place held for good.
+fn end<N: City, const K: usize>(stripe: Option<Stripe<N, K>>) {
+    if let Some(stripe) = stripe {
+        stripe.end();
+    }
+}
+
+/// A place goes with its stripe once no thread shares the hall.
+impl<N: City, const K: usize> Drop for Place<N, K> {
+    fn drop(self) {
+        let Place {
+            stripe,
+            given_back: _,
+        } = self;
+        end(stripe.into_inner());
+    }
 }
 
 impl<N: City, const K: usize> Place<N, K> {
@@ -46,10 +63,11 @@ impl<N: City, const K: usize> Place<N, K> {
         if wanted { Some(self.take(rt)) } else { None }
     }
 
-    /// Gives the stripe back, where it was taken.
+    /// Gives the stripe back, where it was taken. The place is empty then.
     fn give_back<R: Wait>(&self, rt: &R, stripe: Option<Stripe<N, K>>) {
         if let Some(stripe) = stripe {
-            *self.stripe.lock(rt) = Some(stripe);
+            let before = self.stripe.lock(rt).replace(stripe);
+            end(before);
             self.given_back.notify_one();
         }
     }
@@ -88,16 +106,25 @@ impl<N: City> Places<N> {
     pub(crate) fn new(stripes: Taken<N>) -> Places<N>
         requires { stripes.owed ≡ None }
     {
-        let stripes = stripes.into_stripes();
+        let Stripes {
+            first,
+            second,
+            third,
+            fourth,
+            fifth,
+            sixth,
+            seventh,
+            eighth,
+        } = stripes.into_stripes();
         Places {
-            first: Place::new(stripes.first),
-            second: Place::new(stripes.second),
-            third: Place::new(stripes.third),
-            fourth: Place::new(stripes.fourth),
-            fifth: Place::new(stripes.fifth),
-            sixth: Place::new(stripes.sixth),
-            seventh: Place::new(stripes.seventh),
-            eighth: Place::new(stripes.eighth),
+            first: Place::new(first),
+            second: Place::new(second),
+            third: Place::new(third),
+            fourth: Place::new(fourth),
+            fifth: Place::new(fifth),
+            sixth: Place::new(sixth),
+            seventh: Place::new(seventh),
+            eighth: Place::new(eighth),
         }
     }
 
@@ -131,14 +158,23 @@ impl<N: City> Places<N> {
     pub(crate) fn give_back<R: Wait>(&self, rt: &R, taken: Taken<N>)
         requires { taken.owed ≡ None }
     {
-        let stripes = taken.into_stripes();
-        self.first.give_back(rt, stripes.first);
-        self.second.give_back(rt, stripes.second);
-        self.third.give_back(rt, stripes.third);
-        self.fourth.give_back(rt, stripes.fourth);
-        self.fifth.give_back(rt, stripes.fifth);
-        self.sixth.give_back(rt, stripes.sixth);
-        self.seventh.give_back(rt, stripes.seventh);
-        self.eighth.give_back(rt, stripes.eighth);
+        let Stripes {
+            first,
+            second,
+            third,
+            fourth,
+            fifth,
+            sixth,
+            seventh,
+            eighth,
+        } = taken.into_stripes();
+        self.first.give_back(rt, first);
+        self.second.give_back(rt, second);
+        self.third.give_back(rt, third);
+        self.fourth.give_back(rt, fourth);
+        self.fifth.give_back(rt, fifth);
+        self.sixth.give_back(rt, sixth);
+        self.seventh.give_back(rt, seventh);
+        self.eighth.give_back(rt, eighth);
     }
 }

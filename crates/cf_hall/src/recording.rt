@@ -1,6 +1,6 @@
 //! Recording entries: the one list of the hall, with the counts of its entries by stripe.
 
-ghost use Rattle.std.specs.Prelude.{◌≡◌, ◌+◌, ◌<◌, ℕ, if◌then◌else◌, ◌∷◌, ◌++◌, [], None, Some};
+ghost use Rattle.std.specs.Prelude.{◌≡◌, ◌+◌, ◌-◌, ◌^◌, ◌<◌, ℕ, min, if◌then◌else◌, ◌∷◌, ◌++◌, [], None, Some};
 ghost use mathlib.Core.List.{IsPrefix};
 ghost use Rattle.cf_budget.specs.Tables.{has_line};
 ghost use Rattle.cf_model.specs.Step.{IsLegal};
@@ -14,7 +14,7 @@ ghost use Rattle.cf_book.specs.Archives.{IsOwed};
 ghost use Rattle.cf_hall.specs.TakenState.{AllSeen};
 
 use crate::taken::Taken;
-use cf_calls::{Act, Entry};
+use cf_calls::{Act, Call, Entry};
 use cf_chart::Chart;
 use cf_names::{City, Counts, follow_all};
 use cf_office::{PreparedLines, touched_stripes};
@@ -71,7 +71,7 @@ impl<N: City> Recording<N> {
     pub(crate) fn open_pass(&mut self, turns: &Turns) -> Pass
         requires own { turns.now ≡ N.table }
         ensures table { result.table ≡ N.table }
-        ensures fresh { (result.seen ≡ []) × (result.places ≡ []) × (result.faults ≡ 0) }
+        ensures fresh { (result.seen ≡ []) × (result.places ≡ []) × (result.faults ≡ 0) × (result.failed ≡ []) }
         ensures recorder { self.new ≡ record self.old { opened = self.old.opened + 1 } }
     {
         self.recorder.open_pass(turns)
@@ -110,6 +110,21 @@ impl<N: City> Recording<N> {
     {
         let note = self.recorder.note(turns);
         pass.learn(turns, note);
+    }
+
+    /// Notes that a call of the pass was answered by a fault of the disk. The pass sees the whole list.
+    pub(crate) fn fail(&mut self, turns: &Turns, call: &Call, pass: &mut Pass)
+        requires own { (turns.now ≡ N.table) × (pass.old.table ≡ N.table) }
+        ensures recorder { self.new ≡ record self.old { failed = self.old.failed ++ (call.now, pass.old.number) ∷ [] } }
+        ensures pass { pass.new ≡ record pass.old {
+          seen = longer pass.old.seen self.old.list;
+          faults = min (pass.old.faults + 1) (2 ^ 64 - 1);
+          failed = pass.old.failed ++ call.now ∷ [];
+        } }
+        ensures seen { IsPrefix pass.old.seen pass.new.seen }
+    {
+        self.recorder.fail(turns, call, pass);
+        self.tell(turns, pass);
     }
 
     /// Records an accepted entry for a pass, which sees it, as do the stripes that were taken: they owe its changes.

@@ -49,7 +49,7 @@ fn open_pass<N: City, D: Disk + Drop>(book: &mut Mutex<HallBook<N, D>>, turns: &
     requires { turns.now ≡ N.table }
     ensures table { result.table ≡ N.table }
     ensures seen { N.first ≤ length result.seen }
-    ensures fresh { (result.places ≡ []) × (result.faults ≡ 0) }
+    ensures fresh { (result.places ≡ []) × (result.faults ≡ 0) × (result.failed ≡ []) }
 {
     book.get_mut().open_pass(turns)
 }
@@ -78,7 +78,7 @@ impl<N: City, D: Disk + Drop> Shared<N, D> {
         ensures shared { self.new ≡ self.old }
         ensures table { result.table ≡ N.table }
         ensures seen { N.first ≤ length result.seen }
-        ensures fresh { (result.places ≡ []) × (result.faults ≡ 0) }
+        ensures fresh { (result.places ≡ []) × (result.faults ≡ 0) × (result.failed ≡ []) }
     {
         open_pass(&mut self.book, &self.turns)
     }

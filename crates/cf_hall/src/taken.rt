@@ -13,7 +13,6 @@ use cf_turns::Tie;
 use std::marker::Model;
 
 /// The stripes that a call has taken from their places, as they lay there. Contracts see their ties.
-#[derive(Drop)]
 pub struct Stripes<N: City> {
     pub(crate) first: Option<Stripe<N, 0>>,
     pub(crate) second: Option<Stripe<N, 1>>,
@@ -34,8 +33,8 @@ impl<N: City> Model for Stripes<N> {
     ghost view = { λ s. s.first ∷ s.second ∷ s.third ∷ s.fourth ∷ s.fifth ∷ s.sixth ∷ s.seventh ∷ s.eighth ∷ [] };
 }
 
-/// The line numbers and the ties of the stripes that a call has taken, with the changes that its entry owes them.
-#[derive(Drop)]
+/// The line numbers and the ties of the stripes that a call has taken, with the changes that its entry owes them. They
+/// can't be let go: a call has to give them back.
 pub struct Taken<N: City> {
     pub(crate) lines: Lines,
     pub(crate) owed: Option<PreparedLines>,
@@ -92,15 +91,25 @@ impl<N: City> Taken<N> {
         ensures owes { result.owed ≡ None }
         ensures there { (k : ℕ) → k < 8 → has_stripe result.lines k ≡ is_some (tie_at stripes k) }
     {
+        let Stripes {
+            first,
+            second,
+            third,
+            fourth,
+            fifth,
+            sixth,
+            seventh,
+            eighth,
+        } = stripes;
         let mut lines = Lines::none();
-        let first = put(stripes.first, &mut lines);
-        let second = put(stripes.second, &mut lines);
-        let third = put(stripes.third, &mut lines);
-        let fourth = put(stripes.fourth, &mut lines);
-        let fifth = put(stripes.fifth, &mut lines);
-        let sixth = put(stripes.sixth, &mut lines);
-        let seventh = put(stripes.seventh, &mut lines);
-        let eighth = put(stripes.eighth, &mut lines);
+        let first = put(first, &mut lines);
+        let second = put(second, &mut lines);
+        let third = put(third, &mut lines);
+        let fourth = put(fourth, &mut lines);
+        let fifth = put(fifth, &mut lines);
+        let sixth = put(sixth, &mut lines);
+        let seventh = put(seventh, &mut lines);
+        let eighth = put(eighth, &mut lines);
         Taken {
             lines,
             owed: None,

@@ -1,5 +1,6 @@
 -- What is left of the passes of a hall that is closed.
-use Rattle.std.specs.Prelude.{◌≡◌, ℕ, ◌+◌, ◌≤◌, ◌<◌, ◌-◌, ◌^◌, min, List, [], ◌∷◌, length, map, Some, slice_get}
+use Rattle.std.specs.Prelude.{◌≡◌, ℕ, ◌+◌, ◌≤◌, ◌<◌, ◌-◌, ◌^◌, min, List, [], ◌∷◌, ◌++◌, length, map, Some, slice_get}
+use Rattle.cf_calls.specs.declared.call.Call.{Call}
 use Rattle.cf_turns.specs.Lists.{TaggedEntry, count_of, places_of}
 use Rattle.cf_turns.specs.States.{PassState, ReceiptsState}
 
@@ -8,6 +9,7 @@ pub record IsFreshPass (first : ℕ) (p : PassState) : Type 0 where
   pub seen : first ≤ length p.seen
   pub places : p.places ≡ []
   pub faults : p.faults ≡ 0
+  pub failed : p.failed ≡ []
 
 -- the receipts of a pass
 abbrev pub receipts_of : PassState → ReceiptsState
@@ -25,6 +27,11 @@ accepted_of (r ∷ rs) = length r.places + accepted_of rs
 abbrev pub faults_in : List ReceiptsState → ℕ
 faults_in [] = 0
 faults_in (r ∷ rs) = r.faults + faults_in rs
+
+-- the calls of these passes that were answered by a fault of the disk
+abbrev pub failed_calls : List PassState → List Call
+failed_calls [] = []
+failed_calls (p ∷ ps) = p.failed ++ failed_calls ps
 
 -- each has the places of the entries of the list that were recorded for its pass
 abbrev pub AreReceiptsOf : List TaggedEntry → List ReceiptsState → Type 0

@@ -1,23 +1,25 @@
 -- From how the desks were kept, and what closing the hall tells, to how the service ended.
-use Rattle.std.proofs.Common.{◌≡◌, ℕ, List, [], ◌∷◌, Bool, true, false, length, map, All, Option, sym, subst}
+use Rattle.std.proofs.Common.{◌≡◌, ℕ, List, [], ◌∷◌, Bool, true, false, length, map, All, IfSome, Option, sym, subst}
 use Rattle.std.specs.List.{list_any, sum_by}
 use Rattle.std.proofs.lemmas.List.Elements.{All-nil, All-cons, All-head, All-tail}
 use mathlib.Core.List.{IsPrefix}
 use Rattle.cf_book.specs.DurableState.{DurableBook}
+use Rattle.cf_calls.specs.declared.call.Call.{Call}
 use Rattle.cf_calls.specs.declared.entry.Entry.{Entry}
 use Rattle.cf_chart.specs.Plan.{Plan}
 use Rattle.cf_hall.specs.Endings.{HallEnds}
+use Rattle.cf_hall.specs.Fronts.{IsUnacknowledged, KeptSince}
 use Rattle.cf_http.specs.Doors.{Tells}
-use Rattle.cf_names.specs.Closing.{HasFirst, IsFreshPass}
+use Rattle.cf_names.specs.Closing.{HasFirst, IsFreshPass, failed_calls}
 use Rattle.cf_names.specs.Lists.{entries_of}
 use Rattle.cf_turns.specs.States.{PassState}
 use Rattle.cf_serve.specs.DesksRun.{DesksRan, EachKept}
 use Rattle.cf_serve.specs.declared.end.ServeEnd.{ServeEnd}
 use Rattle.cf_serve.specs.HallServes.{DiskTells, HallRan, Serves, end_by}
 use Rattle.cf_talk.specs.Desks.{DeskState, end_links, is_fault}
-use Rattle.cf_talk.specs.ServeRuns.{DoorState, AllKept, door_of}
+use Rattle.cf_talk.specs.ServeRuns.{DoorState, AllKept, door_of, failed_said}
 use Rattle.cf_talk.proofs.ServeEnding.{all_quiet, some_rose, given_is}
-use Rattle.cf_talk.proofs.ServeRunning.{all_kept, serve_none, serve_ran}
+use Rattle.cf_talk.proofs.ServeRunning.{all_kept, serve_failed, serve_none, serve_ran}
 
 all_unmapped : {X Y : Type 0} (P : X → Type 0) (f : Y → X) (ys : List Y) → All P (map f ys) → All (λ y. P (f y)) ys
 all_unmapped P f [] h = All-nil (λ y. P (f y))
@@ -38,6 +40,10 @@ module _ {D L : Type 0} (device : DiskTells D) (tells : Tells L) (known : Bool) 
     all : AllKept tells known book.plan (length book.entries) ends.list links before after
     all = all_kept tells known book.plan (length book.entries) ends.list links before after same fresh each (all_unmapped (λ (p : PassState). IsPrefix p.seen ends.list) (λ (d : DeskState L). d.pass) after ends.seen)
 
+    failed : failed_calls (map (λ (d : DeskState L). d.pass) after) ≡ failed_said (serve_ran tells known book.plan book.entries ends.list links before after kept (device.faults book.disk) (device.faults disk) all seen has
+        ends.kept_seen ends.closes ends.sound ends.faulted ends.quiet).doors.talks
+    failed = serve_failed tells known book.plan book.entries ends.list links before after kept (device.faults book.disk) (device.faults disk) all seen has ends.kept_seen ends.closes ends.sound ends.faulted ends.quiet
+
     ran : HallRan device tells known links book disk (map door_of before) (map door_of after) (sum_by (λ (d : DeskState L). end_links d.end) after)
     ran = record {
       last = entries_of ends.list;
@@ -45,7 +51,8 @@ module _ {D L : Type 0} (device : DiskTells D) (tells : Tells L) (known : Bool) 
       kept = record { doubt = ends.doubt; images = ends.images; doubt_sound = ends.doubt_sound };
       clear = λ none. ends.clear (serve_none tells known book.plan book.entries ends.list links before after kept (device.faults book.disk) (device.faults disk) all seen has ends.kept_seen ends.closes
           ends.sound ends.faulted ends.quiet none);
-      any_moment = ends.any_moment;
+      unacknowledged = subst (λ (cs : List Call). IfSome ends.doubt (IsUnacknowledged book.plan book.doubt cs (entries_of ends.list))) failed ends.unacknowledged;
+      any_moment = λ t. subst (λ (cs : List Call). KeptSince device.moment device.was_image book.plan (length book.entries) book.doubt cs (entries_of ends.list) (device.moment book.disk) disk) failed (ends.any_moment t);
       given_is = sym (given_is tells known book.plan (length book.entries) ends.list links before after all);
     }
 

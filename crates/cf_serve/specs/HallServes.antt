@@ -4,13 +4,13 @@ use Rattle.cf_book.specs.Books.{RecoversNear}
 use Rattle.cf_book.specs.DurableState.{DurableBook}
 use Rattle.cf_calls.specs.declared.entry.Entry.{Entry}
 use Rattle.cf_chart.specs.Plan.{Plan}
-use Rattle.cf_hall.specs.Fronts.{KeptSince}
+use Rattle.cf_hall.specs.Fronts.{IsUnacknowledged, KeptSince}
 use Rattle.cf_http.specs.Doors.{Tells}
 use Rattle.cf_model.specs.State.{IsSoundState}
 use Rattle.cf_serve.specs.declared.end.ServeEnd.{ServeEnd}
 use Rattle.cf_serve.specs.declared.end.ServeEnd.TheVariants.{Served, DoorFailed, NoMemory}
 use Rattle.cf_talk.specs.ServeEnds.{AllQuiet, SomeRose, links_given}
-use Rattle.cf_talk.specs.ServeRuns.{DoorState, ServeRan, faults_said}
+use Rattle.cf_talk.specs.ServeRuns.{DoorState, ServeRan, failed_said, faults_said}
 
 -- what a disk tells
 pub record DiskTells (D : Type 0) : Type 1 where
@@ -28,13 +28,15 @@ pub record IsKeptOn {D : Type 0} (device : DiskTells D) (plan : Plan) (history :
 
 -- The doors were served from the book's history to the last one, which the disk keeps, and gave so many links. Where no call was
 -- answered by a fault of the disk, nothing came in doubt. At each moment since then a crash left what recovers to a front of the
--- last history that has the book's, or to that and one entry.
+-- last history that has the book's, or to that and one entry. That, as the entry in doubt, was in doubt before, or is the entry
+-- of a call of the doors' talks that was answered by a fault of the disk, and that the step accepts there.
 pub record HallRan {D L : Type 0} (device : DiskTells D) (tells : Tells L) (known : Bool) (links : ℕ) (book : DurableBook D) (disk : D) (olds news : List (DoorState L)) (given : ℕ) : Type 0 where
   pub last : List Entry
   pub ran : ServeRan tells known book.plan book.entries last links (device.faults book.disk) (device.faults disk) olds news
   pub kept : IsKeptOn device book.plan last disk
   pub clear : faults_said ran.doors.talks ≡ 0 → (kept.doubt ≡ book.doubt) ⊎ (kept.doubt ≡ None)
-  pub any_moment : IsTrue device.tells → KeptSince device.moment device.was_image book.plan (length book.entries) last (device.moment book.disk) disk
+  pub unacknowledged : IfSome kept.doubt (IsUnacknowledged book.plan book.doubt (failed_said ran.doors.talks) last)
+  pub any_moment : IsTrue device.tells → KeptSince device.moment device.was_image book.plan (length book.entries) book.doubt (failed_said ran.doors.talks) last (device.moment book.disk) disk
   pub given_is : given ≡ links_given olds news
 
 -- The doors were served and none failed; or one failed, whose count rose; or there was no memory, and the doors and the disk

@@ -32,7 +32,7 @@ module _ (plan : Plan) (a m : PassState) (c : Call) (in_form : IsCallInForm c) w
   -- what isn't brief was no accepted change's, so it may be lost
   lost_given : (given : Posted) → Tells plan a m c given → (IsBrief given → ⊥) → Hears plan a c posted.NoMemory m
   lost_given (posted.Reply r) (reads, (replies, inl adds)) long = absurd (long (added_brief r adds))
-  lost_given (posted.Reply r) (reads, (replies, inr keeps)) long = lost (posted.Reply r) m (reads, (replies, inr keeps)) keeps.places replies.faults
+  lost_given (posted.Reply r) (reads, (replies, inr keeps)) long = lost (posted.Reply r) m (reads, (replies, inr keeps)) keeps.places replies.faults replies.failed
   lost_given posted.NoMemory t long = absurd (long tt)
   lost_given posted.Disk t long = absurd (long tt)
 

@@ -2,6 +2,7 @@
 use Rattle.std.proofs.Common.{◌≡◌, ℕ, zero, suc, ◌+◌, ◌-◌, ◌^◌, ◌<◌, min, List, [], ◌∷◌, ◌++◌, length, map, Bool, All, slice_index_or, refl, sym, ap, subst, ◌∙◌, arith}
 use Rattle.std.proofs.lemmas.List.Elements.{All-head, All-tail}
 use mathlib.Core.List.{IsPrefix}
+use Rattle.cf_calls.specs.declared.call.Call.{Call}
 use Rattle.cf_calls.specs.declared.entry.Entry.{Entry}
 use Rattle.cf_chart.specs.Plan.{Plan}
 use Rattle.cf_model.specs.State.{IsSoundState}
@@ -9,15 +10,15 @@ use Rattle.cf_http.specs.Doors.{Tells}
 use Rattle.cf_names.specs.Lists.{entries_of}
 use Rattle.cf_turns.specs.Lists.{TaggedEntry}
 use Rattle.cf_turns.specs.States.{PassState}
-use Rattle.cf_names.specs.Closing.{Closes, HasFirst, IsFreshPass, RoseBy, faults_in, receipts_of}
+use Rattle.cf_names.specs.Closing.{Closes, HasFirst, IsFreshPass, RoseBy, failed_calls, faults_in, receipts_of}
 use Rattle.cf_talk.specs.Desks.{DeskState, DeskKept}
 use Rattle.cf_talk.specs.Joins.{AreTalksOf, EachIsOne}
-use Rattle.cf_talk.specs.PassTalks.{Said, places_of, faults_of}
-use Rattle.cf_talk.specs.ServeRuns.{DoorRan, AllRan, DoorsRan, ServeRan, AllKept, door_of, faults_said}
+use Rattle.cf_talk.specs.PassTalks.{Said, places_of, failed_of, faults_of}
+use Rattle.cf_talk.specs.ServeRuns.{DoorRan, AllRan, DoorsRan, ServeRan, AllKept, door_of, failed_said, faults_said}
 use Rattle.cf_names.proofs.Entries.{entries_length}
 use Rattle.cf_talk.proofs.Entries.{entries_front}
 use Rattle.cf_talk.proofs.Joining.{each_is_one}
-use Rattle.cf_talk.proofs.Talking.{talk_over, talk_places, talk_faults}
+use Rattle.cf_talk.proofs.Talking.{talk_over, talk_places, talk_failed, talk_faults}
 
 module _ {L : Type 0} (tells : Tells L) (known : Bool) (plan : Plan) (first : ℕ) (list : List TaggedEntry) (links : ℕ) where
   -- what was said at each desk
@@ -98,6 +99,23 @@ module _ {L : Type 0} (tells : Tells L) (known : Bool) (plan : Plan) (first : �
   unfolding doors_ran
   none_said olds news kept all has closes none = omega (arith, none, faults_same olds news 0 all)
 
+  -- the passes' calls that were answered so are those of the talks
+  failed_same : (olds news : List (DeskState L)) → (all : AllKept tells known plan first list links olds news)
+      → failed_calls (map (λ (d : DeskState L). d.pass) news) ≡ failed_said (said_at olds news all)
+  unfolding said_at
+  failed_same [] [] all = refl
+  failed_same [] (n ∷ news) all = absurd all
+  failed_same (o ∷ olds) [] all = absurd all
+  failed_same (o ∷ olds) (n ∷ news) all =
+      let here : n.pass.failed ≡ failed_of all.1.kept.said = talk_failed plan o.pass n.pass all.1.kept.said all.1.kept.talked ∙ ap (λ (cs : List Call). cs ++ failed_of all.1.kept.said) all.0.failed in
+      (λ i. here i ++ failed_same olds news all.3 i)
+
+  pub failed_ran : (olds news : List (DeskState L)) (kept : PassState) (all : AllKept tells known plan first list links olds news) (has : HasFirst first kept.places)
+      (closes : Closes list (receipts_of kept ∷ map receipts_of (map (λ (d : DeskState L). d.pass) news)))
+      → failed_calls (map (λ (d : DeskState L). d.pass) news) ≡ failed_said (doors_ran olds news kept all has closes).talks
+  unfolding doors_ran
+  failed_ran olds news kept all has closes = failed_same olds news all
+
   -- ---- the history
 
   goes_on : (seen : List TaggedEntry) (first : List Entry) → entries_of seen ≡ first → IsPrefix seen list → (later : List Entry) × (entries_of list ≡ first ++ later)
@@ -143,3 +161,9 @@ module _ {L : Type 0} (tells : Tells L) (known : Bool) (plan : Plan) (opening : 
       → faults_said (serve_ran sound rose quiet).doors.talks ≡ 0 → faults_in (map receipts_of (map (λ (d : DeskState L). d.pass) news)) ≡ 0
   unfolding serve_ran
   serve_none sound rose quiet none = none_said tells known plan (length opening) list links olds news kept all has closes none
+
+  pub serve_failed : (sound : IsSoundState (record { plan = plan; entries = entries_of list })) (rose : RoseBy (faults_in (map receipts_of (map (λ (d : DeskState L). d.pass) news))) before now)
+      (quiet : faults_in (map receipts_of (map (λ (d : DeskState L). d.pass) news)) ≡ 0 → now ≡ before)
+      → failed_calls (map (λ (d : DeskState L). d.pass) news) ≡ failed_said (serve_ran sound rose quiet).doors.talks
+  unfolding serve_ran
+  serve_failed sound rose quiet = failed_ran tells known plan (length opening) list links olds news kept all has closes

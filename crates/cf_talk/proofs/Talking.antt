@@ -11,8 +11,8 @@ use Rattle.cf_names.specs.Lists.{entries_of}
 use Rattle.cf_turns.specs.Lists.{TaggedEntry}
 use Rattle.cf_turns.specs.States.{PassState}
 use Rattle.cf_turns.proofs.Beginnings.{IsPrefix-self, IsPrefix-trans, IsPrefix-length}
-use Rattle.cf_talk.specs.PassTalks.{Said, place_of, places_of, fault_of, faults_of, AddedAt, KeptAt, Says, added, kept, memory, disk, PassTalk, Hears, told, lost, Talked}
-use Rattle.cf_names.specs.Telling.{IsAcceptedFrom, Tells, Adds, Keeps, Reads, Replies}
+use Rattle.cf_talk.specs.PassTalks.{Said, place_of, places_of, fault_of, faults_of, failed_by, failed_of, AddedAt, KeptAt, FailedAt, Says, added, kept, memory, disk, PassTalk, Hears, told, lost, Talked}
+use Rattle.cf_names.specs.Telling.{Tells, Adds, Keeps, Fails, Reads, Replies}
 use Rattle.cf_talk.proofs.Accepting.{added_place, kept_place}
 use Rattle.cf_names.proofs.Entries.{entries_append, entries_length}
 use Rattle.cf_talk.proofs.Entries.{entries_front}
@@ -21,7 +21,7 @@ use Rattle.cf_talk.proofs.Entries.{entries_front}
 
 hears_seen : (plan : Plan) (a b : PassState) (c : Call) (given : Posted) → Hears plan a c given b → IsPrefix a.seen b.seen
 hears_seen plan a _ c _ (told given b t) = t.0.seen
-hears_seen plan a _ c _ (lost given b t p f) = t.0.seen
+hears_seen plan a _ c _ (lost given b t p f q) = t.0.seen
 
 talked_seen : (plan : Plan) (a b : PassState) (said : List Said) → Talked plan a said b → IsPrefix a.seen b.seen
 talked_seen plan a b [] t = subst (λ (p : PassState). IsPrefix a.seen p.seen) (sym t) (IsPrefix-self a.seen)
@@ -69,19 +69,25 @@ module _ (plan : Plan) (a m : PassState) (list : List TaggedEntry) (least : ℕ)
         within = omega (arith, replies.at);
       }
 
-  from_least : IsAcceptedFrom plan (length a.seen) c → IsAcceptedFrom plan least c
-  from_least f = record { history = f.history; legal = f.legal; long = omega (arith, low, f.long); accepted = f.accepted }
+  failed_over : Reads a m → Fails plan a m c → FailedAt plan (entries_of list) least c
+  failed_over reads fails = record {
+    front = entries_of m.seen;
+    is_front = entries_front m.seen list front;
+    legal = fails.legal;
+    long = omega (arith, low, IsPrefix-length a.seen m.seen reads.seen, entries_length m.seen);
+    accepted = fails.accepted;
+  }
 
   told_over : (given : Posted) → Tells plan a m c given → SaysOver plan (entries_of list) least c given (length m.seen)
   told_over (posted.Reply r) (reads, (replies, inl adds)) = added_over r reads replies adds
   told_over (posted.Reply r) (reads, (replies, inr keeps)) = kept_over r reads replies keeps
   told_over posted.NoMemory t = record { at = least; says = memory; within = omega (arith, low, IsPrefix-length a.seen m.seen t.0.seen) }
-  told_over posted.Disk t = record { at = least; says = disk (from_least t.1.2); within = omega (arith, low, IsPrefix-length a.seen m.seen t.0.seen) }
+  told_over posted.Disk t = record { at = least; says = disk (failed_over t.0 t.1); within = omega (arith, low, IsPrefix-length a.seen m.seen t.0.seen) }
 
 hears_over : (plan : Plan) (a m : PassState) (list : List TaggedEntry) (least : ℕ) (c : Call) (given : Posted) → Hears plan a c given m → IsPrefix m.seen list → least ≤ length a.seen
     → SaysOver plan (entries_of list) least c given (length m.seen)
 hears_over plan a _ list least c _ (told given m t) front low = told_over plan a m list least c front low given t
-hears_over plan a _ list least c _ (lost given m t p f) front low = record { at = least; says = memory; within = omega (arith, low, IsPrefix-length a.seen m.seen t.0.seen) }
+hears_over plan a _ list least c _ (lost given m t p f q) front low = record { at = least; says = memory; within = omega (arith, low, IsPrefix-length a.seen m.seen t.0.seen) }
 
 pub talk_over : (plan : Plan) (a b : PassState) (said : List Said) (list : List TaggedEntry) (least : ℕ) → Talked plan a said b → IsPrefix b.seen list → least ≤ length a.seen
     → PassTalk plan (entries_of list) least said
@@ -103,7 +109,7 @@ says_on : (plan : Plan) (h k : List Entry) (least : ℕ) (c : Call) (given : Pos
 says_on plan h k least c _ _ p (added r low a) = added r low (added_on plan h k c r p a)
 says_on plan h k least c _ _ p (kept r low a) = kept r low (kept_on plan h k c r p a)
 says_on plan h k least c _ _ p memory = memory
-says_on plan h k least c _ _ p (disk accepted) = disk accepted
+says_on plan h k least c _ _ p (disk f) = disk (record { front = f.front; is_front = IsPrefix-trans f.front h k f.is_front p; legal = f.legal; long = f.long; accepted = f.accepted })
 
 -- a talk over a history is one over every history that it begins
 pub talk_on : (plan : Plan) (h k : List Entry) (least : ℕ) (said : List Said) → IsPrefix h k → PassTalk plan h least said → PassTalk plan k least said
@@ -119,11 +125,11 @@ told_places plan a m c (posted.Reply r) (reads, (replies, inl adds)) =
 told_places plan a m c (posted.Reply r) (reads, (replies, inr keeps)) =
     keeps.places ∙ (sym (append-nil a.places) ∙ ap (λ (xs : List ℕ). a.places ++ xs) (sym (kept_place plan (entries_of m.seen) c r.at r.body keeps.body keeps.next)))
 told_places plan a m c posted.NoMemory t = t.1.0.places ∙ sym (append-nil a.places)
-told_places plan a m c posted.Disk t = t.1.0.places ∙ sym (append-nil a.places)
+told_places plan a m c posted.Disk t = t.1.places ∙ sym (append-nil a.places)
 
 hears_places : (plan : Plan) (a m : PassState) (c : Call) (given : Posted) → Hears plan a c given m → m.places ≡ a.places ++ place_of given
 hears_places plan a _ c _ (told given m t) = told_places plan a m c given t
-hears_places plan a _ c _ (lost given m t p f) = p ∙ sym (append-nil a.places)
+hears_places plan a _ c _ (lost given m t p f q) = p ∙ sym (append-nil a.places)
 
 pub talk_places : (plan : Plan) (a b : PassState) (said : List Said) → Talked plan a said b → b.places ≡ a.places ++ places_of said
 talk_places plan a b [] t = ap (λ (p : PassState). p.places) t ∙ sym (append-nil a.places)
@@ -135,14 +141,30 @@ talk_places plan a b (s ∷ said) t =
 told_faults : (plan : Plan) (a m : PassState) (c : Call) (given : Posted) → a.faults ≤ 2 ^ 64 - 1 → Tells plan a m c given → m.faults ≡ min (a.faults + fault_of given) (2 ^ 64 - 1)
 told_faults plan a m c (posted.Reply r) few t = omega (arith, few, t.1.0.faults)
 told_faults plan a m c posted.NoMemory few t = omega (arith, few, t.1.1)
-told_faults plan a m c posted.Disk few t = t.1.1
+told_faults plan a m c posted.Disk few t = t.1.faults
 
 hears_faults : (plan : Plan) (a m : PassState) (c : Call) (given : Posted) → a.faults ≤ 2 ^ 64 - 1 → Hears plan a c given m → m.faults ≡ min (a.faults + fault_of given) (2 ^ 64 - 1)
 hears_faults plan a _ c _ few (told given m t) = told_faults plan a m c given few t
-hears_faults plan a _ c _ few (lost given m t p f) = omega (arith, few, f)
+hears_faults plan a _ c _ few (lost given m t p f q) = omega (arith, few, f)
 
 pub talk_faults : (plan : Plan) (a b : PassState) (said : List Said) → a.faults ≤ 2 ^ 64 - 1 → Talked plan a said b → b.faults ≡ min (a.faults + faults_of said) (2 ^ 64 - 1)
 talk_faults plan a b [] few t = omega (arith, few, ap (λ (p : PassState). p.faults) t)
 talk_faults plan a b (s ∷ said) few t =
     let here = hears_faults plan a t.0 s.0 s.1 few t.1 in
     omega (arith, here, few, talk_faults plan t.0 b said (omega (arith, here)) t.2)
+
+-- ---- the calls that were answered so
+
+told_failed : (plan : Plan) (a m : PassState) (c : Call) (given : Posted) → Tells plan a m c given → m.failed ≡ a.failed ++ failed_by c given
+told_failed plan a m c (posted.Reply r) t = t.1.0.failed ∙ sym (append-nil a.failed)
+told_failed plan a m c posted.NoMemory t = t.1.0.failed ∙ sym (append-nil a.failed)
+told_failed plan a m c posted.Disk t = t.1.failed
+
+hears_failed : (plan : Plan) (a m : PassState) (c : Call) (given : Posted) → Hears plan a c given m → m.failed ≡ a.failed ++ failed_by c given
+hears_failed plan a _ c _ (told given m t) = told_failed plan a m c given t
+hears_failed plan a _ c _ (lost given m t p f q) = q ∙ sym (append-nil a.failed)
+
+pub talk_failed : (plan : Plan) (a b : PassState) (said : List Said) → Talked plan a said b → b.failed ≡ a.failed ++ failed_of said
+talk_failed plan a b [] t = ap (λ (p : PassState). p.failed) t ∙ sym (append-nil a.failed)
+talk_failed plan a b (s ∷ said) t =
+    talk_failed plan t.0 b said t.2 ∙ (ap (λ (cs : List Call). cs ++ failed_of said) (hears_failed plan a t.0 s.0 s.1 t.1) ∙ append_assoc a.failed (failed_by s.0 s.1) (failed_of said))

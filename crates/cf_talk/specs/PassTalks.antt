@@ -9,9 +9,9 @@ use Rattle.cf_calls.specs.declared.reply.Posted.{Posted}
 use Rattle.cf_calls.specs.declared.reply.Posted.TheVariants as posted
 use Rattle.cf_calls.specs.declared.reply.Reply.{Reply}
 use Rattle.cf_chart.specs.Plan.{Plan}
-use Rattle.cf_model.specs.Step.{body_of, next_of}
+use Rattle.cf_model.specs.Step.{IsLegal, body_of, next_of}
 use Rattle.cf_turns.specs.States.{PassState}
-use Rattle.cf_names.specs.Telling.{IsAcceptedFrom, Tells}
+use Rattle.cf_names.specs.Telling.{IsAccepted, Tells}
 
 -- a call, and what it was answered
 abbrev pub Said : Type 0
@@ -41,6 +41,15 @@ abbrev pub faults_of : List Said → ℕ
 faults_of [] = 0
 faults_of (s ∷ said) = fault_of s.1 + faults_of said
 
+-- and which calls these are
+abbrev pub failed_by : Call → Posted → List Call
+failed_by c posted.Disk = c ∷ []
+failed_by c _ = []
+
+abbrev pub failed_of : List Said → List Call
+failed_of [] = []
+failed_of (s ∷ said) = failed_by s.0 s.1 ++ failed_of said
+
 -- ---- the talk of a pass
 
 -- the step over the history before the reply's place adds the entry there, and gives the reply
@@ -60,13 +69,21 @@ pub record KeptAt (plan : Plan) (history : List Entry) (c : Call) (r : Reply) : 
   pub body : body_of plan front c ≡ r.body
   pub next : next_of plan front c ≡ front
 
+-- the call is a change that the rules accept over a front of the history, no shorter than so many entries
+pub record FailedAt (plan : Plan) (history : List Entry) (least : ℕ) (c : Call) : Type 0 where
+  pub front : List Entry
+  pub is_front : IsPrefix front history
+  pub legal : IsLegal plan front
+  pub long : least ≤ length front
+  pub accepted : IsAccepted plan front c
+
 -- What a call is answered, where the answers before it named no place above the first number, nor this one above the last. A
--- fault of the disk is answered to a change alone that the rules accept over a legal history no shorter than that.
+-- fault of the disk is answered to a change alone that the rules accept over a front of the history no shorter than that.
 pub data Says (plan : Plan) (history : List Entry) (least : ℕ) (c : Call) : Posted → ℕ → Type 0 where
   added : (r : Reply) → least < r.at → AddedAt plan history c r → Says plan history least c (posted.Reply r) r.at
   kept : (r : Reply) → least ≤ r.at → KeptAt plan history c r → Says plan history least c (posted.Reply r) r.at
   memory : Says plan history least c posted.NoMemory least
-  disk : IsAcceptedFrom plan least c → Says plan history least c posted.Disk least
+  disk : FailedAt plan history least c → Says plan history least c posted.Disk least
 
 -- the calls of a pass in their order, from a place on
 abbrev pub PassTalk : Plan → List Entry → ℕ → List Said → Type 0
@@ -78,7 +95,7 @@ PassTalk plan history least (s ∷ said) = (at : ℕ) × Says plan history least
 -- what a pass was told of a call, or of one whose answer could not be written
 pub data Hears (plan : Plan) (old : PassState) (c : Call) : Posted → PassState → Type 0 where
   told : (given : Posted) (new : PassState) → Tells plan old new c given → Hears plan old c given new
-  lost : (given : Posted) (new : PassState) → Tells plan old new c given → new.places ≡ old.places → new.faults ≡ old.faults → Hears plan old c posted.NoMemory new
+  lost : (given : Posted) (new : PassState) → Tells plan old new c given → new.places ≡ old.places → new.faults ≡ old.faults → new.failed ≡ old.failed → Hears plan old c posted.NoMemory new
 
 -- from one moment of a pass to another
 abbrev pub Talked : Plan → PassState → List Said → PassState → Type 0

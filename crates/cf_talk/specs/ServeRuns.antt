@@ -1,6 +1,7 @@
 -- What a run of `serve` says of its doors and of its history.
 use Rattle.std.specs.Prelude.{◌≡◌, ℕ, ◌+◌, List, [], ◌∷◌, ◌++◌, length, Bool, ⊤}
 use mathlib.Core.List.{IsPrefix}
+use Rattle.cf_calls.specs.declared.call.Call.{Call}
 use Rattle.cf_calls.specs.declared.entry.Entry.{Entry}
 use Rattle.cf_chart.specs.Plan.{Plan}
 use Rattle.cf_http.specs.declared.end.DoorEnd.{DoorEnd}
@@ -11,7 +12,7 @@ use Rattle.cf_talk.specs.Clerks.{Adds}
 use Rattle.cf_names.specs.Closing.{IsFreshPass, RoseBy}
 use Rattle.cf_talk.specs.Desks.{DeskState, DeskKept}
 use Rattle.cf_talk.specs.Joins.{EachIsOne}
-use Rattle.cf_talk.specs.PassTalks.{Said, PassTalk, faults_of}
+use Rattle.cf_talk.specs.PassTalks.{Said, PassTalk, failed_of, faults_of}
 
 -- what a door tells
 pub record DoorState (L : Type 0) : Type 0 where
@@ -43,6 +44,11 @@ AllRan tells known plan first last links _ _ _ = ⊥
 abbrev pub faults_said : List (List Said) → ℕ
 faults_said [] = 0
 faults_said (said ∷ talks) = faults_of said + faults_said talks
+
+-- and which calls these are
+abbrev pub failed_said : List (List Said) → List Call
+failed_said [] = []
+failed_said (said ∷ talks) = failed_of said ++ failed_said talks
 
 -- The doors that were kept: each new entry of the last history is exactly one accepted reply's, at one door.
 pub record DoorsRan {L : Type 0} (tells : Tells L) (known : Bool) (plan : Plan) (first : ℕ) (last : List Entry) (links : ℕ) (olds news : List (DoorState L)) : Type 0 where

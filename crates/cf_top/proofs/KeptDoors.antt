@@ -1,5 +1,5 @@
 -- A run of `serve` over the journal of a disk.
-use Rattle.std.proofs.Common.{◌≡◌, ⊎_elim, ℕ, ◌≤◌, List, [], ◌++◌, length, map, take, Option, Ok, refl, sym, subst, ap, ◌∙◌}
+use Rattle.std.proofs.Common.{◌≡◌, ⊎_elim, ℕ, ◌≤◌, List, [], ◌++◌, length, map, take, IfSome, Option, Ok, refl, sym, subst, ap, ◌∙◌}
 use Rattle.std.proofs.lemmas.List.{length-take-le}
 use Rattle.std.proofs.Math.Seq.{take-append_seam}
 use Rattle.cf_articulation.proofs.Articulated.{articulates_always}
@@ -8,17 +8,19 @@ use Rattle.cf_book.specs.DurableState.{DurableBook}
 use Rattle.cf_book.specs.Openings.{OpensBook}
 use Rattle.cf_book.specs.declared.refused.BookRefused.{BookRefused}
 use Rattle.cf_book.specs.declared.refused.BookRefused.TheVariants as refused
+use Rattle.cf_calls.specs.declared.entry.Entry.{Entry}
 use Rattle.cf_chart.specs.Reading.{chart_of}
 use Rattle.cf_closed.proofs.ClosedYears.{closed_years_always}
 use Rattle.cf_desk.specs.Sinks.{Wrote}
 use Rattle.cf_disk.specs.Moments.{AtEachMoment}
+use Rattle.cf_hall.specs.Fronts.{IsUnacknowledged, KeptSince}
 use Rattle.cf_http.specs.Links.{SentFront}
 use Rattle.cf_serve.specs.HallServes.{HallRan, Serves}
 use Rattle.cf_serve.specs.declared.end.ServeEnd.{ServeEnd}
 use Rattle.cf_serve.specs.declared.end.ServeEnd.TheVariants as end
 use Rattle.cf_talk.specs.ServeEnds.{served_text}
 use Rattle.cf_top.specs.Talks.{RoseBy}
-use Rattle.cf_talk.specs.ServeRuns.{DoorState, faults_said}
+use Rattle.cf_talk.specs.ServeRuns.{DoorState, failed_said, faults_said}
 use Rattle.cf_top.specs.declared.serve_command.Kept.{Kept}
 use Rattle.cf_top.specs.declared.serve_command.Kept.TheVariants as kept
 use Rattle.cf_runs.specs.declared.status.Status.{Status}
@@ -71,7 +73,8 @@ module _ {D R L : Type 0} (device : Device D) (kind : DoorKind R L) (links : ℕ
     images = h.kept.images;
     doubt_sound = h.kept.doubt_sound;
     clear = λ none. ⊎_elim (λ e. e ∙ opens.clear) (λ e. e) (h.clear none);
-    any_moment = h.any_moment;
+    unacknowledged = subst (λ (d : Option Entry). IfSome h.kept.doubt (IsUnacknowledged book.plan d (failed_said h.ran.doors.talks) h.last)) opens.clear h.unacknowledged;
+    any_moment = λ t. subst (λ (d : Option Entry). KeptSince device.moment device.was_image book.plan (length book.entries) d (failed_said h.ran.doors.talks) h.last (device.moment book.disk) new) opens.clear (h.any_moment t);
   }
 
   pub doors_kept : (book : DurableBook D) (bytes : List ℕ) (doors doors' : List R) (given : ℕ) (how : ServeEnd)

@@ -11,12 +11,12 @@ use Rattle.cf_chart.specs.Plan.{Plan}
 use Rattle.cf_closed.specs.ClosedYears.{ClosedYearsStay}
 use Rattle.cf_desk.specs.Sinks.{Wrote}
 use Rattle.cf_disk.specs.Moments.{AtEachMoment}
-use Rattle.cf_hall.specs.Fronts.{KeptSince}
+use Rattle.cf_hall.specs.Fronts.{IsUnacknowledged, KeptSince}
 use Rattle.cf_model.specs.State.{IsSoundState}
 use Rattle.cf_serve.specs.declared.end.ServeEnd.{ServeEnd}
 use Rattle.cf_serve.specs.declared.end.ServeEnd.TheVariants as end
 use Rattle.cf_talk.specs.ServeEnds.{AllQuiet, SomeRose, EndsWhole, EndsUnwritten, links_given, served_text}
-use Rattle.cf_talk.specs.ServeRuns.{DoorState, ServeRan, faults_said}
+use Rattle.cf_talk.specs.ServeRuns.{DoorState, ServeRan, failed_said, faults_said}
 use Rattle.cf_top.specs.declared.serve_command.Kept.{Kept}
 use Rattle.cf_top.specs.declared.serve_command.Kept.TheVariants as kept
 use Rattle.cf_runs.specs.declared.status.Status.{Status}
@@ -29,7 +29,8 @@ use Rattle.cf_runs.specs.Refused.{status_of_refused}
 -- no entry of it posts to a closed fiscal year, and its statements articulate. Whatever a crash leaves of the disk at the
 -- end recovers to it, or to it and the entry in doubt, with which it is sound too; nothing is in doubt where no call was answered
 -- by a fault of the disk. Until the journal was opened a crash left what it could have left before the run; at each moment from
--- then on, what recovers to a front of the last history that has the first one, or to that and one entry.
+-- then on, what recovers to a front of the last history that has the first one, or to that and one entry. That, as the entry in
+-- doubt, is the entry of a call of a door's talk that was answered by a fault of the disk, and that the step accepts there.
 pub record Served {D R L : Type 0} (device : Device D) (kind : DoorKind R L) (links : ℕ) (old new : D) (olds news : List (DoorState L)) : Type 0 where
   pub plan : Plan
   pub first : List Entry
@@ -44,7 +45,8 @@ pub record Served {D R L : Type 0} (device : Device D) (kind : DoorKind R L) (li
   pub images : IsTrue device.tells → (image : List ℕ) → device.is_image new image → RecoversNear plan last (λ e. doubt ≡ Some e) image
   pub doubt_sound : IfSome doubt (λ e. IsSoundState (record { plan = plan; entries = last ++ e ∷ [] }))
   pub clear : faults_said ran.doors.talks ≡ 0 → doubt ≡ None
-  pub any_moment : IsTrue device.tells → KeptSince device.moment device.was_image plan (length first) last (device.moment disk) new
+  pub unacknowledged : IfSome doubt (IsUnacknowledged plan None (failed_said ran.doors.talks) last)
+  pub any_moment : IsTrue device.tells → KeptSince device.moment device.was_image plan (length first) None (failed_said ran.doors.talks) last (device.moment disk) new
 
 -- The doors are as they were. A read of the disk gives what it gave, and at each moment of the run a crash left what it
 -- could have left before it.

@@ -6,14 +6,16 @@ use mathlib.Core.List.{IsPrefix}
 use lib.ListN.{get_elem?}
 use Rattle.atomic_table.specs.Table.{Allows, Splits, Joins, keeps}
 use Rattle.atomic_table.proofs.Lists.{at_set, set_again, set_else}
+use Rattle.cf_calls.specs.declared.call.Call.{Call}
 use Rattle.cf_calls.specs.declared.entry.Entry.{Entry}
 use Rattle.cf_turns.specs.declared.rule.View.{View}
-use Rattle.cf_turns.specs.Lists.{TaggedEntry, count_of, places_of, longer}
+use Rattle.cf_turns.specs.Lists.{TaggedCall, TaggedEntry, calls_of, count_of, places_of, longer}
 use Rattle.cf_turns.specs.Rule.{blank, first_view, Shared, IsRecorders, IsLive, Fits, AreGivenOut, HaveOwnNumbers, IsKept, Holds}
-use Rattle.cf_turns.specs.Steps.{Seated, without_number, view_of_number, with_number, Records, view_of_note, with_note, Learns, with_next_number, view_of_pass, view_of_receipts, with_pass, Ends, Asks, view_of_ask, with_ask, Hears}
+use Rattle.cf_turns.specs.Steps.{Seated, without_number, view_of_number, with_number, Records, Fails, view_of_note, with_note, Learns, with_next_number, view_of_pass, view_of_receipts, with_pass, Ends, Asks, view_of_ask, with_ask, Hears}
 use Rattle.cf_turns.proofs.Beginnings.{IsPrefix-self, IsPrefix-nil, IsPrefix-append, IsPrefix-length, begin_longer}
 use Rattle.cf_turns.proofs.Numbers.{count_of-other, once_more}
 use Rattle.cf_turns.proofs.Places.{places_of-other, places_of-own, length-places_of}
+use Rattle.cf_turns.proofs.Calls.{calls_of-other, calls_of-own}
 use Rattle.cf_turns.proofs.Views.{set_swap, false≢true, fits_plain, fits_blank, HasOwnNumber, HasNewNumber, kept_set, kept_snoc, own_number, no_number, kept_view}
 
 -- the word becomes f of what it was, and one seat's view changes
@@ -33,8 +35,8 @@ goes slots id me f then go s holds homes at small =
     (next.0, keeps, tt, there.0, there.1)
 
 -- the recorder's part of a view stands in another view of the same list and numbers
-as_recorder : (t : Shared) (id : ℕ) (v w : View) → w.list ≡ v.list → w.opened ≡ v.opened → w.ended ≡ v.ended → IsRecorders t id v → IsRecorders t id w
-as_recorder t id v w list opened ended r = record { seat_is = r.seat_is; list = list ∙ r.list; opened = opened ∙ r.opened; ended = ended ∙ r.ended }
+as_recorder : (t : Shared) (id : ℕ) (v w : View) → w.list ≡ v.list → w.opened ≡ v.opened → w.ended ≡ v.ended → w.failed ≡ v.failed → IsRecorders t id v → IsRecorders t id w
+as_recorder t id v w list opened ended failed r = record { seat_is = r.seat_is; list = list ∙ r.list; opened = opened ∙ r.opened; ended = ended ∙ r.ended; failed = failed ∙ r.failed }
 
 -- what stands behind the word once an entry was recorded for this number
 abbrev with_entry : Shared → Entry → ℕ → Shared
@@ -51,6 +53,7 @@ fits_more t e n j u fit other apart = record {
     given = (fit.number has).given;
     live = (fit.number has).live;
     places = (fit.number has).places ∙ sym (places_of-other u.number t.list e n (apart has));
+    failed = (fit.number has).failed;
   };
 }
 
@@ -58,7 +61,7 @@ fits_more t e n j u fit other apart = record {
 fits_recorded : (t : Shared) (e : Entry) (id : ℕ) (v : View) → Fits t id v → v.records ≡ true → v.has_number ≡ true
     → Fits (with_entry t e v.number) id (record v { list = v.list ++ (e, v.number) ∷ []; places = v.places ++ (length t.list + 1) ∷ [] })
 fits_recorded t e id v fit is has = record {
-  recorder = λ _. record { seat_is = mine.seat_is; list = list'; opened = mine.opened; ended = mine.ended };
+  recorder = λ _. record { seat_is = mine.seat_is; list = list'; opened = mine.opened; ended = mine.ended; failed = mine.failed };
   list = subst (λ l. IsPrefix l (t.list ++ more)) (sym list') (IsPrefix-self (t.list ++ more));
   joined = IsPrefix-append _ _ more fit.joined;
   floor = omega (arith, length-append t.list more, fit.floor);
@@ -66,6 +69,7 @@ fits_recorded t e id v fit is has = record {
     given = live.given;
     live = live.live;
     places = ap (λ l. l ++ (length t.list + 1) ∷ []) live.places ∙ sym (places_of-own v.number t.list e);
+    failed = live.failed;
   };
 }
   where
@@ -75,7 +79,7 @@ fits_recorded t e id v fit is has = record {
     mine : IsRecorders t id v
     mine = fit.recorder is
 
-    live : IsLive t v.number v.places
+    live : IsLive t v.number v.places v.own_failed
     live = fit.number has
 
     list' : v.list ++ more ≡ t.list ++ more
@@ -86,6 +90,7 @@ given_after t e n given numbers = record {
   once = numbers.once;
   ended = numbers.ended;
   recorded = λ m le. places_of-other m t.list e n (λ same. absurd (omega (arith, le, given, same))) ∙ numbers.recorded m le;
+  failed = numbers.failed;
 }
 
 -- record, while the recorder has the pass's number
@@ -119,6 +124,66 @@ pub records : (slots id : ℕ) (me : Seated) (e : Entry) (entries : List TaggedE
 records slots id me e entries one is has few =
     subst (λ es. Allows Holds slots id me 0 (λ n. (n + 1) % 2 ^ 64) (λ n w. Records es me n w)) (sym one) (records_one slots id me e is has few)
 
+-- what stands behind the word once a call of this number failed
+abbrev with_failed : Shared → Call → ℕ → Shared
+with_failed t c n = record t { failed = t.failed ++ (c, n) ∷ [] }
+
+given_after_fault : (t : Shared) (c : Call) (n : ℕ) → n < t.opened → AreGivenOut t → AreGivenOut (with_failed t c n)
+given_after_fault t c n given numbers = record {
+  once = numbers.once;
+  ended = numbers.ended;
+  recorded = numbers.recorded;
+  failed = λ m le. calls_of-other m t.failed c n (λ same. absurd (omega (arith, le, given, same))) ∙ numbers.failed m le;
+}
+
+-- the load of fail, while the recorder has the pass's number
+fails_one : (slots id : ℕ) (me : Seated) (c : Call) → me.0.records ≡ true → me.0.has_number ≡ true → Allows Holds slots id me 0 (λ n. n) (λ n w. Fails ((c, me.0.number) ∷ []) me n w)
+fails_one slots id me c is has = goes slots id me (λ n. n) (λ n w. Fails ((c, me.0.number) ∷ []) me n w) go
+  where
+    go : Goes id me.0 (λ n. n) (λ n w. Fails ((c, me.0.number) ∷ []) me n (w, me.1))
+    go t views kept at =
+        let v = me.0 in
+        let fit = kept.fits id v at in
+        let mine = fit.recorder is in
+        let live = fit.number has in
+        let t' = with_failed t c v.number in
+        let w : View = record v { failed = v.failed ++ (c, v.number) ∷ []; own_failed = v.own_failed ++ c ∷ [] } in
+        let others : (j : ℕ) (u : View) → j ≢ id → get_elem? views j ≡ some u → Fits t' j u = λ j u ne there.
+        let f = kept.fits j u there in record {
+          recorder = λ r. absurd (ne ((f.recorder r).seat_is ∙ sym mine.seat_is));
+          list = f.list;
+          joined = f.joined;
+          floor = f.floor;
+          number = λ n. record {
+            given = (f.number n).given;
+            live = (f.number n).live;
+            places = (f.number n).places;
+            failed = (f.number n).failed ∙ sym (calls_of-other u.number t.failed c v.number (λ same. ne (kept.apart j id u v there at n has (sym same))));
+          };
+        } in
+        let fit' : Fits t' id w = record {
+          recorder = λ _. record { seat_is = mine.seat_is; list = mine.list; opened = mine.opened; ended = mine.ended; failed = ap (λ l. l ++ (c, v.number) ∷ []) mine.failed };
+          list = fit.list;
+          joined = fit.joined;
+          floor = fit.floor;
+          number = λ _. record {
+            given = live.given;
+            live = live.live;
+            places = live.places;
+            failed = ap (λ l. l ++ c ∷ []) live.failed ∙ sym (calls_of-own v.number t.failed c);
+          };
+        } in (
+          w,
+          t',
+          refl,
+          kept_set t t' _ views id w kept others fit' (own_number t _ views id v w kept at (λ x. x) refl) (given_after_fault t c v.number live.given kept.numbers),
+          record { leaves = (refl, refl) },
+        )
+
+pub fails : (slots id : ℕ) (me : Seated) (c : Call) (calls : List TaggedCall) → calls ≡ (c, me.0.number) ∷ [] → me.0.records ≡ true → me.0.has_number ≡ true
+    → Allows Holds slots id me 0 (λ n. n) (λ n w. Fails calls me n w)
+fails slots id me c calls one is has = subst (λ cs. Allows Holds slots id me 0 (λ n. n) (λ n w. Fails cs me n w)) (sym one) (fails_one slots id me c is has)
+
 -- the load of learn
 pub learns : (slots id : ℕ) (me : Seated) → me.0.records ≡ false → Allows Holds slots id me 0 (λ n. n) (λ n w. Learns me n w)
 learns slots id me other = goes slots id me (λ n. n) (λ n w. Learns me n w) go
@@ -148,7 +213,7 @@ asks slots id me = goes slots id me (λ n. n) (λ n w. Asks me n w) go
         let fit = kept.fits id v at in
         let w : View = record v { floor = length t.list; reads = v.reads + 1; last_read = length t.list } in
         let fit' : Fits t id w = record {
-          recorder = λ e. as_recorder t id v w refl refl refl (fit.recorder e);
+          recorder = λ e. as_recorder t id v w refl refl refl refl (fit.recorder e);
           list = fit.list;
           joined = fit.joined;
           floor = omega arith;
@@ -176,6 +241,7 @@ given_after_end t n given live numbers = record {
   once = λ m. once_more m n t.ended live (numbers.once m);
   ended = λ m le. count_of-other m n t.ended (λ same. absurd (omega (arith, le, given, same))) ∙ numbers.ended m le;
   recorded = numbers.recorded;
+  failed = numbers.failed;
 }
 
 -- the load of end_pass
@@ -189,7 +255,7 @@ ends slots id me is has = goes slots id me (λ n. n) (λ n w. Ends me n w) go
         let mine = fit.recorder is in
         let live = fit.number has in
         let t' = with_ended t v.number in
-        let w : View = record v { joined = []; has_number = false; number = 0; places = []; ended = v.ended ++ v.number ∷ [] } in
+        let w : View = record v { joined = []; has_number = false; number = 0; places = []; own_failed = []; ended = v.ended ++ v.number ∷ [] } in
         let others : (j : ℕ) (u : View) → j ≢ id → get_elem? views j ≡ some u → Fits t' j u = λ j u ne there.
         let f = kept.fits j u there in record {
           recorder = λ r. absurd (ne ((f.recorder r).seat_is ∙ sym mine.seat_is));
@@ -200,10 +266,11 @@ ends slots id me is has = goes slots id me (λ n. n) (λ n w. Ends me n w) go
             given = (f.number n).given;
             live = count_of-other u.number v.number t.ended (λ same. ne (kept.apart j id u v there at n has (sym same))) ∙ (f.number n).live;
             places = (f.number n).places;
+            failed = (f.number n).failed;
           };
         } in
         let fit' : Fits t' id w = record {
-          recorder = λ _. record { seat_is = mine.seat_is; list = mine.list; opened = mine.opened; ended = ap (λ l. l ++ v.number ∷ []) mine.ended };
+          recorder = λ _. record { seat_is = mine.seat_is; list = mine.list; opened = mine.opened; ended = ap (λ l. l ++ v.number ∷ []) mine.ended; failed = mine.failed };
           list = fit.list;
           joined = IsPrefix-nil t.list;
           floor = fit.floor;
@@ -220,6 +287,7 @@ ends slots id me is has = goes slots id me (λ n. n) (λ n w. Ends me n w) go
             fresh = subst (λ l. count_of v.number l ≡ 0) (sym mine.ended) live.live;
             places = live.places ∙ ap (places_of v.number) (sym mine.list);
             recorded = λ n le. ap (places_of n) mine.list ∙ kept.numbers.recorded n (let opened = mine.opened in omega (arith, le, opened));
+            failed = live.failed ∙ ap (calls_of v.number) (sym mine.failed);
           },
         )
 
@@ -251,7 +319,7 @@ splits_number id v s holds at =
     let fit = kept.fits id v at in
     let w = without_number v in
     let left : Fits t id w = record {
-      recorder = λ e. as_recorder t id v w refl refl refl (fit.recorder e);
+      recorder = λ e. as_recorder t id v w refl refl refl refl (fit.recorder e);
       list = fit.list;
       joined = fit.joined;
       floor = fit.floor;
@@ -279,14 +347,15 @@ splits_number id v s holds at =
 abbrev with_one_opened : Shared → Shared
 with_one_opened t = record t { opened = t.opened + 1 }
 
-live_later : (t : Shared) (n : ℕ) (known : List ℕ) → IsLive t n known → IsLive (with_one_opened t) n known
-live_later t n known l = record { given = (let given = l.given in omega (arith, given)); live = l.live; places = l.places }
+live_later : (t : Shared) (n : ℕ) (known : List ℕ) (calls : List Call) → IsLive t n known calls → IsLive (with_one_opened t) n known calls
+live_later t n known calls l = record { given = (let given = l.given in omega (arith, given)); live = l.live; places = l.places; failed = l.failed }
 
 given_after_open : (t : Shared) → AreGivenOut t → AreGivenOut (with_one_opened t)
 given_after_open t numbers = record {
   once = numbers.once;
   ended = λ n le. numbers.ended n (omega (arith, le));
   recorded = λ n le. numbers.recorded n (omega (arith, le));
+  failed = λ n le. numbers.failed n (omega (arith, le));
 }
 
 -- the next number is nobody's
@@ -314,14 +383,14 @@ splits_pass id v is s holds at =
       list = f.list;
       joined = f.joined;
       floor = f.floor;
-      number = λ n. live_later t u.number u.places (f.number n);
+      number = λ n. live_later t u.number u.places u.own_failed (f.number n);
     } in
     let left : Fits t' id w = record {
-      recorder = λ _. record { seat_is = mine.seat_is; list = mine.list; opened = ap (λ n. n + 1) mine.opened; ended = mine.ended };
+      recorder = λ _. record { seat_is = mine.seat_is; list = mine.list; opened = ap (λ n. n + 1) mine.opened; ended = mine.ended; failed = mine.failed };
       list = fit.list;
       joined = fit.joined;
       floor = fit.floor;
-      number = λ n. live_later t v.number v.places (fit.number n);
+      number = λ n. live_later t v.number v.places v.own_failed (fit.number n);
     } in
     let right : (j : ℕ) → Fits t' j (view_of_pass v) = λ j. record {
       recorder = λ e. absurd (false≢true e);
@@ -332,6 +401,7 @@ splits_pass id v is s holds at =
         given = omega (arith, opened);
         live = kept.numbers.ended v.opened (omega (arith, opened));
         places = sym (kept.numbers.recorded v.opened (omega (arith, opened)));
+        failed = sym (kept.numbers.failed v.opened (omega (arith, opened)));
       };
     } in
     let kept' = kept_set t t' s.words s.views id w kept others left (own_number t s.words s.views id v w kept at (λ x. x) refl) (given_after_open t kept.numbers) in
@@ -374,40 +444,40 @@ joins id v other u both fit numbers s holds at apart there =
 pub joins_number : (id : ℕ) (v : View) (other : ℕ) (u : View) → Joins Holds id v other u (with_number v u) blank
 joins_number id v other u =
     joins id v other u (with_number v u)
-    (λ t f g. record { recorder = λ e. as_recorder t id v (with_number v u) refl refl refl (f.recorder e); list = f.list; joined = f.joined; floor = f.floor; number = g.number })
+    (λ t f g. record { recorder = λ e. as_recorder t id v (with_number v u) refl refl refl refl (f.recorder e); list = f.list; joined = f.joined; floor = f.floor; number = g.number })
     (inr (λ x. x, refl))
 
 -- the join of learn
 pub joins_note : (id : ℕ) (v : View) (other : ℕ) (u : View) → Joins Holds id v other u (with_note v u) blank
 joins_note id v other u =
     joins id v other u (with_note v u)
-    (λ t f g. record { recorder = λ e. as_recorder t id v (with_note v u) refl refl refl (f.recorder e); list = f.list; joined = g.list; floor = f.floor; number = f.number })
+    (λ t f g. record { recorder = λ e. as_recorder t id v (with_note v u) refl refl refl refl (f.recorder e); list = f.list; joined = g.list; floor = f.floor; number = f.number })
     (inl (λ x. x, refl))
 
 -- the join of end_pass
 pub joins_pass : (id : ℕ) (v : View) (other : ℕ) (u : View) → Joins Holds id v other u (with_pass v u) blank
 joins_pass id v other u =
     joins id v other u (with_pass v u)
-    (λ t f g. record { recorder = λ e. as_recorder t id v (with_pass v u) refl refl refl (f.recorder e); list = f.list; joined = g.list; floor = f.floor; number = g.number })
+    (λ t f g. record { recorder = λ e. as_recorder t id v (with_pass v u) refl refl refl refl (f.recorder e); list = f.list; joined = g.list; floor = f.floor; number = g.number })
     (inr (λ x. x, refl))
 
 -- the join of hear
 pub joins_ask : (id : ℕ) (v : View) (other : ℕ) (u : View) → Joins Holds id v other u (with_ask v u) blank
 joins_ask id v other u =
     joins id v other u (with_ask v u)
-    (λ t f g. record { recorder = λ e. as_recorder t id v (with_ask v u) refl refl refl (f.recorder e); list = f.list; joined = f.joined; floor = g.floor; number = f.number })
+    (λ t f g. record { recorder = λ e. as_recorder t id v (with_ask v u) refl refl refl refl (f.recorder e); list = f.list; joined = f.joined; floor = g.floor; number = f.number })
     (inl (λ x. x, refl))
 
 -- the table at the start
 pub begins : Holds record { words = 0 ∷ []; homes = []; views = first_view ∷ [] }
-begins = (t, record { word = refl; fits = fits; apart = apart; numbers = record { once = λ n. omega arith; ended = λ n le. refl; recorded = λ n le. refl } })
+begins = (t, record { word = refl; fits = fits; apart = apart; numbers = record { once = λ n. omega arith; ended = λ n le. refl; recorded = λ n le. refl; failed = λ n le. refl } })
   where
     t : Shared
-    t = record { recorder = 0; list = []; opened = 0; ended = [] }
+    t = record { recorder = 0; list = []; opened = 0; ended = []; failed = [] }
 
     mine : Fits t 0 first_view
     mine = record {
-      recorder = λ _. record { seat_is = refl; list = refl; opened = refl; ended = refl };
+      recorder = λ _. record { seat_is = refl; list = refl; opened = refl; ended = refl; failed = refl };
       list = IsPrefix-nil [];
       joined = IsPrefix-nil [];
       floor = omega arith;

@@ -4,24 +4,27 @@ use mathlib.Core.Option.{some}
 use mathlib.Core.List.{IsPrefix}
 use lib.ListN.{get_elem?}
 use Rattle.atomic_table.specs.Table.{State}
+use Rattle.cf_calls.specs.declared.call.Call.{Call}
 use Rattle.cf_turns.specs.declared.rule.View.{View}
-use Rattle.cf_turns.specs.Lists.{TaggedEntry, count_of, places_of}
+use Rattle.cf_turns.specs.Lists.{TaggedCall, TaggedEntry, calls_of, count_of, places_of}
 
 -- the view that says nothing, as a seat has it that was spent
 abbrev pub blank : View
 blank =
-    record { records = false; list = []; joined = []; has_number = false; number = 0; floor = 0; reads = 0; last_read = 0; opened = 0; ended = []; places = [] }
+    record { records = false; list = []; joined = []; has_number = false; number = 0; floor = 0; reads = 0; last_read = 0; opened = 0; ended = []; places = []; failed = []; own_failed = [] }
 
 -- the recorder's view at the start
 abbrev pub first_view : View
 first_view = record blank { records = true }
 
--- what stands behind the word: which seat records, its list, how many passes were opened, and the numbers of the ended ones
+-- what stands behind the word: which seat records, its list, how many passes were opened, the numbers
+-- of the ended ones, and the calls that were answered by a fault of the disk
 pub record Shared : Type 0 where
   pub recorder : ℕ
   pub list : List TaggedEntry
   pub opened : ℕ
   pub ended : List ℕ
+  pub failed : List TaggedCall
 
 -- the seat that records knows all that stands behind the word
 pub record IsRecorders (t : Shared) (seat : ℕ) (v : View) : Type 0 where
@@ -29,12 +32,15 @@ pub record IsRecorders (t : Shared) (seat : ℕ) (v : View) : Type 0 where
   pub list : v.list ≡ t.list
   pub opened : v.opened ≡ t.opened
   pub ended : v.ended ≡ t.ended
+  pub failed : v.failed ≡ t.failed
 
 -- a live pass has a number that was given out and isn't among the ended ones, and has the places of its entries
-pub record IsLive (t : Shared) (number : ℕ) (known : List ℕ) : Type 0 where
+-- and its calls that failed
+pub record IsLive (t : Shared) (number : ℕ) (known : List ℕ) (calls : List Call) : Type 0 where
   pub given : number < t.opened
   pub live : count_of number t.ended ≡ 0
   pub places : known ≡ places_of number t.list
+  pub failed : calls ≡ calls_of number t.failed
 
 -- what the rule says of one seat's view
 pub record Fits (t : Shared) (seat : ℕ) (v : View) : Type 0 where
@@ -42,13 +48,15 @@ pub record Fits (t : Shared) (seat : ℕ) (v : View) : Type 0 where
   pub list : IsPrefix v.list t.list
   pub joined : IsPrefix v.joined t.list
   pub floor : v.floor ≤ length t.list
-  pub number : v.has_number ≡ true → IsLive t v.number v.places
+  pub number : v.has_number ≡ true → IsLive t v.number v.places v.own_failed
 
--- the numbers of ended passes differ. They and the numbers that entries were recorded for were given out
+-- the numbers of ended passes differ. They, and the numbers of passes that entries were recorded for or that
+-- calls failed of, were given out
 pub record AreGivenOut (t : Shared) : Type 0 where
   pub once : (n : ℕ) → count_of n t.ended ≤ 1
   pub ended : (n : ℕ) → t.opened ≤ n → count_of n t.ended ≡ 0
   pub recorded : (n : ℕ) → t.opened ≤ n → places_of n t.list ≡ []
+  pub failed : (n : ℕ) → t.opened ≤ n → calls_of n t.failed ≡ []
 
 -- no two seats have one number
 abbrev pub HaveOwnNumbers : List View → Type 0

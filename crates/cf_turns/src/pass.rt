@@ -1,6 +1,6 @@
 //! What a caller has seen of the list.
 
-ghost use Rattle.std.specs.Prelude.{◌≡◌, ◌+◌, ◌-◌, ◌^◌, ◌≤◌, length, min};
+ghost use Rattle.std.specs.Prelude.{◌≡◌, ◌+◌, ◌≤◌, length};
 ghost use mathlib.Core.List.{IsPrefix};
 ghost use Rattle.cf_turns.specs.Lists.{longer};
 
@@ -9,7 +9,8 @@ use crate::rule::{AskLoad, AskSplit, LearnJoin, LearnLoad};
 use crate::turns::{Turns, ViewSeat};
 use std::marker::Model;
 
-/// A caller's own beginning of the list, with the places of its accepted calls and the count of its fault replies.
+/// A caller's own beginning of the list, with the places of its accepted calls, its calls that were answered by a
+/// fault of the disk, and their count.
 #[derive(Drop)]
 pub struct Pass {
     pub(crate) seat: ViewSeat,
@@ -33,6 +34,7 @@ impl Model for Pass {
       last_read = p.seat.me.0.last_read;
       places = p.seat.me.0.places;
       faults = p.faults;
+      failed = p.seat.me.0.own_failed;
     } };
 
     ghost invariant = { λ p. IsPassSeat p.seat.me p.len p.accepted };
@@ -107,13 +109,6 @@ impl Pass {
         ensures { result ≡ length self.now.seen }
     {
         self.len
-    }
-
-    /// Counts a fault reply. A count that stands at its greatest value stays there.
-    pub fn fault(&mut self)
-        ensures { self.new ≡ record self.old { faults = min (self.old.faults + 1) (2 ^ 64 - 1) } }
-    {
-        self.faults = self.faults.saturating_add(1);
     }
 
     /// Reads how long the list is, which is at least as long as what was seen.

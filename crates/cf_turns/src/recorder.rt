@@ -1,18 +1,18 @@
 //! Who adds to the list.
 
-ghost use Rattle.std.specs.Prelude.{◌≡◌, ℕ, ◌+◌, ◌<◌, ◌≤◌, [], ◌∷◌, ◌++◌, length, true};
+ghost use Rattle.std.specs.Prelude.{◌≡◌, ℕ, ◌+◌, ◌-◌, ◌^◌, ◌<◌, ◌≤◌, [], ◌∷◌, ◌++◌, length, min, true};
 ghost use mathlib.Core.List.{IsPrefix};
 ghost use Rattle.cf_base.specs.Limits.{most_entries};
-ghost use Rattle.cf_turns.specs.Lists.{count_of, places_of};
+ghost use Rattle.cf_turns.specs.Lists.{calls_of, count_of, places_of};
 
 use crate::pass::{Ask, Note, Pass};
 use crate::receipts::Receipts;
 use crate::rule::{
-    EndJoin, EndLoad, EndSplit, HearJoin, HearLoad, NoteSplit, NumberJoin, NumberSplit, OpenSplit,
-    RecordAdd, Told,
+    EndJoin, EndLoad, EndSplit, FailLoad, HearJoin, HearLoad, NoteSplit, NumberJoin, NumberSplit,
+    OpenSplit, RecordAdd, Told, ToldFailed,
 };
 use crate::turns::{Turns, ViewSeat};
-use cf_calls::Entry;
+use cf_calls::{Call, Entry};
 use std::marker::{Brand, Model};
 
 /// Who adds to the list. There is one for each word, so it stands under a lock where several threads add.
@@ -34,6 +34,7 @@ impl Model for Recorder {
       opened = r.seat.me.0.opened;
       ended = r.seat.me.0.ended;
       floor = r.seat.me.0.floor;
+      failed = r.seat.me.0.failed;
     } };
 
     ghost invariant = { λ r. IsRecorderSeat r.seat.me r.len };
@@ -58,6 +59,25 @@ impl Recorder {
         self.len = place;
         pass.accepted += 1;
         place
+    }
+
+    /// Notes that a call of this pass was answered by a fault of the disk, and counts it. A count that stands at its greatest
+    /// value stays there.
+    pub fn fail(&mut self, turns: &Turns, call: &Call, pass: &mut Pass)
+        requires own { (self.old.table ≡ turns.now) × (pass.old.table ≡ turns.now) }
+        ensures recorder { self.new ≡ record self.old { failed = self.old.failed ++ (call.now, pass.old.number) ∷ [] } }
+        ensures pass { pass.new ≡ record pass.old {
+          faults = min (pass.old.faults + 1) (2 ^ 64 - 1);
+          failed = pass.old.failed ++ call.now ∷ [];
+        } }
+    {
+        let word = &turns.table.shared;
+        let number = word.split_seat::<NumberSplit>(&mut pass.seat);
+        word.join_seat::<NumberJoin>(&mut self.seat, number);
+        note_failed::<Brand>(&mut self.seat, turns, call);
+        let back = word.split_seat::<NumberSplit>(&mut self.seat);
+        word.join_seat::<NumberJoin>(&mut pass.seat, back);
+        pass.faults = pass.faults.saturating_add(1);
     }
 
     /// A note of the whole list.
@@ -86,6 +106,7 @@ impl Recorder {
           last_read = 0;
           places = [];
           faults = 0;
+          failed = [];
         } }
     {
         let seat = turns.table.shared.split_seat::<OpenSplit>(&mut self.seat);
@@ -97,13 +118,15 @@ impl Recorder {
         }
     }
 
-    /// Ends a pass. What it has seen begins the list, and its places are those of the entries recorded for it. Its number
-    /// was given out and was not among those of ended passes. No entry has a number that was not given out.
+    /// Ends a pass. What it has seen begins the list, and its places are those of the entries recorded for it, as its
+    /// calls that failed are those noted for it. Its number was given out and was not among those of ended passes. No entry has
+    /// a number that was not given out.
     pub fn end_pass(&mut self, turns: &Turns, pass: Pass) -> Receipts
         requires own { (self.old.table ≡ turns.now) × (pass.table ≡ turns.now) }
         ensures recorder { self.new ≡ record self.old { ended = self.old.ended ++ pass.number ∷ [] } }
         ensures receipts { result ≡ record { number = pass.number; places = pass.places; faults = pass.faults } }
         ensures places { pass.places ≡ places_of pass.number self.old.list }
+        ensures failed { pass.failed ≡ calls_of pass.number self.old.failed }
         ensures given { pass.number < self.old.opened }
         ensures fresh { count_of pass.number self.old.ended ≡ 0 }
         ensures seen { IsPrefix pass.seen self.old.list }
@@ -158,4 +181,21 @@ fn add<N: Told>(seat: &mut ViewSeat, turns: &Turns, entry: &Entry) -> u64
 {
     let _ = entry;
     turns.table.shared.fetch_add::<RecordAdd<N>>(seat, 0, 1)
+}
+
+// Notes the call, with the number that the seat was lent.
+fn note_failed<N: ToldFailed>(seat: &mut ViewSeat, turns: &Turns, call: &Call)
+    requires told { N.calls ≡ (call.now, seat.old.me.0.number) ∷ [] }
+    requires own { seat.old.table_id ≡ turns.now }
+    requires records { seat.old.me.0.records ≡ true }
+    requires lent { seat.old.me.0.has_number ≡ true }
+    ensures own { seat.new.table_id ≡ seat.old.table_id }
+    ensures slots { seat.new.me.1 ≡ seat.old.me.1 }
+    ensures view { seat.new.me.0 ≡ record seat.old.me.0 {
+      failed = seat.old.me.0.failed ++ (call.now, seat.old.me.0.number) ∷ [];
+      own_failed = seat.old.me.0.own_failed ++ call.now ∷ [];
+    } }
+{
+    let _ = call;
+    turns.table.shared.load::<FailLoad<N>>(seat, 0);
 }

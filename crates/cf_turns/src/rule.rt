@@ -1,7 +1,7 @@
 //! The rule of the shared word, and its kinds of step.
 
 use atomic_table::{Join, Play, Split, TableRule};
-use cf_calls::Entry;
+use cf_calls::{Call, Entry};
 use std::collections::LinkedList;
 use std::marker::{Brand, PhantomData};
 
@@ -28,6 +28,10 @@ pub struct View {
     pub ended: LinkedList<u64>,
     /// Where the accepted calls of a pass stand in the list, from 1.
     pub places: LinkedList<u64>,
+    /// The recorder's: the calls that were answered by a fault of the disk, with the number of the pass of each.
+    pub failed: LinkedList<(Call, u64)>,
+    /// A pass's own of these calls.
+    pub own_failed: LinkedList<Call>,
 }
 
 /// The entries that a recording step adds, which no argument of the step says. The caller picks them.
@@ -42,6 +46,20 @@ impl Told for Brand {
     ghost use Rattle.std.specs.Prelude.{[]};
 
     ghost entries = { [] };
+}
+
+/// The calls that a failing step notes, which no argument of the step says. The caller picks them.
+pub trait ToldFailed {
+    ghost use Rattle.std.specs.Prelude.{List};
+    ghost use Rattle.cf_turns.specs.Lists.{TaggedCall};
+
+    ghost calls: { List TaggedCall };
+}
+
+impl ToldFailed for Brand {
+    ghost use Rattle.std.specs.Prelude.{[]};
+
+    ghost calls = { [] };
 }
 
 /// The rule of the history word: it holds the length of one list, which grows at its end alone.
@@ -62,6 +80,15 @@ impl<N: Told> Play<(), View> for RecordAdd<N> {
     ghost use Rattle.cf_turns.specs.Steps.{Records};
 
     ghost then = { λ _ old found new. Records N.entries old found new };
+}
+
+/// Notes calls that failed, for the number that the recorder was lent.
+pub struct FailLoad<N: ToldFailed>(PhantomData<N>);
+
+impl<N: ToldFailed> Play<(), View> for FailLoad<N> {
+    ghost use Rattle.cf_turns.specs.Steps.{Fails};
+
+    ghost then = { λ _ old found new. Fails N.calls old found new };
 }
 
 /// Cuts the number and the places off a seat, to lend them or to give them back.

@@ -2,7 +2,7 @@ ghost use Rattle.std.specs.Prelude.{◌≡◌, ◌<◌, true, false, [], IfOk};
 
 use super::*;
 use cf_base::Day;
-use cf_calls::{Act, Change, Drawn, Entry, Key};
+use cf_calls::{Act, Call, Change, Drawn, Entry, Key, Look, Read};
 use std::alloc::{AllocError, Global};
 use std::marker::Brand;
 use std::sync::ledger::Blank;
@@ -66,8 +66,12 @@ fn two_passes_see_one_list(rt: HostRuntime) -> Result<(), Fail> {
 fn a_fault_reply_counts_and_moves_nothing(rt: HostRuntime) -> Result<(), Fail> {
     let (turns, mut recorder) = Turns::new(rt.alloc())?;
     let mut pass = recorder.open_pass(&turns);
-    pass.fault();
-    pass.fault();
+    let call = Call::Look(Look {
+        after: None,
+        read: Read::Order { order: 1 },
+    });
+    recorder.fail(&turns, &call, &mut pass);
+    recorder.fail(&turns, &call, &mut pass);
     let ask = pass.ask(&turns);
     let heard = recorder.hear(&turns, ask);
     assert_eq!(rt; (pass.seen(), heard), (0, 0));

@@ -2,10 +2,10 @@ use Rattle.std.proofs.Common.{◌≡◌, List, [], ◌++◌, map, All, ap, appen
 use Rattle.std.proofs.lemmas.List.Elements.{All-push}
 use mathlib.Core.List.{IsPrefix}
 use Rattle.std.specs.Vec.Iter.{into_iter_items}
-use Rattle.cf_turns.specs.Lists.{TaggedEntry, places_of}
+use Rattle.cf_turns.specs.Lists.{TaggedCall, TaggedEntry, calls_of, places_of}
 use Rattle.cf_turns.specs.States.{PassState}
 use Rattle.cf_names.specs.Closing.{faults_in, receipts_of}
-use Rattle.cf_hall.proofs.Ending.{nothing_more, mapped_on, yielded_on, accepted_on, faulted_on, quiet_on, parts_on, apart_on}
+use Rattle.cf_hall.proofs.Ending.{nothing_more, mapped_on, yielded_on, accepted_on, counted_on, faulted_on, quiet_on, parts_on, apart_on}
 use Rattle.cf_hall.proofs.closing.end_all.Goals as goal
 
 pub loop-pass-preserved : goal.loop-pass-preserved
@@ -14,6 +14,7 @@ loop-pass-preserved g c =
     let e = c.end_one.ensures in
     let p : PassState = c.in-Some.pass in
     let here : p.places ≡ places_of p.number c.args.recorder.now.list = subst (λ (x : List TaggedEntry). p.places ≡ places_of p.number x) l.invariant.list e.places in
+    let failed : p.failed ≡ calls_of p.number c.args.recorder.now.failed = subst (λ (x : List TaggedCall). p.failed ≡ calls_of p.number x) l.invariant.noted e.failed in
     record {
       next = tt;
       finite = tt;
@@ -26,6 +27,9 @@ loop-pass-preserved g c =
       capacity = e.capacity ∙ l.invariant.capacity;
       places = All-push (λ (q : PassState). q.places ≡ places_of q.number c.args.recorder.now.list) l.yielded p l.invariant.places here;
       seen = All-push (λ (q : PassState). IsPrefix q.seen c.args.recorder.now.list) l.yielded p l.invariant.seen (subst (λ (x : List TaggedEntry). IsPrefix p.seen x) l.invariant.list e.seen);
+      failed = All-push (λ (q : PassState). q.failed ≡ calls_of q.number c.args.recorder.now.failed) l.yielded p l.invariant.failed failed;
+      noted = e.noted ∙ l.invariant.noted;
+      counted = counted_on c.args.shares.now.faulted l.shares.faulted c.end_one.new.shares.faulted l.yielded p l.invariant.counted e.counted;
       parts = parts_on c.args.shares.now.parts l.shares.parts c.end_one.new.shares.parts l.yielded p l.invariant.parts e.parts;
       accepted = accepted_on c.args.shares.now.accepted l.shares.accepted c.end_one.new.shares.accepted l.yielded p l.invariant.accepted e.accepted;
       faulted = faulted_on c.args.shares.now.faulted l.shares.faulted c.end_one.new.shares.faulted l.yielded p l.invariant.faulted e.faulted;

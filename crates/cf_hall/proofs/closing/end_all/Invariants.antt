@@ -2,8 +2,8 @@ use Rattle.std.proofs.Common.{◌≡◌, ◌≤◌, ◌+◌, ◌++◌, length, m
 use mathlib.Core.List.{IsPrefix}
 use Rattle.std.specs.Vec.{vec_capacity}
 use Rattle.std.specs.Vec.Iter.{into_iter_items}
-use Rattle.cf_turns.specs.Lists.{places_of}
-use Rattle.cf_names.specs.Closing.{AreApart, accepted_of, faults_in, receipts_of}
+use Rattle.cf_turns.specs.Lists.{calls_of, places_of}
+use Rattle.cf_names.specs.Closing.{AreApart, accepted_of, failed_calls, faults_in, receipts_of}
 use Rattle.cf_hall.proofs.closing.end_all.Given as goal
 
 abbrev pub invariant-loop-pass : goal.invariant-loop-pass
@@ -19,6 +19,9 @@ invariant-loop-pass g l = record {
   capacity : vec_capacity l.receipts ≡ vec_capacity l.initial.receipts;
   places : All (λ p. p.places ≡ places_of p.number l.initial.recorder.list) l.yielded;
   seen : All (λ p. IsPrefix p.seen l.initial.recorder.list) l.yielded;
+  failed : All (λ p. p.failed ≡ calls_of p.number l.initial.recorder.failed) l.yielded;
+  noted : l.recorder.failed ≡ l.initial.recorder.failed;
+  counted : l.shares.faulted ≡ l.initial.shares.faulted + length (failed_calls l.yielded);
   parts : l.shares.parts ≡ l.initial.shares.parts + length l.yielded;
   accepted : l.shares.accepted ≡ l.initial.shares.accepted + accepted_of (map receipts_of l.yielded);
   faulted : l.initial.shares.faulted + faults_in (map receipts_of l.yielded) ≤ l.shares.faulted;

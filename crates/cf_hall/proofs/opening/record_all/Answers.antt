@@ -26,9 +26,11 @@ loop-entry-preserved g c =
         table = e.recorder.table ∙ l.invariant.same.table;
         opened = e.recorder.opened ∙ l.invariant.same.opened;
         ended = e.recorder.ended ∙ l.invariant.same.ended;
+        failed = e.recorder.failed ∙ l.invariant.same.failed;
       };
       totals = e.totals ∙ ap (λ (t : TotalsState). record t { accepted = t.accepted + 1 }) l.invariant.totals ∙ (λ k. record was { accepted = more k });
       places = subst (HasFirst (i + 1)) (sym (e.places ∙ ap (λ (n : ℕ). l.pass.places ++ (n + 1) ∷ []) l.invariant.long)) (first_more i l.pass.places l.invariant.places);
       seen = e.seen ∙ l.invariant.seen;
-      faults = e.faults ∙ l.invariant.faults;
+      faults = e.faults.0 ∙ l.invariant.faults;
+      failed = e.faults.1 ∙ l.invariant.failed;
     }

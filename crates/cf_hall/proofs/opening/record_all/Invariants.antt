@@ -13,4 +13,5 @@ invariant-loop-entry g l = record {
   places : HasFirst l.entry-index l.pass.places;
   seen : l.pass.seen ≡ [];
   faults : l.pass.faults ≡ l.initial.pass.faults;
+  failed : l.pass.failed ≡ l.initial.pass.failed;
 }

@@ -1,4 +1,4 @@
-use Rattle.std.proofs.Common.{◌≡◌, ℕ, ◌+◌, ◌≤◌, ◌∷◌, ◌++◌, [], List, Option, None, length, sym, ap, subst, ◌∙◌, inr, arith}
+use Rattle.std.proofs.Common.{◌≡◌, ℕ, ◌+◌, ◌≤◌, ◌∷◌, ◌++◌, [], List, Option, None, length, sym, ap, subst, ◌∙◌, IfSome, arith}
 use Rattle.std.proofs.lemmas.List.{append-nil}
 use Rattle.cf_budget.specs.declared.changes.LineChange.{LineChange}
 use Rattle.cf_budget.specs.Tables.{Tables, has_stripe}
@@ -7,18 +7,18 @@ use Rattle.cf_calls.specs.declared.reply.Posted.TheVariants as posted
 use Rattle.cf_chart.specs.Plan.{Plan}
 use Rattle.cf_book.specs.DurableState.{state_of}
 use Rattle.cf_names.specs.Closing.{RoseBy}
-use Rattle.cf_names.specs.Lists.{entries_of}
+use Rattle.cf_names.specs.Lists.{calls_in, entries_of}
 use Rattle.cf_names.specs.Shares.{TotalsState}
 use Rattle.cf_names.proofs.Entries.{entries_length}
 use Rattle.cf_registers.specs.Moved.{AreTablesOf}
-use Rattle.cf_turns.specs.Lists.{TaggedEntry}
+use Rattle.cf_turns.specs.Lists.{TaggedCall, TaggedEntry}
 use Rattle.cf_turns.specs.States.{RecorderState}
-use Rattle.cf_hall.specs.Fronts.{KeptSince}
-use Rattle.cf_hall.specs.Passes.{Sights, faults_by}
+use Rattle.cf_hall.specs.Fronts.{IsKeptSince, IsUnacknowledged}
+use Rattle.cf_hall.specs.Passes.{Sights, failed_after, faults_by}
 use Rattle.cf_hall.specs.TakenState.{AreTakenStripes, AllSeen}
-use Rattle.cf_hall.proofs.Fronts.{kept_on}
+use Rattle.cf_hall.proofs.Fronts.{doubt_since, since_on}
 use Rattle.cf_hall.proofs.Lasting.{added_by}
-use Rattle.cf_hall.proofs.Saying.{risen_by, quiet_by, clear_by, said_at, told_kept, told_added}
+use Rattle.cf_hall.proofs.Saying.{noted_by, risen_by, quiet_by, clear_by, said_at, told_kept, told_added}
 use Rattle.cf_hall.proofs.Standing.{kept}
 use Rattle.cf_hall.proofs.book.HallBook.settle.Goals as goal
 
@@ -39,6 +39,13 @@ invariant_of-self g c =
     let b = c.self.inside in
     let list : c.see.new.recording.list ≡ b.recording.list = ap (λ (r : RecorderState). r.list) c.see.ensures.recorder ∙ ap (λ (r : RecorderState). r.list) c.catch_up.ensures.recorder in
     let faulted : c.see.new.totals.faulted ≡ b.totals.faulted + faults_by c.in-Kept.answer = ap (λ (t : TotalsState). t.faulted) c.see.ensures.totals in
+    let in_doubt = g.N.City.doubt in
+    let call = c.args.call.now in
+    let number = c.catch_up.new.pass.number in
+    let was = state_of d.faults b.archive in
+    let now = state_of d.faults c.settle.new.self in
+    let failed : c.see.new.recording.failed ≡ failed_after b.recording.failed call number c.in-Kept.answer =
+    ap (λ (r : RecorderState). r.failed) c.see.ensures.recorder ∙ ap (λ (r : RecorderState). failed_after r.failed call number c.in-Kept.answer) c.catch_up.ensures.recorder in
     let long : g.N.City.first ≤ length b.archive.entries = omega (arith, c.self.invariant.from, ap length c.self.invariant.list, entries_length b.recording.list) in
     record {
       plan = c.settle.ensures.plan ∙ c.self.invariant.plan;
@@ -51,10 +58,17 @@ invariant_of-self g c =
       quiet = λ is. quiet_by (state_of d.faults b.archive) c.args.call.now c.in-Kept.answer (state_of d.faults c.settle.new.self) b.totals.faulted g.N.City.risen c.in-Kept.ensures.reply c.self.invariant.quiet (sym faulted ∙ is);
       clear = λ is. clear_by (state_of d.faults b.archive) c.args.call.now c.in-Kept.answer (state_of d.faults c.settle.new.self) b.totals.faulted g.N.City.doubt c.in-Kept.ensures.reply c.self.invariant.clear (sym faulted ∙ is);
       none_ended = ap (λ (r : RecorderState). r.ended) c.see.ensures.recorder ∙ ap (λ (r : RecorderState). r.ended) c.catch_up.ensures.recorder ∙ c.self.invariant.none_ended;
-      since = λ tells. inr (
-          subst (λ (p : Plan). KeptSince d.moment d.was_image p g.N.City.first c.settle.new.self.entries g.N.City.begun c.settle.new.self.disk) (sym c.settle.ensures.plan)
-          (kept_on d.moment d.was_image b.archive.plan g.N.City.first b.archive.entries c.settle.new.self.entries [] _ g.N.City.begun b.archive.disk c.settle.new.self.disk
-          long (c.in-Kept.ensures.grows ∙ sym (append-nil b.archive.entries)) (c.self.invariant.since tells) (c.settle.ensures.any_moment tells)));
+      failed = faulted ∙ noted_by b.recording.failed call number c.in-Kept.answer b.totals.faulted c.self.invariant.failed ∙ ap length (sym failed);
+      unacknowledged =
+          subst (λ (p : Plan). IfSome c.settle.new.self.doubt (IsUnacknowledged p in_doubt (calls_in c.see.new.recording.failed) c.settle.new.self.entries)) (sym c.settle.ensures.plan)
+          (subst (λ (l : List TaggedCall). IfSome c.settle.new.self.doubt (IsUnacknowledged b.archive.plan in_doubt (calls_in l) c.settle.new.self.entries)) (sym failed)
+          (doubt_since d.moment d.was_image g.N.City.first in_doubt was call c.in-Kept.answer now b.recording.failed number c.in-Kept.ensures.reply c.self.invariant.unacknowledged));
+      since = λ tells.
+          subst (λ (p : Plan). IsKeptSince d.moment d.was_image p g.N.City.first in_doubt (calls_in c.see.new.recording.failed) c.settle.new.self.entries g.N.City.begun c.settle.new.self.disk) (sym c.settle.ensures.plan)
+          (subst (λ (l : List TaggedCall). IsKeptSince d.moment d.was_image b.archive.plan g.N.City.first in_doubt (calls_in l) c.settle.new.self.entries g.N.City.begun c.settle.new.self.disk) (sym failed)
+          (since_on d.moment d.was_image g.N.City.first in_doubt was call c.in-Kept.answer now b.recording.failed number c.in-Kept.ensures.reply c.self.invariant.unacknowledged
+          [] g.N.City.begun b.archive.disk c.settle.new.self.disk long (c.in-Kept.ensures.grows ∙ sym (append-nil b.archive.entries)) c.in-Kept.ensures.memory (c.self.invariant.since tells)
+          (c.settle.ensures.any_moment tells)));
     }
 
 pub invariant_of-taken : goal.invariant_of-taken
@@ -90,7 +104,7 @@ returns-in-Kept-clause-pass g c =
     let caught : c.catch_up.new.self.list ≡ list = ap (λ (r : RecorderState). r.list) c.catch_up.ensures.recorder in
     let said = said_at plan (entries_of list) (entries_of list) c.args.call.now c.in-Kept.answer (state_of d.faults b.archive) (state_of d.faults c.settle.new.self)
     c.self.invariant.plan c.self.invariant.list (c.in-Kept.ensures.grows ∙ c.self.invariant.list) c.in-Kept.ensures.reply in
-    let sights = subst (λ (l : List TaggedEntry). Sights now l c.in-Kept.answer c.see.new.pass) caught c.see.ensures.pass in
+    let sights = subst (λ (l : List TaggedEntry). Sights now l c.args.call.now c.in-Kept.answer c.see.new.pass) caught c.see.ensures.pass in
     rw (← c.pass.view_is) (told_kept plan c.pass.inside.pass now c.see.new.pass list c.args.call.now c.catch_up.ensures.pass c.in-Kept.answer said c.catch_up.ensures.legal sights c.see.ensures.seen)
 
 -- ---- an entry was added
@@ -121,6 +135,13 @@ invariant_of-self-in-Added g c =
     let accepted : c.add_last.new.totals.accepted ≡ b.totals.accepted + 1 = ap (λ (t : TotalsState). t.accepted) c.add_last.ensures.totals in
     let faulted : c.add_last.new.totals.faulted ≡ b.totals.faulted = ap (λ (t : TotalsState). t.faulted) c.add_last.ensures.totals in
     let none : b.totals.faulted + 0 ≡ b.totals.faulted = omega arith in
+    let in_doubt = g.N.City.doubt in
+    let call = c.args.call.now in
+    let number = c.catch_up.new.pass.number in
+    let given = posted.Reply c.in-Added.reply in
+    let was = state_of d.faults b.archive in
+    let now = state_of d.faults c.settle.new.self in
+    let failed : c.add_last.new.recording.failed ≡ b.recording.failed = c.add_last.ensures.recorder.failed ∙ ap (λ (r : RecorderState). r.failed) c.catch_up.ensures.recorder in
     let long : g.N.City.first ≤ length b.archive.entries = omega (arith, c.self.invariant.from, ap length c.self.invariant.list, entries_length b.recording.list) in
     record {
       plan = c.settle.ensures.plan ∙ c.self.invariant.plan;
@@ -133,10 +154,17 @@ invariant_of-self-in-Added g c =
       quiet = λ is. quiet_by (state_of d.faults b.archive) c.args.call.now (posted.Reply c.in-Added.reply) (state_of d.faults c.settle.new.self) b.totals.faulted g.N.City.risen c.in-Added.ensures.reply c.self.invariant.quiet (none ∙ sym faulted ∙ is);
       clear = λ is. clear_by (state_of d.faults b.archive) c.args.call.now (posted.Reply c.in-Added.reply) (state_of d.faults c.settle.new.self) b.totals.faulted g.N.City.doubt c.in-Added.ensures.reply c.self.invariant.clear (none ∙ sym faulted ∙ is);
       none_ended = c.add_last.ensures.recorder.ended ∙ ap (λ (r : RecorderState). r.ended) c.catch_up.ensures.recorder ∙ c.self.invariant.none_ended;
-      since = λ tells. inr (
-          subst (λ (p : Plan). KeptSince d.moment d.was_image p g.N.City.first c.settle.new.self.entries g.N.City.begun c.settle.new.self.disk) (sym c.settle.ensures.plan)
-          (kept_on d.moment d.was_image b.archive.plan g.N.City.first b.archive.entries c.settle.new.self.entries (c.in-Added.ensures.grows.0 ∷ []) _ g.N.City.begun b.archive.disk c.settle.new.self.disk
-          long c.in-Added.ensures.grows.1 (c.self.invariant.since tells) (c.settle.ensures.any_moment tells)));
+      failed = faulted ∙ c.self.invariant.failed ∙ ap length (sym failed);
+      unacknowledged =
+          subst (λ (p : Plan). IfSome c.settle.new.self.doubt (IsUnacknowledged p in_doubt (calls_in c.add_last.new.recording.failed) c.settle.new.self.entries)) (sym c.settle.ensures.plan)
+          (subst (λ (l : List TaggedCall). IfSome c.settle.new.self.doubt (IsUnacknowledged b.archive.plan in_doubt (calls_in l) c.settle.new.self.entries)) (sym failed)
+          (doubt_since d.moment d.was_image g.N.City.first in_doubt was call given now b.recording.failed number c.in-Added.ensures.reply c.self.invariant.unacknowledged));
+      since = λ tells.
+          subst (λ (p : Plan). IsKeptSince d.moment d.was_image p g.N.City.first in_doubt (calls_in c.add_last.new.recording.failed) c.settle.new.self.entries g.N.City.begun c.settle.new.self.disk) (sym c.settle.ensures.plan)
+          (subst (λ (l : List TaggedCall). IsKeptSince d.moment d.was_image b.archive.plan g.N.City.first in_doubt (calls_in l) c.settle.new.self.entries g.N.City.begun c.settle.new.self.disk) (sym failed)
+          (since_on d.moment d.was_image g.N.City.first in_doubt was call given now b.recording.failed number c.in-Added.ensures.reply c.self.invariant.unacknowledged
+          (c.in-Added.ensures.grows.0 ∷ []) g.N.City.begun b.archive.disk c.settle.new.self.disk long c.in-Added.ensures.grows.1 c.in-Added.ensures.memory (c.self.invariant.since tells)
+          (c.settle.ensures.any_moment tells)));
     }
 
 pub returns-in-Added-clause-stripes : goal.returns-in-Added-clause-stripes

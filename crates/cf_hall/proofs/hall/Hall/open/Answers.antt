@@ -1,14 +1,15 @@
-use Rattle.std.proofs.Common.{◌≡◌, List, length, sym, ap, subst, ◌∙◌, inl, arith}
+use Rattle.std.proofs.Common.{◌≡◌, List, [], length, sym, ap, subst, ◌∙◌, inl, arith}
 use Rattle.cf_book.specs.DurableState.{DurableBook}
 use Rattle.cf_calls.specs.declared.entry.Entry.{Entry}
 use Rattle.cf_chart.specs.Plan.{Plan}
-use Rattle.cf_names.specs.Lists.{entries_of}
+use Rattle.cf_names.specs.Lists.{calls_in, entries_of}
 use Rattle.cf_names.specs.Shares.{TotalsState}
 use Rattle.cf_names.proofs.Entries.{entries_length}
 use Rattle.cf_registers.specs.Moved.{AreTablesOf}
 use Rattle.cf_turns.specs.Lists.{TaggedEntry}
 use Rattle.cf_turns.specs.States.{RecorderState}
 use Rattle.cf_hall.proofs.Begun.{begun}
+use Rattle.cf_hall.proofs.Fronts.{opening_doubt}
 use Rattle.cf_hall.proofs.hall.Hall.open.Goals as goal
 
 pub invariant_of-taken : goal.invariant_of-taken
@@ -29,6 +30,9 @@ invariant_of-book g c =
     let parts = c.into_parts-lines.ensures in
     let list = c.record_all.new.recorder.list in
     let here : c.begin-recording.result.list ≡ list = c.begin-recording.ensures.list in
+    let noted : c.begin-recording.result.failed ≡ [] =
+    c.begin-recording.ensures.recorder.failed ∙ c.record_all.ensures.recorder.failed ∙ ap (λ (r : RecorderState). r.failed) c.open_pass.ensures.recorder ∙ c.open_ties-counts.ensures.recorder.3
+    ∙ ap (λ (r : RecorderState). r.failed) c.args.opening.fresh in
     let entries : c.into_parts-lines.result.1.entries ≡ entries_of list = sym (c.entries-entries.ensures.value ∙ c.rest.ensures.entries) ∙ sym c.record_all.ensures.list in
     record {
       plan = ap (λ (a : DurableBook g.row.D.Denot). a.plan) parts.archive ∙ c.requires.plan.0;
@@ -51,6 +55,11 @@ invariant_of-book g c =
       );
       quiet = λ none. ap (λ (a : DurableBook g.row.D.Denot). d.faults a.disk) parts.archive ∙ c.requires.risen;
       clear = λ none. inl (ap (λ (a : DurableBook g.row.D.Denot). a.doubt) parts.archive ∙ c.requires.doubt);
+      failed =
+          ap (λ (t : TotalsState). t.faulted) c.record_all.ensures.totals
+          ∙ ap (λ (t : TotalsState). t.faulted) c.open-totals.ensures.totals
+          ∙ ap length (sym noted);
+      unacknowledged = opening_doubt c.into_parts-lines.result.1.plan g.N.City.doubt (calls_in c.begin-recording.result.failed) c.into_parts-lines.result.1.entries c.into_parts-lines.result.1.doubt (ap (λ (a : DurableBook g.row.D.Denot). a.doubt) parts.archive ∙ c.requires.doubt);
       none_ended = c.begin-recording.ensures.recorder.ended ∙ c.record_all.ensures.recorder.ended ∙ ap (λ (r : RecorderState). r.ended) c.open_pass.ensures.recorder ∙ c.open_ties-counts.ensures.recorder.2
           ∙ ap (λ (r : RecorderState). r.ended) c.args.opening.fresh;
       since = λ tells. inl (ap (λ (a : DurableBook g.row.D.Denot). d.moment a.disk) parts.archive ∙ c.requires.begun);
