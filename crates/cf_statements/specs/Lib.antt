@@ -4,4 +4,5 @@ pub mod Budget
 pub mod Operating
 pub mod Position
 pub mod Sums
+pub mod Tables
 pub mod Titles

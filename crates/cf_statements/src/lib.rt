@@ -10,6 +10,7 @@ mod figures;
 mod operating;
 mod position;
 mod rows;
+mod tables;
 mod titles;
 
 pub use activities::statement_of_activities;

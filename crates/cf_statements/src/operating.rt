@@ -8,48 +8,27 @@ use crate::amounts::{difference, sum};
 use crate::budget::revenue_in;
 use crate::figures::{Figures, in_year};
 use crate::rows::{put_heading, put_single};
+use crate::tables::Side::{Credit, Debit};
+use crate::tables::{AccountRow, Balances, put_table, table_total};
 use cf_calls::Row;
 use cf_chart::{Function, Fund, RevenueSource};
 use std::alloc::{AllocError, Global};
 
-fn put_use<F: Figures>(
-    alloc: Global,
-    rows: &mut Vec<Row>,
-    figures: &F,
-    year: u16,
-    fund: u16,
-    label: &str,
-    account: u32,
-) -> Result<(), AllocError>
-    requires { 1 ≤ year }
-    ensures { OnOk result (rows.new.items ≡ rows.old.items ++ spec.use_row (F.sums figures.now) year fund label.now account ∷ []) }
-{
-    put_single(alloc, rows, label, in_year(figures, year, fund, account))
-}
+/// What a fund spends on besides functions.
+const OUTLAY: [AccountRow; 3] = [
+    AccountRow(Debit, "Capital outlay", 510_000),
+    AccountRow(Debit, "Debt principal", 520_000),
+    AccountRow(Debit, "Debt interest", 530_000),
+];
 
-/// What comes to a fund in the year, by an account that is usually a credit.
-fn source_of<F: Figures>(figures: &F, year: u16, fund: u16, account: u32) -> i128
-    requires { 1 ≤ year }
-    ensures value { result ≡ spec.source_of (F.sums figures.now) year fund account }
-    ensures small { unsigned_abs result < 2 ^ 105 }
-{
-    -in_year(figures, year, fund, account)
-}
-
-fn put_source<F: Figures>(
-    alloc: Global,
-    rows: &mut Vec<Row>,
-    figures: &F,
-    year: u16,
-    fund: u16,
-    label: &str,
-    account: u32,
-) -> Result<(), AllocError>
-    requires { 1 ≤ year }
-    ensures { OnOk result (rows.new.items ≡ rows.old.items ++ spec.source_row (F.sums figures.now) year fund label.now account ∷ []) }
-{
-    put_single(alloc, rows, label, source_of(figures, year, fund, account))
-}
+/// Other financing sources, and transfers out.
+const FINANCING: [AccountRow; 5] = [
+    AccountRow(Credit, "Transfers in", 600_001),
+    AccountRow(Debit, "Transfers out", 610_001),
+    AccountRow(Credit, "Debt proceeds", 600_002),
+    AccountRow(Credit, "Leases issued", 600_004),
+    AccountRow(Credit, "Sale of capital assets", 600_003),
+];
 
 fn put_revenues<F: Figures>(
     alloc: Global,
@@ -119,22 +98,6 @@ fn put_functions<F: Figures>(
     Ok(())
 }
 
-fn put_outlay<F: Figures>(
-    alloc: Global,
-    rows: &mut Vec<Row>,
-    figures: &F,
-    year: u16,
-    fund: u16,
-) -> Result<(), AllocError>
-    requires { 1 ≤ year }
-    ensures { OnOk result (rows.new.items ≡ rows.old.items ++ spec.outlay_rows (F.sums figures.now) year fund) }
-{
-    put_use(alloc, rows, figures, year, fund, "Capital outlay", 510_000)?;
-    put_use(alloc, rows, figures, year, fund, "Debt principal", 520_000)?;
-    put_use(alloc, rows, figures, year, fund, "Debt interest", 530_000)?;
-    Ok(())
-}
-
 fn spent_by_functions<F: Figures>(figures: &F, year: u16, fund: u16, functions: &[Function]) -> i128
     requires year { 1 ≤ year }
     requires few { length functions.now ≤ 64 }
@@ -154,9 +117,7 @@ fn other_expenditures<F: Figures>(figures: &F, year: u16, fund: u16) -> i128
     ensures value { result ≡ spec.other_expenditures (F.sums figures.now) year fund }
     ensures small { unsigned_abs result ≤ 3 * 2 ^ 105 }
 {
-    let principal = in_year(figures, year, fund, 520_000);
-    let debt = sum(principal, in_year(figures, year, fund, 530_000));
-    sum(in_year(figures, year, fund, 510_000), debt)
+    table_total(figures, year, Balances::FundInYear { fund }, &OUTLAY)
 }
 
 /// What a fund spends in the year, on functions, capital assets and debt, in cents (GASB Statement 34, modified accrual basis).
@@ -174,61 +135,14 @@ pub fn total_expenditures<F: Figures>(
     spent_by_functions(figures, year, fund, functions) + other_expenditures(figures, year, fund)
 }
 
-fn put_financing<F: Figures>(
-    alloc: Global,
-    rows: &mut Vec<Row>,
-    figures: &F,
-    year: u16,
-    fund: u16,
-) -> Result<(), AllocError>
-    requires { 1 ≤ year }
-    ensures { OnOk result (rows.new.items ≡ rows.old.items ++ spec.financing_rows (F.sums figures.now) year fund) }
-{
-    put_source(alloc, rows, figures, year, fund, "Transfers in", 600_001)?;
-    put_use(alloc, rows, figures, year, fund, "Transfers out", 610_001)?;
-    put_source(alloc, rows, figures, year, fund, "Debt proceeds", 600_002)?;
-    put_source(alloc, rows, figures, year, fund, "Leases issued", 600_004)?;
-    put_source(
-        alloc,
-        rows,
-        figures,
-        year,
-        fund,
-        "Sale of capital assets",
-        600_003,
-    )?;
-    Ok(())
-}
-
-fn net_transfers<F: Figures>(figures: &F, year: u16, fund: u16) -> i128
-    requires { 1 ≤ year }
-    ensures value { result ≡ spec.net_transfers (F.sums figures.now) year fund }
-    ensures small { unsigned_abs result ≤ 2 * 2 ^ 105 }
-{
-    let transfers_in = source_of(figures, year, fund, 600_001);
-    difference(transfers_in, in_year(figures, year, fund, 610_001))
-}
-
-/// What debt, sales of capital assets and leases bring a fund in the year.
-fn other_sources<F: Figures>(figures: &F, year: u16, fund: u16) -> i128
-    requires { 1 ≤ year }
-    ensures value { result ≡ spec.other_sources (F.sums figures.now) year fund }
-    ensures small { unsigned_abs result ≤ 3 * 2 ^ 105 }
-{
-    let proceeds = source_of(figures, year, fund, 600_002);
-    let sales = source_of(figures, year, fund, 600_003);
-    sum(
-        sum(proceeds, sales),
-        source_of(figures, year, fund, 600_004),
-    )
-}
-
+/// Other financing sources, which are credits, less uses.
 fn total_financing<F: Figures>(figures: &F, year: u16, fund: u16) -> i128
     requires { 1 ≤ year }
     ensures value { result ≡ spec.total_financing (F.sums figures.now) year fund }
     ensures small { unsigned_abs result ≤ 5 * 2 ^ 105 }
 {
-    net_transfers(figures, year, fund) + other_sources(figures, year, fund)
+    let balance = table_total(figures, year, Balances::FundInYear { fund }, &FINANCING);
+    difference(0, balance)
 }
 
 /// Revenues less expenditures, and other financing sources less uses.
@@ -281,8 +195,9 @@ fn put_expenditures<F: Figures>(
         ++ (spec.outlay_rows (F.sums figures.now) year fund ++ single total.now (spec.total_expenditures (F.sums figures.now) year fund (F.plan figures.now).functions) ∷ []))) }
 {
     let functions = figures.chart().functions();
+    let of = Balances::FundInYear { fund };
     put_functions(alloc, rows, figures, year, fund, functions)?;
-    put_outlay(alloc, rows, figures, year, fund)?;
+    put_table(alloc, rows, figures, year, of, &OUTLAY)?;
     put_single(
         alloc,
         rows,
@@ -305,7 +220,8 @@ fn put_changes<F: Figures>(
     ensures { OnOk result (rows.new.items ≡ rows.old.items ++ (spec.financing_rows (F.sums figures.now) year fund
         ++ single net.now (spec.net_change (F.plan figures.now) (F.sums figures.now) year fund) ∷ [])) }
 {
-    put_financing(alloc, rows, figures, year, fund)?;
+    let of = Balances::FundInYear { fund };
+    put_table(alloc, rows, figures, year, of, &FINANCING)?;
     put_single(alloc, rows, net, net_change(figures, year, fund))?;
     Ok(())
 }
