@@ -148,6 +148,9 @@ old serve --doors 2" serve --doors 2
 old found" found
     chmod 666 "$scratch/desk/fund.journal"
     told "a journal that can be written" "old desk" desk
+    chmod 311 "$scratch/desk"
+    told "a folder that can't be read, which a run syncs" "cityfund: user $user can't read the folder $scratch/desk
+old desk" desk
     chmod 777 "$scratch/desk"
     rm "$scratch/desk/fund.journal"
     told "a folder that can be written" "old found" found

@@ -24,14 +24,14 @@ impl Lock for File {
 /// A disk over a file, of the system or of what stands in for it. Its first call opens the file and locks it, so that no
 /// second program that does the same writes it; a file that can't be opened, or that another holds, is a fault of that
 /// call. A missing file has no bytes, and is made by the first write or cut. Each sync is one of the system: of the file's
-/// data, and, where this disk made the file, of the folder that it lies in.
+/// data, and, until one has succeeded, of the folder that it lies in.
 #[derive(Drop)]
 pub struct FileDisk<'a, R: Files> {
     files: &'a R,
     path: &'a str,
     file: Option<R::File>,
-    /// Whether the folder is still to be synced, since the file was made.
-    is_new: bool,
+    /// Whether this disk has synced the folder.
+    is_folder_synced: bool,
     faults: u64,
 }
 
@@ -45,7 +45,7 @@ where
             files,
             path,
             file: None,
-            is_new: false,
+            is_folder_synced: false,
             faults: 0,
         }
     }
@@ -80,7 +80,6 @@ where
                 .open(self.files, self.path)
                 .ok()?;
             self.hold(file)?;
-            self.is_new = true;
         }
         Some(())
     }
@@ -96,22 +95,23 @@ where
         Some(())
     }
 
-    /// Syncs the folder of a file that was made, so that the file is found again after a power cut.
+    /// Syncs the folder once, so that the file is found again after a power cut. A disk does so whoever made the file: the
+    /// run that made it may have ended before its first sync.
     fn sync_folder(&mut self) -> Option<()>
         ensures { self.new.faults ≡ self.old.faults }
     {
-        if self.is_new {
+        if !self.is_folder_synced {
             let folder = OpenOptions::new()
                 .read(true)
                 .open(self.files, folder_of(self.path))
                 .ok()?;
             folder.sync_all().ok()?;
-            self.is_new = false;
+            self.is_folder_synced = true;
         }
         Some(())
     }
 
-    /// Syncs the file's data, and the folder of a file that was made.
+    /// Syncs the file's data, and the folder if it wasn't yet.
     fn sync_both(&mut self) -> Option<()>
         ensures { self.new.faults ≡ self.old.faults }
     {
