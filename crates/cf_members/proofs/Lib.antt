@@ -1,3 +1,5 @@
+pub mod Days
+pub mod Items
 pub mod LeastNames
 pub mod Names
 pub mod Numbers

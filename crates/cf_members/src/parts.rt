@@ -110,6 +110,27 @@ pub fn put_field(out: &mut Vec<u8>, name: &str, part: &Part<'_>) -> Result<(), A
     put_part(out, part)
 }
 
+/// Appends a field, after a comma where it isn't the first.
+#[tactic(auto, unfolding(crate::specs::Objects::text_of))]
+fn put_next_field(
+    out: &mut Vec<u8>,
+    later: bool,
+    name: &str,
+    part: &Part<'_>,
+) -> Result<(), AllocError>
+    requires name { list_all is_plain name.now ≡ true }
+    requires part { is_plain_part part.now ≡ true }
+    ensures text { OnOk result (out.new.items ≡ out.old.items ++ (comma_if later ++ (quoted name.now ++ 58 ∷ text_of (part_data part.now)))) }
+    ensures longer { vec_len out.new ≤ vec_len out.old + (length name.now + part_room part.now + 4) }
+    ensures room { vec_len out.old + (length name.now + part_room part.now + 4) ≤ vec_capacity out.old → IsOk result }
+    ensures capacity { vec_capacity out.old ≤ vec_capacity out.new }
+{
+    if later {
+        out.push(b',')?;
+    }
+    put_field(out, name, part)
+}
+
 /// Appends the fields of an object, from the comma or the opening on to the closing bracket.
 #[tactic(auto, unfolding(crate::specs::Objects::text_of))]
 pub fn put_object(out: &mut Vec<u8>, fields: &[(&str, Part<'_>)]) -> Result<(), AllocError>
@@ -122,10 +143,7 @@ pub fn put_object(out: &mut Vec<u8>, fields: &[(&str, Part<'_>)]) -> Result<(), 
     out.push(b'{')?;
     let mut later = false;
     for field in fields {
-        if later {
-            out.push(b',')?;
-        }
-        put_field(out, field.0, &field.1)?;
+        put_next_field(out, later, field.0, &field.1)?;
         later = true;
     }
     out.push(b'}')?;
