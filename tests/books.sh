@@ -1,8 +1,8 @@
 #!/bin/sh
 # Tries the program `books` on the journals of the examples: their calls, sent to a desk over a newly founded journal, make the
 # same file; a Rivertown journal moves to a chart with a line and a desk more; a journal that is cut at any byte gives the
-# whole entries before the cut; payments have their amounts; the lines of a fund with a later level say their years; an entry that
-# the office refuses is named. Then what it refuses. BOOKS names another program than the one that rt built last.
+# whole entries before the cut; payments have their amounts; the lines of a fund with a later level say their years; the vouchers of
+# a grant stand as they were worked out by hand, and each fault of its document is named; an entry that the office refuses is named. Then what it refuses. BOOKS names another program than the one that rt built last.
 cd "$(dirname "$0")/.." || exit 1
 top=$(pwd)
 . tests/program.sh
@@ -105,6 +105,87 @@ fund 1 is controlled by department from 2027" check-chart ../again/chart.toml
 4\t2\tStreet Fund\t20\tStreets\tall objects\t
 8\t1\tGeneral Fund\t20\tStreets\tall objects (from 2027)\t\n' | cmp - got)
 verdict "which years a line is of" $?
+
+# ---- grants
+
+# rows NAME TEXT: how the vouchers of grant 7 stand in the journal of the folder `grants`.
+rows() {
+    folder=$scratch/grants
+    expect "$1" 0 "$2" claims 7
+    folder=$scratch/first
+}
+
+# said TALK: the desk takes a talk of examples/grants/.
+said() {
+    (cd "$scratch/grants" && "$program" desk < "$top/examples/grants/$1.jsonl" > replies && cmp replies "$top/examples/grants/$1.replies")
+    verdict "the talk $1 of a grant" $?
+}
+
+# document FAULT TEXT: the document of the folder `grants` is refused with these words, by both commands.
+document() {
+    folder=$scratch/grants
+    expect "a document of grants with $1" 19 "books: grants refused: $2" check-grants document
+    expect "the same for its claims" 19 "books: grants refused: $2" claims 7 document
+    folder=$scratch/first
+}
+
+mkdir "$scratch/grants"
+found grants examples/rivertown/chart.toml
+cp examples/grants/grants.toml "$scratch/grants"
+said autumn
+rows "how the vouchers of a grant stand" "1	2025-09-10	2026	10000.00	8000.00	claimable	8000.00		12000.00
+2	2025-10-06	2026	4000.55	3200.44	claimable	3200.44		8799.56
+4	2025-11-14	2026	7333.33	5866.66	claimable	5866.66		2932.90
+5	2025-12-05	2026	600.00	480.00	unpaid			2932.90
+6	2025-12-19	2026	5000.00	4000.00	unpaid			2932.90"
+said january
+rows "the same with three of them claimed" "1	2025-09-10	2026	10000.00	8000.00	claimed		1	2932.90
+2	2025-10-06	2026	4000.55	3200.44	claimed		2	2932.90
+4	2025-11-14	2026	7333.33	5866.66	claimed		3	2932.90
+5	2025-12-05	2026	600.00	480.00	unpaid			2932.90
+6	2025-12-19	2026	5000.00	4000.00	unpaid			2932.90"
+said spring
+[ "$(cd "$scratch/grants" && "$books" claims 7 --csv | sed -n '1p;6p')" = "voucher,day,year,eligible,share,state,amount,bill,left
+6,2025-12-19,2026,5000.00,4000.00,claimable,2932.90,,0.00" ]
+verdict "a claim that the award cuts, as records" $?
+said april
+said summer
+[ "$(cd "$scratch/grants" && "$books" claims 7 | tail -n 1)" = "7	2026-06-10	2026	700.00	560.00	nothing left			0.00" ]
+verdict "a voucher past the award" $?
+folder=$scratch/grants
+expect "a document of grants" 0 "grants: 1
+grant 7: source 3, payer 9, award 20000.00, rate_bp 8000, lines 1" check-grants
+: > "$scratch/grants/document"
+expect "a document without a grant" 0 "grants: 0" check-grants document
+expect "a grant that the document hasn't" 19 "books: grants refused: no grant 8" claims 8
+expect "no document" 4 "books: read fault" check-grants nowhere
+expect "a grant that is no number" 2 "books: bad words" claims 07
+expect "records of no list" 2 "books: bad words" check-grants --csv
+mkdir "$scratch/alone"
+cp "$scratch/grants/grants.toml" "$scratch/alone"
+folder=$scratch/alone
+expect "no journal beside the document" 4 "books: read fault" check-grants
+folder=$scratch/first
+grants=examples/grants/grants.toml
+document=$scratch/grants/document
+{ cat "$grants" && head -c 1048576 /dev/zero | tr '\0' '\n'; } > "$document" && document "more than 1,048,576 bytes" "longer than 1048576 bytes"
+echo "[[grant]" > "$document" && document "no TOML" "no TOML document"
+echo "grant = 7" > "$document" && document "a grant that is no table" "grant 0 has a bad grant"
+cat "$grants" "$grants" > "$document" && document "a grant twice" "grant 1 (id 7) stands twice"
+{ cat "$grants" && sed 's/^id = 7/id = 8/' "$grants"; } > "$document" && document "a source twice" "grant 1 (id 8) stands twice"
+for id in $(seq 1 65); do sed "s/^id = 7/id = $id/" "$grants"; done > "$document" && document "65 grants" "more than 64 grants"
+sed '/^id = /d' "$grants" > "$document" && document "no id" "grant 0 has no id"
+for fault in "id = true" "id = 0" "id = 10000"; do
+    sed "s/^id = .*/$fault/" "$grants" > "$document" && document "$fault" "grant 0 has a bad id"
+done
+for key in source payer award rate_bp lines; do
+    sed "/^$key = /d" "$grants" > "$document" && document "no $key" "grant 0 (id 7) has no $key"
+    sed "s/^$key = .*/$key = true/" "$grants" > "$document" && document "a $key of another type" "grant 0 (id 7) has a bad $key"
+done
+for fault in "source = 1" "source = 4" "payer = -1" "payer = 4294967296" "award = 0" "award = 10000000000001" "rate_bp = 0" "rate_bp = 10001" \
+    "lines = []" "lines = [3]" "lines = [8]" "lines = [4, 4]"; do
+    sed "s/^${fault%% *} = .*/$fault/" "$grants" > "$document" && document "$fault" "grant 0 (id 7) has a bad ${fault%% *}"
+done
 
 # ---- a journal that is cut
 

@@ -3,20 +3,28 @@
 
 use cf_base::{FileSource, StdSink};
 use cf_books::{Status, run, tell};
-use cf_books_words::{WordsRefused, read_words};
+use cf_books_words::{JOURNAL, WordsRefused, read_words};
 use std::process::ExitCode;
 use std::{env, io};
 
 const HELP: &str = "\
 books check-chart [FILE]    says what a chart has, or its first fault (FILE: chart.toml)
+books check-grants [FILE]   says what a document of grants has, or its first fault (FILE: grants.toml)
 books check [FILE]          says what a journal has, or where it is damaged (FILE: fund.journal)
 books list [FILE] [--csv]   prints a row an entry: place, day, desk, key, call, amount, numbers drawn
 books calls [FILE]          prints the entries as calls, which make the journal again
+books posts [FILE]          prints the posts of the entries, or those of --year Y, --fund F, --account A
+books balances YEAR [FILE]  prints the balance of each account through a fiscal year, on both bases
+books open [FILE]           prints what is open, and what is closed
 books chart [FILE]          prints the chart that a journal keeps
 books lines [FILE]          prints its control lines, or those of a chart, with numbers and names
+books claims GRANT [FILE] [--csv]
+                            prints a row a voucher of a grant: what is eligible, the share, whether it is claimed
+                            (FILE: grants.toml; both commands on grants read fund.journal too)
 books --help                prints this
 books --version             prints the version
 
+list, posts, balances and open print records below a row of names with --csv.
 Each command only reads. docs/BOOKS.md says how a run ends, and what to do then.
 ";
 
@@ -57,8 +65,15 @@ fn run_words(rt: &HostRuntime, words: &[String]) -> Status {
     match read_words(rt.alloc(), words) {
         Ok(request) => {
             let mut source = FileSource::new(rt, request.path());
+            let mut journal = FileSource::new(rt, JOURNAL);
             let mut out = StdSink::new(rt.stdout());
-            run(rt.alloc(), request.command, &mut source, &mut out)
+            run(
+                rt.alloc(),
+                request.command,
+                &mut source,
+                &mut journal,
+                &mut out,
+            )
         }
         Err(WordsRefused::BadWords) => Status::BadWords,
         Err(WordsRefused::NoMemory) => Status::NoMemory,

@@ -10,3 +10,4 @@ mod GovPosts
 mod PositionChange
 pub mod ReadCharts
 pub mod Articulated
+pub mod TrialBalances

@@ -28,10 +28,10 @@ counted : (plan : Plan) (fund : ℕ) (p : Post) → IsFundPost plan p → IsCoun
 counted plan fund p is same = subst (λ f. times p.account (operating_accounts plan f) ≡ (if is_change p then 1 else 0)) (number_is p.fund fund same) is.row
 
 -- what the accounts of the rows come to through a year
-abbrev through : Plan → ℕ → ℕ → List Entry → ℤ
+abbrev pub through : Plan → ℕ → ℕ → List Entry → ℤ
 through plan year fund h = int_sum (λ a. balance_of FundBasis plan year fund a h) (operating_accounts plan fund)
 
-turned : (plan : Plan) (year fund : ℕ) (h : List Entry) → HasOwnAccounts plan → IsLegal plan h → fund_balance plan year fund h +ℤ through plan year fund h ≡ pos 0
+pub turned : (plan : Plan) (year fund : ℕ) (h : List Entry) → HasOwnAccounts plan → IsLegal plan h → fund_balance plan year fund h +ℤ through plan year fund h ≡ pos 0
 turned plan year fund h own legal =
     ap (λ z. fund_balance plan year fund h +ℤ z)
     (balances_sum (operating_accounts plan fund) is_change year fund (posts_in FundBasis plan h)

@@ -1,2 +1,3 @@
 pub mod Articulates
 pub mod OwnAccounts
+pub mod TrialBalances

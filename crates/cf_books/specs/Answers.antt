@@ -1,5 +1,5 @@
 -- What each command answers: a function of the bytes of its file.
-use Rattle.std.specs.Prelude.{◌≡◌, ⊤, ℕ, zero, suc, ◌+◌, ◌-◌, List, [], ◌∷◌, length, Option, Some, None, Result, Ok, Err}
+use Rattle.std.specs.Prelude.{◌≡◌, ⊤, ℕ, zero, suc, ◌+◌, ◌-◌, Bool, true, false, List, [], ◌∷◌, length, Option, Some, None, Result, Ok, Err}
 use Rattle.std.specs.Io.KnownBytes.{Appends}
 use Rattle.cf_book.specs.DurableState.{DurableBook}
 use Rattle.cf_book.specs.Recovery.{recovered}
@@ -10,18 +10,30 @@ use Rattle.cf_chart.specs.declared.fault.ChartFault.{ChartFault}
 use Rattle.cf_chart.specs.declared.fault.ChartFault.TheVariants as fault
 use Rattle.cf_chart.specs.Plan.{Plan}
 use Rattle.cf_chart.specs.Reading.{chart_of}
+use Rattle.cf_claims.specs.Standing.{vouchers_of_grant}
+use Rattle.cf_claims.specs.declared.standing.GrantVoucher.{GrantVoucher}
 use Rattle.cf_desk.specs.Sinks.{Wrote}
+use Rattle.cf_grants.specs.Faults.{Checked}
+use Rattle.cf_grants.specs.Reading.{grants_of}
+use Rattle.cf_grants.specs.declared.fault.GrantFault.{GrantFault}
+use Rattle.cf_grants.specs.declared.grant.Grant.{Grant}
 use Rattle.cf_journal.specs.Frames.{frames}
 use Rattle.cf_journal.specs.Records.{record_len}
 use Rattle.cf_journal.specs.declared.refused.OpenRefused.{OpenRefused}
 use Rattle.cf_journal.specs.declared.refused.OpenRefused.TheVariants as open_refused
 use Rattle.cf_model.specs.State.{OfficeState}
 use Rattle.cf_books_words.specs.declared.words.Command.{Command}
-use Rattle.cf_books_words.specs.declared.words.Command.TheVariants.{CheckChart, Check, List as Listing, Calls, Chart, Lines}
+use Rattle.cf_books_words.specs.declared.words.Command.TheVariants.{CheckChart, CheckGrants, Check, Claims, List as Listing, Calls, Chart, Lines, Posts, Balances, Open}
+use Rattle.cf_books_grants.specs.Documents.{document_text}
+use Rattle.cf_books_grants.specs.FaultIds.{fault_id as grant_fault_id}
+use Rattle.cf_books_grants.specs.Vouchers.{vouchers_text}
 use Rattle.cf_books.specs.declared.answers.Answer.{Answer}
 use Rattle.cf_books.specs.declared.status.Status.{Status}
 use Rattle.cf_books.specs.declared.status.Status.TheVariants as status
 use Rattle.cf_books.specs.Calls.{call_line, calls_text}
+use Rattle.cf_books_lists.specs.Balances.{balances_of}
+use Rattle.cf_books_lists.specs.Open.{open_text}
+use Rattle.cf_books_lists.specs.Posts.{posts_of}
 use Rattle.cf_books.specs.FaultRows.{fault_id}
 use Rattle.cf_books.specs.Lines.{lines_text}
 use Rattle.cf_books.specs.Listing.{list_text}
@@ -113,20 +125,73 @@ refused_said bytes (NotFounded len byte) = nothing (status.NotFounded len)
 refused_said bytes Disk = nothing status.NoMemory
 refused_said bytes NoMemory = nothing status.NoMemory
 
-abbrev pub office_text : OfficeState → List ℕ
-office_text s = journal_text s.entries
+-- the posts, the balances and what is open are those of the history that the bytes recover to
+abbrev pub office_text : Command → OfficeState → List ℕ
+office_text (Posts filter csv) s = posts_of csv filter s.plan s.entries
+office_text (Balances year csv) s = balances_of csv year s.plan s.entries
+office_text (Open csv) s = open_text csv s.plan s.entries
+office_text _ s = journal_text s.entries
 
-abbrev pub office_said : List ℕ → Result OfficeState BookRefused → Said
-office_said bytes (Ok s) = record { out = office_text s; status = status.Done }
-office_said bytes (Err e) = refused_said bytes e
+-- what is told of the office of these bytes, or why there is none
+abbrev pub over_office : (OfficeState → Said) → List ℕ → Result OfficeState BookRefused → Said
+over_office told bytes (Ok s) = told s
+over_office told bytes (Err e) = refused_said bytes e
+
+abbrev pub office_told : Command → OfficeState → Said
+office_told command s = record { out = office_text command s; status = status.Done }
+
+abbrev pub office_said : Command → List ℕ → Result OfficeState BookRefused → Said
+office_said command bytes x = over_office (office_told command) bytes x
+
+-- ---- a document of grants, under the chart or over the history of a journal
+
+-- its first fault, with the id of the grant that it is in
+abbrev pub refused_document : List ℕ → GrantFault → Said
+refused_document bytes f = nothing (status.GrantsRefused f (grant_fault_id bytes f))
+
+abbrev pub document_said : List ℕ → Checked (List Grant) → Said
+document_said bytes (Ok grants) = record { out = document_text grants; status = status.Done }
+document_said bytes (Err f) = refused_document bytes f
+
+abbrev pub under_chart : List ℕ → List ℕ → Result Plan ChartFault → Said
+under_chart bytes chart (Ok plan) = document_said bytes (grants_of plan bytes)
+under_chart bytes chart (Err f) = nothing (status.ChartRefused f (fault_id chart f))
+
+-- what the document has under the chart that the journal keeps
+abbrev pub grants_said : List ℕ → Result Parts OpenRefused → Said
+grants_said bytes (Ok p) = under_chart bytes p.chart (chart_of p.chart)
+grants_said bytes (Err e) = nothing (refusal_of e)
+
+abbrev pub rows_said : Bool → List ℕ → Checked (List GrantVoucher) → Said
+rows_said csv bytes (Ok rows) = record { out = vouchers_text csv rows; status = status.Done }
+rows_said csv bytes (Err f) = refused_document bytes f
+
+-- how the vouchers of a grant stand in the office's history
+abbrev pub vouchers_said : ℕ → Bool → List ℕ → OfficeState → Said
+vouchers_said id csv bytes s = rows_said csv bytes (vouchers_of_grant s.plan s.entries bytes id)
 
 -- ---- any command
 
 abbrev pub said : Command → List ℕ → Said
 said CheckChart bytes = chart_said bytes (chart_of bytes)
 said Lines bytes = lines_said bytes (whole_of bytes)
-said Check bytes = office_said bytes (recovered bytes)
+said Check bytes = office_said Check bytes (recovered bytes)
+said (Posts filter csv) bytes = office_said (Posts filter csv) bytes (recovered bytes)
+said (Balances year csv) bytes = office_said (Balances year csv) bytes (recovered bytes)
+said (Open csv) bytes = office_said (Open csv) bytes (recovered bytes)
 said command bytes = whole_said command (length bytes) (whole_of bytes)
+
+-- whether a command reads a journal beside its file
+abbrev pub reads_journal : Command → Bool
+reads_journal CheckGrants = true
+reads_journal (Claims id csv) = true
+reads_journal _ = false
+
+-- the same with the bytes of that journal
+abbrev pub said_with : Command → List ℕ → List ℕ → Said
+said_with CheckGrants bytes journal = grants_said bytes (whole_of journal)
+said_with (Claims id csv) bytes journal = over_office (vouchers_said id csv bytes) journal (recovered journal)
+said_with command bytes journal = said command bytes
 
 -- the answer is this one, or there was no memory for it
 abbrev pub view : Answer → Said
@@ -150,6 +215,11 @@ abbrev pub Opens : {D : Type 0} → Result (DurableBook D) BookRefused → Resul
 Opens (Ok b) x = x ≡ Ok (opened b)
 Opens (Err e) x = Refuses e x
 
+-- the same of a book with what was gathered of its entries
+abbrev pub OpensWith : {D T : Type 0} → Result (DurableBook D × T) BookRefused → Result OfficeState BookRefused → Type 0
+OpensWith (Ok b) x = x ≡ Ok (opened b.0)
+OpensWith (Err e) x = Refuses e x
+
 -- ---- a run
 
 -- the bytes that the source had left, where it tells them
@@ -157,23 +227,36 @@ abbrev pub AreLeft : Option (List ℕ) → List ℕ → Type 0
 AreLeft None bytes = ⊤
 AreLeft (Some left) bytes = left ≡ bytes
 
--- the output got the whole answer
-pub record Gave (command : Command) (left : Option (List ℕ)) (held held' : Option (List ℕ)) (s : Status) : Type 0 where
+-- the bytes of the journal beside the file, where the command reads one
+abbrev pub IsBeside : Bool → Option (List ℕ) → List ℕ → Type 0
+IsBeside true left journal = AreLeft left journal
+IsBeside false left journal = ⊤
+
+-- the bytes that a command reads: those of its file, and of the journal beside it
+pub record Inputs (command : Command) (left beside : Option (List ℕ)) : Type 0 where
   pub bytes : List ℕ
+  pub journal : List ℕ
   pub all : AreLeft left bytes
-  pub is : (said command bytes).status ≡ s
-  pub put : Appends held held' (said command bytes).out
+  pub whole : IsBeside (reads_journal command) beside journal
+
+abbrev pub answered : {command : Command} {left beside : Option (List ℕ)} → Inputs command left beside → Said
+answered {command = command} i = said_with command i.bytes i.journal
+
+-- the output got the whole answer
+pub record Gave (command : Command) (left beside held held' : Option (List ℕ)) (s : Status) : Type 0 where
+  pub inputs : Inputs command left beside
+  pub is : (answered inputs).status ≡ s
+  pub put : Appends held held' (answered inputs).out
 
 -- the output got a front of it
-pub record GaveFront (command : Command) (left : Option (List ℕ)) (held held' : Option (List ℕ)) : Type 0 where
-  pub bytes : List ℕ
-  pub all : AreLeft left bytes
+pub record GaveFront (command : Command) (left beside held held' : Option (List ℕ)) : Type 0 where
+  pub inputs : Inputs command left beside
   pub rest : List ℕ
-  pub put : Wrote held held' (said command bytes).out rest
+  pub put : Wrote held held' (answered inputs).out rest
 
--- the output got nothing where the file can't be read or there is no memory
-abbrev pub Ends : Command → Option (List ℕ) → Option (List ℕ) → Option (List ℕ) → Status → Type 0
-Ends command left held held' status.ReadFault = Appends held held' []
-Ends command left held held' status.NoMemory = Appends held held' []
-Ends command left held held' status.WriteFault = GaveFront command left held held'
-Ends command left held held' s = Gave command left held held' s
+-- the output got nothing where a file can't be read or there is no memory
+abbrev pub Ends : Command → Option (List ℕ) → Option (List ℕ) → Option (List ℕ) → Option (List ℕ) → Status → Type 0
+Ends command left beside held held' status.ReadFault = Appends held held' []
+Ends command left beside held held' status.NoMemory = Appends held held' []
+Ends command left beside held held' status.WriteFault = GaveFront command left beside held held'
+Ends command left beside held held' s = Gave command left beside held held' s

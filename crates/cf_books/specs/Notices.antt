@@ -4,10 +4,11 @@ use Rattle.cf_chart.specs.Faults.{word_of}
 use Rattle.cf_chart.specs.declared.fault.ChartFault.{ChartFault}
 use Rattle.cf_chart.specs.declared.fault.ChartFault.TheVariants as fault
 use Rattle.cf_chart.specs.declared.fault.TableName.{TableName}
+use Rattle.cf_books_grants.specs.Faults.{fault_text as grant_fault_text}
 use Rattle.cf_books.specs.FaultRows.{table_word}
 use Rattle.cf_books.specs.declared.status.RefusedEntry.{RefusedEntry}
 use Rattle.cf_books.specs.declared.status.Status.{Status}
-use Rattle.cf_books.specs.declared.status.Status.TheVariants.{Done, BadWords, ChartRefused, ReadFault, WriteFault, NotFounded, Damaged, NoMemory, Cut}
+use Rattle.cf_books.specs.declared.status.Status.TheVariants.{Done, BadWords, ChartRefused, GrantsRefused, ReadFault, WriteFault, NotFounded, Damaged, NoMemory, Cut}
 
 -- ---- a chart's fault, in the words of `docs/CHART.md`
 
@@ -56,6 +57,7 @@ abbrev pub status_text : Status → List ℕ
 status_text Done = []
 status_text BadWords = codes "bad words"
 status_text (ChartRefused f id) = codes "chart refused: " ++ fault_text f id
+status_text (GrantsRefused f id) = codes "grants refused: " ++ grant_fault_text f id
 status_text ReadFault = codes "read fault"
 status_text WriteFault = codes "write fault"
 status_text (NotFounded len) = codes "not founded: the file has " ++ (decimal len ++ codes " bytes")

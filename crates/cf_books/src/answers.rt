@@ -10,12 +10,15 @@ ghost use Rattle.cf_books.specs.Whole.{parts, whole_of};
 
 use crate::calls::put_calls;
 use crate::fault_rows::fault_id;
+use crate::grants::{claims_answer, grants_answer};
 use crate::lines::lines_text;
 use crate::listing::list_text;
+use crate::lists::{balances_answer, open_answer, posts_answer};
 use crate::office::office_answer;
 use crate::status::Status;
 use crate::summary::put_chart;
 use crate::whole::{Whole, read_whole};
+use cf_books_lists::Layout;
 use cf_books_words::Command;
 use cf_chart::{Chart, ChartFault, ChartRefused};
 use cf_journal::OpenRefused;
@@ -172,14 +175,26 @@ fn lines_answer(alloc: Global, bytes: &[u8]) -> Result<Answer, AllocError>
     }
 }
 
-/// What a command answers of its file's bytes.
-pub fn answer_of(alloc: Global, command: Command, bytes: &[u8]) -> Result<Answer, AllocError>
-    ensures { Answers result (spec.said command bytes.now) }
+/// What a command answers of its file's bytes, and of those of the journal beside it where it reads one.
+pub fn answer_of(
+    alloc: Global,
+    command: Command,
+    bytes: &[u8],
+    journal: &[u8],
+) -> Result<Answer, AllocError>
+    ensures { Answers result (spec.said_with command bytes.now journal.now) }
 {
     match command {
+        Command::CheckGrants => grants_answer(alloc, bytes, journal),
+        Command::Claims { grant, csv } => {
+            claims_answer(Layout { alloc, csv }, grant, bytes, journal)
+        }
         Command::CheckChart => chart_answer(alloc, bytes),
         Command::Lines => lines_answer(alloc, bytes),
         Command::Check => office_answer(alloc, bytes),
+        Command::Posts { filter, csv } => posts_answer(Layout { alloc, csv }, filter, bytes),
+        Command::Balances { year, csv } => balances_answer(Layout { alloc, csv }, year, bytes),
+        Command::Open { csv } => open_answer(Layout { alloc, csv }, bytes),
         _ => whole_answer(alloc, command, bytes),
     }
 }

@@ -162,6 +162,10 @@ fn put_status(out: &mut Vec<u8>, status: Status) -> Result<(), AllocError>
             put_text(out, "chart refused: ")?;
             put_fault(out, fault, id)
         }
+        Status::GrantsRefused { fault, id } => {
+            put_text(out, "grants refused: ")?;
+            cf_books_grants::put_fault(out, fault, id)
+        }
         Status::ReadFault => out.extend_from_slice(b"read fault"),
         Status::WriteFault => out.extend_from_slice(b"write fault"),
         Status::NotFounded { len } => {

@@ -3,6 +3,8 @@
 ghost use Rattle.std.specs.Prelude.{◌≡◌, IfOk, Result};
 ghost use Rattle.cf_book.specs.Recovery.{recovered};
 ghost use Rattle.cf_book.specs.declared.refused.BookRefused.{BookRefused as BookRefusal};
+ghost use Rattle.cf_books_words.specs.declared.words.Command.{Command};
+ghost use Rattle.cf_books_words.specs.declared.words.Command.TheVariants.{Check};
 ghost use Rattle.cf_books.specs.Answers as spec;
 ghost use Rattle.cf_books.specs.Answers.{Answers, Opens, Refuses, opened};
 ghost use Rattle.cf_model.specs.State.{OfficeState};
@@ -16,7 +18,7 @@ use cf_disk::MemDisk;
 use std::alloc::{AllocError, Global};
 
 /// The book of a journal's bytes, or why they aren't those of an office. All entries are judged by the rules again.
-fn open_book(alloc: Global, bytes: Vec<u8>) -> Result<Book<MemDisk>, BookRefused>
+pub(crate) fn open_book(alloc: Global, bytes: Vec<u8>) -> Result<Book<MemDisk>, BookRefused>
     ensures { Opens result (recovered bytes.items) }
 {
     let Ok(disk) = MemDisk::new(alloc, bytes) else {
@@ -29,8 +31,12 @@ fn open_book(alloc: Global, bytes: Vec<u8>) -> Result<Book<MemDisk>, BookRefused
 }
 
 /// What is said where no book was opened.
-fn refused_answer(alloc: Global, bytes: &[u8], why: BookRefused) -> Result<Answer, AllocError>
-    ensures { (x : Result OfficeState BookRefusal) → Refuses why x → Answers result (spec.office_said bytes.now x) }
+pub(crate) fn refused_answer(
+    alloc: Global,
+    bytes: &[u8],
+    why: BookRefused,
+) -> Result<Answer, AllocError>
+    ensures { (told : OfficeState → spec.Said) (x : Result OfficeState BookRefusal) → Refuses why x → Answers result (spec.over_office told bytes.now x) }
 {
     match why {
         BookRefused::NotFounded { len, byte: _ } => Ok(nothing(alloc, Status::NotFounded { len })),
@@ -46,9 +52,9 @@ fn refused_answer(alloc: Global, bytes: &[u8], why: BookRefused) -> Result<Answe
     }
 }
 
-/// What a command prints of a book.
+/// What is printed of a book that is checked.
 fn book_text(alloc: Global, book: Book<MemDisk>) -> Result<Vec<u8>, AllocError>
-    ensures { IfOk result (λ v. v.items ≡ spec.office_text (opened book)) }
+    ensures { IfOk result (λ v. v.items ≡ spec.office_text Check (opened book)) }
 {
     let (_, archive) = book.into_parts();
     let mut out = Vec::new(alloc);
@@ -56,9 +62,9 @@ fn book_text(alloc: Global, book: Book<MemDisk>) -> Result<Vec<u8>, AllocError>
     Ok(out)
 }
 
-/// What a command answers of a journal whose entries the office takes again.
+/// What is said of a journal whose entries the office takes again.
 pub fn office_answer(alloc: Global, bytes: &[u8]) -> Result<Answer, AllocError>
-    ensures { Answers result (spec.office_said bytes.now (recovered bytes.now)) }
+    ensures { Answers result (spec.office_said Check bytes.now (recovered bytes.now)) }
 {
     let copy = Vec::from_slice(alloc, bytes)?;
     match open_book(alloc, copy) {

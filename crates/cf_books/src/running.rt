@@ -1,8 +1,9 @@
-//! A run: the file's bytes, the answer, and what is said on standard error.
+//! A run: the files' bytes, the answer, and what is said on standard error.
 
-ghost use Rattle.std.specs.Prelude.{◌≡◌, ◌≢◌};
+ghost use Rattle.std.specs.Prelude.{◌≡◌, ◌≢◌, ◌⊎◌, false, Err, IfOk, OnOk};
 ghost use Rattle.cf_base.specs.Causes.{Rose};
-ghost use Rattle.cf_books.specs.Answers.{Ends};
+ghost use Rattle.cf_books.specs.Answers as spec;
+ghost use Rattle.cf_books.specs.Answers.{Ends, IsBeside};
 
 use crate::answers::answer_of;
 use crate::notices::put_notice;
@@ -12,26 +13,59 @@ use cf_books_words::Command;
 use cf_desk::{Unread, read_all, write_all};
 use std::alloc::Global;
 
-/// Runs a command over the bytes of its file. The file is only read: nothing else of it can be asked of a source. What
-/// is read of a journal that a desk writes to meanwhile isn't said to be a state that it had (`docs/JOURNAL.md`).
-pub fn run<S: Source, K: Sink>(
+/// Whether a command reads a journal beside its file.
+fn reads_journal(command: Command) -> bool
+    ensures { result ≡ spec.reads_journal command }
+{
+    matches!(command, Command::CheckGrants | Command::Claims { .. })
+}
+
+/// The bytes of the journal beside a command's file, where it reads one. The other commands leave it unread.
+fn read_beside<J: Source>(
+    alloc: Global,
+    command: Command,
+    journal: &mut J,
+) -> Result<Vec<u8>, Unread>
+    ensures ok { IfOk result (λ v. IsBeside (spec.reads_journal command) (J.left journal.old) v.items) }
+    ensures fault { result ≡ Err Unread.Fault → Rose (J.faults journal.old) (J.faults journal.new) }
+    ensures memory { result ≡ Err Unread.NoMemory → J.faults journal.new ≡ J.faults journal.old }
+    ensures quiet { OnOk result (J.faults journal.new ≡ J.faults journal.old) }
+    ensures unread { spec.reads_journal command ≡ false → journal.new ≡ journal.old }
+{
+    if !reads_journal(command) {
+        return Ok(Vec::new(alloc));
+    }
+    read_all(alloc, journal, usize::MAX)
+}
+
+/// Runs a command over the bytes of its file, and of the journal beside it for the two commands on grants. Both are only
+/// read: nothing else of them can be asked of a source. What is read of a journal that a desk writes to meanwhile isn't
+/// said to be a state that it had (`docs/JOURNAL.md`).
+pub fn run<S: Source, J: Source, K: Sink>(
     alloc: Global,
     command: Command,
     source: &mut S,
+    journal: &mut J,
     out: &mut K,
 ) -> Status
-    ensures ends { Ends command (S.left source.old) (K.held out.old) (K.held out.new) result }
-    ensures read { result ≡ Status.ReadFault → Rose (S.faults source.old) (S.faults source.new) }
+    ensures ends { Ends command (S.left source.old) (J.left journal.old) (K.held out.old) (K.held out.new) result }
+    ensures read { result ≡ Status.ReadFault → Rose (S.faults source.old) (S.faults source.new) ⊎ Rose (J.faults journal.old) (J.faults journal.new) }
     ensures write { result ≡ Status.WriteFault → Rose (K.faults out.old) (K.faults out.new) }
-    ensures input_quiet { result ≢ Status.ReadFault → S.faults source.new ≡ S.faults source.old }
+    ensures input_quiet { result ≢ Status.ReadFault → (S.faults source.new ≡ S.faults source.old) × (J.faults journal.new ≡ J.faults journal.old) }
     ensures out_quiet { result ≢ Status.WriteFault → K.faults out.new ≡ K.faults out.old }
+    ensures unread { spec.reads_journal command ≡ false → journal.new ≡ journal.old }
 {
     let bytes = match read_all(alloc, source, usize::MAX) {
         Ok(bytes) => bytes,
         Err(Unread::Fault) => return Status::ReadFault,
         Err(Unread::NoMemory) => return Status::NoMemory,
     };
-    let Ok(answer) = answer_of(alloc, command, bytes.as_slice()) else {
+    let beside = match read_beside(alloc, command, journal) {
+        Ok(bytes) => bytes,
+        Err(Unread::Fault) => return Status::ReadFault,
+        Err(Unread::NoMemory) => return Status::NoMemory,
+    };
+    let Ok(answer) = answer_of(alloc, command, bytes.as_slice(), beside.as_slice()) else {
         return Status::NoMemory;
     };
     match write_all(out, answer.out.as_slice()) {

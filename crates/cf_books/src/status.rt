@@ -1,6 +1,7 @@
 //! How a run ends.
 
 use cf_chart::ChartFault;
+use cf_grants::GrantFault;
 
 /// An entry that the office refuses.
 #[derive(Clone, Copy)]
@@ -24,7 +25,13 @@ pub enum Status {
         fault: ChartFault,
         id: Option<u16>,
     },
-    /// The file can't be read.
+    /// The document of grants has this fault. The id is that of the grant with the fault, where it has one in form: 0 to
+    /// 65535.
+    GrantsRefused {
+        fault: GrantFault,
+        id: Option<u16>,
+    },
+    /// A file can't be read.
     ReadFault,
     /// The output failed.
     WriteFault,
@@ -60,6 +67,7 @@ impl Status {
             Status::Damaged { .. } => 9,
             Status::NoMemory => 12,
             Status::Cut { .. } => 13,
+            Status::GrantsRefused { .. } => 19,
         }
     }
 }

@@ -1,9 +1,8 @@
--- What is gathered of one day more.
+-- What is gathered of one entry more.
 use Rattle.std.proofs.Common.{◌≡◌, List, [], ◌∷◌, ◌++◌, sym, ap, ◌∙◌, append_assoc, append-nil}
-use Rattle.cf_base.specs.declared.calendar.Day.{Day}
-use Rattle.cf_ledger.specs.declared.post.Post.{Post}
+use Rattle.cf_book.specs.Watching.{Posted}
 use Rattle.cf_cash.specs.Moves.{day_moves, moves_in}
 
-pub moves_push : (days : List (Day × List Post)) (on : Day) (posts : List Post) → moves_in (days ++ (on, posts) ∷ []) ≡ moves_in days ++ day_moves on posts
-moves_push [] on posts = append-nil (day_moves on posts)
-moves_push (x ∷ days) on posts = ap (λ t. day_moves x.0 x.1 ++ t) (moves_push days on posts) ∙ sym (append_assoc (day_moves x.0 x.1) (moves_in days) (day_moves on posts))
+pub moves_push : (seen : List Posted) (x : Posted) → moves_in (seen ++ x ∷ []) ≡ moves_in seen ++ day_moves x.entry.change.on x.fund
+moves_push [] x = append-nil (day_moves x.entry.change.on x.fund)
+moves_push (y ∷ seen) x = ap (λ t. day_moves y.entry.change.on y.fund ++ t) (moves_push seen x) ∙ sym (append_assoc (day_moves y.entry.change.on y.fund) (moves_in seen) (day_moves x.entry.change.on x.fund))

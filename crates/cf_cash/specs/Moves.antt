@@ -1,7 +1,7 @@
 -- The movements of funds' cash in a history: its fund posts on cash, each on the day of its entry.
 use Rattle.std.specs.Prelude.{◌==◌, if◌then◌else◌, List, [], ◌∷◌, ◌++◌}
 use Rattle.cf_base.specs.declared.calendar.Day.{Day}
-use Rattle.cf_book.specs.Watching.{days_posted}
+use Rattle.cf_book.specs.Watching.{Posted, all_posted}
 use Rattle.cf_calls.specs.declared.entry.Entry.{Entry}
 use Rattle.cf_chart.specs.Plan.{Plan}
 use Rattle.cf_ledger.specs.declared.post.Post.{Post}
@@ -20,10 +20,11 @@ abbrev pub day_moves : Day → List Post → List CashMove
 day_moves on [] = []
 day_moves on (p ∷ posts) = post_moves on p ++ day_moves on posts
 
-abbrev pub moves_in : List (Day × List Post) → List CashMove
+-- what entries move, by their posts on the fund basis
+abbrev pub moves_in : List Posted → List CashMove
 moves_in [] = []
-moves_in (x ∷ days) = day_moves x.0 x.1 ++ moves_in days
+moves_in (x ∷ posted) = day_moves x.entry.change.on x.fund ++ moves_in posted
 
 -- all that a history moves of cash, oldest first
 abbrev pub moves_of : Plan → List Entry → List CashMove
-moves_of plan history = moves_in (days_posted plan history)
+moves_of plan history = moves_in (all_posted plan history)

@@ -7,6 +7,8 @@ ghost use Rattle.cf_pool.specs.Balances.{sizes};
 
 use cf_base::Day;
 use cf_book::{Book, NotOpened, Watch, open_watched};
+use cf_calls::Entry;
+use cf_chart::Chart;
 use cf_disk::Disk;
 use cf_ledger::Post;
 use cf_pool::CashMove;
@@ -20,10 +22,17 @@ struct Gathered {
 }
 
 impl Watch for Gathered {
-    ghost has_seen = { λ g days. g.moves.items ≡ spec.moves_in days };
+    ghost has_seen = { λ g _ posted. g.moves.items ≡ spec.moves_in posted };
 
-    fn see(&mut self, on: Day, posts: &[Post]) -> Result<(), AllocError> {
-        put_moves(&mut self.moves, on, posts)
+    fn see(
+        &mut self,
+        _chart: &Chart,
+        _place: u64,
+        entry: &Entry,
+        fund: &[Post],
+        _gov: &[Post],
+    ) -> Result<(), AllocError> {
+        put_moves(&mut self.moves, entry.change.on, fund)
     }
 }
 

@@ -21,7 +21,7 @@ pub part_fits : (plan : Plan) (lines : List ℕ) (year : ℕ) (items : List Vouc
 part_fits plan lines year items i d sum part h is few all =
     omega (arith, is, few, all, sum_by_more_le_part (eligible_item plan lines year) (λ (x : VoucherItem). x.account.amount) items i d h (eligible_part plan lines year))
 
-drop_next : (xs : List Entry) (i : ℕ) (d : Entry) → i < length xs → drop i xs ≡ get_or xs i d ∷ drop (i + 1) xs
+pub drop_next : (xs : List Entry) (i : ℕ) (d : Entry) → i < length xs → drop i xs ≡ get_or xs i d ∷ drop (i + 1) xs
 drop_next xs i d h = rw (add-one i) (drop-cons xs i d h)
 
 -- ---- what was appended, and what is still to come

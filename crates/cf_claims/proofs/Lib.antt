@@ -3,3 +3,4 @@ pub mod Kept
 pub mod LegalHistory
 pub mod Numbers
 pub mod Years
+pub mod RowsSay

@@ -2,3 +2,4 @@ pub mod Claims
 pub mod Kept
 pub mod Marks
 pub mod Texts
+pub mod Standing

@@ -52,7 +52,7 @@ fn is_claimable(marks: &Marks, chart: &Chart, entry: &Entry) -> bool
 }
 
 /// What is claimed of an entry, of what is left of the award.
-fn amount_of(marks: &Marks, chart: &Chart, grant: &Grant, left: u64, entry: &Entry) -> u64
+pub fn amount_of(marks: &Marks, chart: &Chart, grant: &Grant, left: u64, entry: &Entry) -> u64
     requires { IsReadable entry.now }
     ensures value { (history : List AnEntry) → AreMarks marks.now history → result ≡ spec.amount_of chart.now grant.now history left entry.now }
     ensures within { result ≤ left }

@@ -5,7 +5,9 @@ mod billed;
 mod bills;
 mod eligible;
 mod marks;
+mod standing;
 mod text;
 
 pub use bills::claims;
+pub use standing::{ClaimState, GrantVoucher, grant_vouchers, vouchers_of_grant};
 pub use text::claim_text;

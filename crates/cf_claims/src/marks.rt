@@ -94,7 +94,7 @@ fn claim_number(key: &str) -> Option<u32>
 }
 
 /// The number, below 2^32, whose claim bill a change is.
-fn claimed_number(change: &Change) -> Option<u32>
+pub fn claimed_number(change: &Change) -> Option<u32>
     ensures { (n : ℕ) → n < 2 ^ 32 → is_this n result ≡ spec.claims_number n change.now.key change.now.act }
 {
     match change.act {

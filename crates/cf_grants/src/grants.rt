@@ -23,6 +23,13 @@ impl Model for Grants {
 }
 
 impl Grants {
+    /// The grants, in the order of their document.
+    pub fn as_slice(&self) -> &[Grant]
+        ensures { result.now ≡ self.now }
+    {
+        self.grants.as_slice()
+    }
+
     /// The grant of this id.
     pub fn grant(&self, id: u16) -> Option<&Grant>
         ensures { option_copied result ≡ grant_at self.now id }

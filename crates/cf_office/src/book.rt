@@ -1,9 +1,9 @@
 //! The office that answers by running numbers and look-ups.
 
 ghost use Rattle.std.specs.Prelude.{ℕ, true, ◌≡◌, ◌++◌, ◌∷◌, [], IfOk, IfSome, IsSome, OnOk, OnErr};
+ghost use Rattle.std.specs.Option.{option_copied};
 ghost use Rattle.cf_budget.specs.Tables.{has_line};
 ghost use Rattle.cf_calls.specs.declared.entry.Entry.{Entry};
-ghost use Rattle.cf_calls.specs.declared.read.Basis.TheVariants.{Fund as FundBasis};
 ghost use Rattle.cf_model.proofs.Lawful.{IsWhole};
 ghost use Rattle.cf_model.specs.Postings.{act_posts};
 ghost use Rattle.cf_model.specs.Registers.{registers_of};
@@ -78,12 +78,19 @@ impl BookOffice {
         reserve(&mut self.lines, &mut self.rest, entry)
     }
 
-    /// What the entry that is prepared posts on the fund basis: its debits above zero and its credits below, in cents.
-    pub fn posts(&self) -> &[Post]
-        requires { IsSome self.now.ready }
-        ensures { IfSome self.now.ready (λ e. result.now ≡ act_posts FundBasis self.now.plan (registers_of self.now.plan self.now.entries) e.change.on e.change.act) }
+    /// The entry that is prepared.
+    pub fn ready_entry(&self) -> Option<&Entry>
+        ensures { option_copied result ≡ self.now.ready }
     {
-        self.rest.posts()
+        self.rest.ready_entry()
+    }
+
+    /// What the entry that is prepared posts on a basis: its debits above zero and its credits below, in cents.
+    pub fn posts(&self, basis: Basis) -> &[Post]
+        requires { IsSome self.now.ready }
+        ensures { IfSome self.now.ready (λ e. result.now ≡ act_posts basis self.now.plan (registers_of self.now.plan self.now.entries) e.change.on e.change.act) }
+    {
+        self.rest.posts(basis)
     }
 
     /// Adds the entry that is prepared, and says what it made. It takes no memory.

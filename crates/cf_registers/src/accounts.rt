@@ -11,7 +11,7 @@ ghost use Rattle.cf_model.proofs.Depreciated.{IsSoundAsset};
 ghost use Rattle.cf_model.specs.Postings.{posts_by, rows_of};
 ghost use Rattle.cf_model.specs.ReconShown.{recon_between};
 ghost use Rattle.cf_recon.specs.ChangeItems.{changes_between};
-ghost use Rattle.cf_registers.specs.AccountsState.{posted_on, AreReadyFor};
+ghost use Rattle.cf_registers.specs.AccountsState.{posted_on, ready_on, AreReadyFor};
 ghost use Rattle.cf_registers.specs.Numbered.{AreNumbered};
 ghost use Rattle.cf_post.specs.Rows.{without_zeros};
 ghost use Rattle.cf_post.specs.Sizes.{IsPostable};
@@ -119,11 +119,14 @@ impl Accounts {
         Ok(())
     }
 
-    /// What the act whose posts are ready posts on the fund basis.
-    pub fn ready_posts(&self) -> &[Post]
-        ensures { result.now ≡ self.now.ready_fund }
+    /// What the act whose posts are ready posts on a basis.
+    pub fn ready_posts(&self, basis: Basis) -> &[Post]
+        ensures { result.now ≡ ready_on self.now basis }
     {
-        self.fund.as_slice()
+        match basis {
+            Basis::Fund => self.fund.as_slice(),
+            Basis::Gov => self.gov.as_slice(),
+        }
     }
 
     /// Posts what is ready. It takes no memory.

@@ -20,9 +20,16 @@ fn changed(alloc: Global, text: &str, old: &str, new: &str) -> Result<String, Al
 /// Prints the exit code and the notice of `books check-chart` over a chart of these bytes.
 fn print_check(rt: &impl Print, alloc: Global, bytes: Vec<u8>) -> io::Result<()> {
     let mut source = MemSource::new(bytes);
+    let mut journal = MemSource::new(Vec::new(alloc));
     let mut out = MemSink::new(alloc);
     let mut err = MemSink::new(alloc);
-    let status = run(alloc, Command::CheckChart, &mut source, &mut out);
+    let status = run(
+        alloc,
+        Command::CheckChart,
+        &mut source,
+        &mut journal,
+        &mut out,
+    );
     tell(alloc, &mut err, status);
     let notice = str::from_utf8(err.bytes()).unwrap_or("no text");
     match notice.trim_end() {

@@ -4,7 +4,10 @@ use Rattle.clap.specs.declared.error.kind.ErrorKind.{ErrorKind}
 use Rattle.clap.specs.declared.error.kind.ErrorKind.TheVariants.{OutOfMemory}
 use Rattle.cf_books_words.specs.declared.words.WordsRefused.{WordsRefused}
 use Rattle.cf_books_words.specs.declared.words.WordsRefused.TheVariants.{BadWords, NoMemory}
-use Rattle.cf_books_words.specs.Words.{Asked, Gives, asked_in, program, unless}
+use Rattle.cf_books_words.specs.CommandLine.{program}
+use Rattle.cf_books_words.specs.Found.{asked_in}
+use Rattle.cf_books_words.specs.Parsed.{unless}
+use Rattle.cf_books_words.specs.Words.{Asked, Gives}
 use Rattle.cf_books_words.proofs.words.read_words.Goals as goal
 
 is_plain : is_simple_and_free program ≡ true
@@ -17,17 +20,17 @@ refuses r k f x (inr p) (inl m) = absurd (p.1 m)
 refuses r k [] x (inr p) (inr h) = absurd h
 refuses r k (j ∷ js) x (inr p) (inr h) = subst (λ w. Gives (Err w) None) (sym p.0) refl
 
-pub returns-in-Ok-try_get_matches_from : goal.returns-in-Ok-try_get_matches_from
-returns-in-Ok-try_get_matches_from c =
+pub returns-in-Ok-try_get_matches_from-clause-request : goal.returns-in-Ok-try_get_matches_from-clause-request
+returns-in-Ok-try_get_matches_from-clause-request c =
     let words = map string_bytes c.args.words.now in
     let told = c.in-Ok.ensures in
     let parse = c.in-Ok-try_get_matches_from.ensures in
     let none : fault_of program words ≡ [] = sym (ap (λ a. fault_of a words) told) ∙ parse.kinds (ap is_simple_and_free told ∙ is_plain) in
     let met = (parse.matches (ap is_simple told ∙ refl)).0 ∙ ap (λ a. matches_of a words) told in
-    subst (Gives c.request_of.result) (ap asked_in met ∙ ap (λ f. unless f (asked_in (matches_of program words))) (sym none)) c.request_of.ensures
+    subst (Gives c.request_of.result) (ap asked_in met ∙ ap (λ f. unless f (asked_in (matches_of program words))) (sym none)) c.request_of.ensures.request
 
-pub returns-in-Err-try_get_matches_from : goal.returns-in-Err-try_get_matches_from
-returns-in-Err-try_get_matches_from c =
+pub returns-in-Err-try_get_matches_from-clause-request : goal.returns-in-Err-try_get_matches_from-clause-request
+returns-in-Err-try_get_matches_from-clause-request c =
     let words = map string_bytes c.args.words.now in
     let told = c.in-Ok.ensures in
     let kinds = c.in-Err-try_get_matches_from.ensures.kinds (ap is_simple_and_free told ∙ is_plain) in

@@ -6,6 +6,8 @@ use Rattle.cf_cash.proofs.moves.GatheredWatch.see.Goals as goal
 
 pub returns : goal.returns
 returns c =
-    λ days was.
+    let on = c.args.entry.now.change.on in
+    let fund = c.args.fund.now in
+    λ seen was.
     on_ok_weaker c.put_moves.result
-    (λ put. put ∙ ap (λ t. t ++ day_moves c.args.on c.args.posts.now) was ∙ sym (moves_push days c.args.on c.args.posts.now)) c.put_moves.ensures
+    (λ put. put ∙ ap (λ t. t ++ day_moves on fund) was ∙ sym (moves_push seen (record { place = c.args._place; entry = c.args.entry.now; fund = fund; gov = c.args._gov.now }))) c.put_moves.ensures

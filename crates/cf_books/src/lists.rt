@@ -1,0 +1,84 @@
+//! The lists of a journal whose entries the office takes again: posts, balances, and what is open.
+
+ghost use Rattle.std.specs.Prelude.{◌≡◌, IfOk};
+ghost use Rattle.cf_book.specs.Recovery.{recovered};
+ghost use Rattle.cf_book.specs.Watching.{all_posted};
+ghost use Rattle.cf_books.specs.Answers as spec;
+ghost use Rattle.cf_books.specs.Answers.{Answers, OpensWith};
+ghost use Rattle.cf_books_lists.specs.Posts.{placed_in};
+ghost use Rattle.cf_books_words.specs.declared.words.Command.TheVariants.{Balances, Open, Posts};
+
+use crate::answers::Answer;
+use crate::office::{open_book, refused_answer};
+use crate::status::Status;
+use cf_book::{Book, BookRefused, NotOpened};
+use cf_books_lists::{Layout, PlacedPost, balances_text, open_text, open_with_posts, posts_text};
+use cf_books_words::PostFilter;
+use cf_disk::MemDisk;
+use std::alloc::{AllocError, Global};
+
+/// An answer of this text.
+fn done(out: Vec<u8>) -> Answer
+    ensures { spec.view result ≡ record { out = out.items; status = Status.Done } }
+{
+    Answer {
+        out,
+        status: Status::Done,
+    }
+}
+
+/// The book of a journal's bytes with the posts of its entries, or why they aren't those of an office.
+fn open_posts(
+    alloc: Global,
+    bytes: Vec<u8>,
+) -> Result<(Book<MemDisk>, Vec<PlacedPost>), BookRefused>
+    ensures book { OpensWith result (recovered bytes.items) }
+    ensures posts { IfOk result (λ x. x.1.items ≡ placed_in (all_posted x.0.plan x.0.entries)) }
+{
+    let Ok(disk) = MemDisk::new(alloc, bytes) else {
+        return Err(BookRefused::NoMemory);
+    };
+    match open_with_posts(alloc, disk) {
+        Ok(opened) => Ok(opened),
+        Err(NotOpened { disk: _, why }) => Err(why),
+    }
+}
+
+/// The posts that are wanted, or why the journal has none.
+pub fn posts_answer(layout: Layout, filter: PostFilter, bytes: &[u8]) -> Result<Answer, AllocError>
+    ensures { Answers result (spec.office_said (Posts filter layout.csv) bytes.now (recovered bytes.now)) }
+{
+    let copy = Vec::from_slice(layout.alloc, bytes)?;
+    match open_posts(layout.alloc, copy) {
+        Ok((book, posts)) => Ok(done(posts_text(layout, filter, &book, posts.as_slice())?)),
+        Err(why) => refused_answer(layout.alloc, bytes, why),
+    }
+}
+
+/// The balances through a fiscal year, or why the journal has none.
+pub fn balances_answer(layout: Layout, year: u16, bytes: &[u8]) -> Result<Answer, AllocError>
+    ensures { Answers result (spec.office_said (Balances year layout.csv) bytes.now (recovered bytes.now)) }
+{
+    let copy = Vec::from_slice(layout.alloc, bytes)?;
+    match open_book(layout.alloc, copy) {
+        Ok(book) => {
+            let (_, archive) = book.into_parts();
+            Ok(done(balances_text(layout, archive.rest(), year)?))
+        }
+        Err(why) => refused_answer(layout.alloc, bytes, why),
+    }
+}
+
+/// What is open, or why the journal has none.
+pub fn open_answer(layout: Layout, bytes: &[u8]) -> Result<Answer, AllocError>
+    ensures { Answers result (spec.office_said (Open layout.csv) bytes.now (recovered bytes.now)) }
+{
+    let copy = Vec::from_slice(layout.alloc, bytes)?;
+    match open_book(layout.alloc, copy) {
+        Ok(book) => {
+            let (_, archive) = book.into_parts();
+            Ok(done(open_text(layout, archive.rest())?))
+        }
+        Err(why) => refused_answer(layout.alloc, bytes, why),
+    }
+}

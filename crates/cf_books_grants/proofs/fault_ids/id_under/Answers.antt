@@ -1,0 +1,14 @@
+use Rattle.std.proofs.Common.{◌∙◌, Ok, ap, sym}
+use Rattle.std.proofs.lemmas.Bool.{false≢true}
+use Rattle.toml.specs.View.{table_view}
+use Rattle.cf_grants.proofs.Documents.{value_of-none, value_of-text}
+use Rattle.cf_books_grants.specs.FaultIds.{id_under}
+use Rattle.cf_books_grants.proofs.fault_ids.id_under.Goals as goal
+
+pub returns-in-Ok : goal.returns-in-Ok
+returns-in-Ok c =
+    let read = value_of-text c.args.bytes.now (table_view c.in-Ok.table) c.in-Ok.ensures.ok.0 c.in-Ok.ensures.ok.1 in
+    c.id_at.ensures ∙ ap (λ d. id_under c.args.at (Ok d)) c.from.ensures ∙ ap (id_under c.args.at) (sym read)
+
+pub returns-in-Err-2 : goal.returns-in-Err-2
+returns-in-Err-2 c = sym (ap (id_under c.args.at) (value_of-none c.args.bytes.now (c.in-Err.ensures.refused (λ m. false≢true (c.if-is_memory.ensures.1 m)))))

@@ -1,0 +1,4 @@
+pub mod Vouchers
+pub mod Documents
+pub mod Faults
+pub mod FaultIds

@@ -1,0 +1,5 @@
+pub mod Records
+pub mod Names
+pub mod Posts
+pub mod Balances
+pub mod Open

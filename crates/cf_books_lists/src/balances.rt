@@ -1,0 +1,182 @@
+//! The trial balance of a fiscal year.
+
+ghost use Rattle.std.specs.Prelude.{◌≡◌, ◌++◌, ℕ, List, Ok, IfOk, OnOk};
+ghost use Rattle.cf_articulation.specs.TrialBalances.{Balances};
+ghost use Rattle.cf_books_lists.specs.Balances as spec;
+ghost use Rattle.cf_books_lists.specs.Records.{head_text, record_text};
+ghost use Rattle.cf_chart.specs.Reading.{chart_of};
+
+use crate::accounts::{fund_accounts, gov_accounts};
+use crate::names::{account_text, basis_word, fund_name};
+use crate::records::{Layout, decimal_text, put_names, put_record};
+use cf_base::money_text;
+use cf_calls::Basis;
+use cf_chart::{Chart, Fund};
+use cf_office::Rest;
+use std::alloc::AllocError;
+
+/// Appends the record of a balance.
+fn put_balance(
+    layout: Layout,
+    out: &mut Vec<u8>,
+    chart: &Chart,
+    basis: Basis,
+    fund: u16,
+    account: u32,
+    balance: i128,
+) -> Result<(), AllocError>
+    ensures { OnOk result (out.new.items ≡ out.old.items ++ record_text layout.csv (spec.balance_row chart.now basis fund account balance)) }
+{
+    let word = Vec::from_slice(layout.alloc, basis_word(basis).as_bytes())?;
+    let id = decimal_text(layout.alloc, fund as u64)?;
+    let code = decimal_text(layout.alloc, account as u64)?;
+    let name = account_text(layout.alloc, chart, account)?;
+    let amount = money_text(layout.alloc, balance)?;
+    let fields = [
+        word.as_slice(),
+        id.as_slice(),
+        fund_name(chart.fund(fund)).as_bytes(),
+        code.as_slice(),
+        name.as_slice(),
+        amount.as_str().as_bytes(),
+    ];
+    put_record(layout, out, fields.as_slice())
+}
+
+/// Appends the record of a balance that isn't zero.
+fn put_some(
+    layout: Layout,
+    out: &mut Vec<u8>,
+    chart: &Chart,
+    basis: Basis,
+    fund: u16,
+    account: u32,
+    balance: i128,
+) -> Result<(), AllocError>
+    ensures { OnOk result (out.new.items ≡ out.old.items ++ spec.balance_text layout.csv chart.now basis fund account balance) }
+{
+    if balance == 0 {
+        return Ok(());
+    }
+    put_balance(layout, out, chart, basis, fund, account, balance)
+}
+
+/// Appends the record of an account's balance through a fiscal year, where it isn't zero.
+fn put_account(
+    layout: Layout,
+    out: &mut Vec<u8>,
+    rest: &Rest,
+    basis: Basis,
+    year: u16,
+    fund: u16,
+    account: u32,
+) -> Result<(), AllocError>
+    ensures { OnOk result (out.new.items ≡ out.old.items ++ spec.account_text layout.csv rest.now.plan rest.now.entries basis year fund account) }
+{
+    let balance = rest.balance(basis, year, fund, account);
+    put_some(layout, out, rest.chart(), basis, fund, account, balance)
+}
+
+/// Appends the balances of these accounts through a fiscal year.
+fn put_accounts(
+    layout: Layout,
+    out: &mut Vec<u8>,
+    rest: &Rest,
+    basis: Basis,
+    year: u16,
+    fund: u16,
+    accounts: &[u32],
+) -> Result<(), AllocError>
+    ensures { OnOk result (out.new.items ≡ out.old.items ++ spec.accounts_text layout.csv rest.now.plan rest.now.entries basis year fund accounts.now) }
+{
+    for account in accounts {
+        put_account(layout, out, rest, basis, year, fund, *account)?;
+    }
+    Ok(())
+}
+
+/// Appends the balances of a fund's accounts.
+fn put_fund(
+    layout: Layout,
+    out: &mut Vec<u8>,
+    rest: &Rest,
+    year: u16,
+    fund: u16,
+) -> Result<(), AllocError>
+    ensures { OnOk result (out.new.items ≡ out.old.items ++ spec.fund_text layout.csv rest.now.plan rest.now.entries year fund) }
+{
+    let accounts = fund_accounts(layout.alloc, rest.chart(), fund)?;
+    put_accounts(
+        layout,
+        out,
+        rest,
+        Basis::Fund,
+        year,
+        fund,
+        accounts.as_slice(),
+    )
+}
+
+/// Appends the balances of these funds' accounts.
+fn put_funds(
+    layout: Layout,
+    out: &mut Vec<u8>,
+    rest: &Rest,
+    year: u16,
+    funds: &[Fund],
+) -> Result<(), AllocError>
+    ensures { OnOk result (out.new.items ≡ out.old.items ++ spec.funds_text layout.csv rest.now.plan rest.now.entries year funds.now) }
+{
+    for fund in funds {
+        put_fund(layout, out, rest, year, fund.id)?;
+    }
+    Ok(())
+}
+
+/// Appends the names of the columns.
+fn put_head(layout: Layout, out: &mut Vec<u8>) -> Result<(), AllocError>
+    ensures { OnOk result (out.new.items ≡ out.old.items ++ head_text layout.csv spec.head) }
+{
+    let names: [&[u8]; 6] = [
+        b"basis",
+        b"fund",
+        b"fund_name",
+        b"account",
+        b"account_name",
+        b"balance",
+    ];
+    put_names(layout, out, names.as_slice())
+}
+
+/// The balances of all accounts, below the names of the columns.
+fn all_text(layout: Layout, rest: &Rest, year: u16) -> Result<Vec<u8>, AllocError>
+    ensures { IfOk result (λ v. v.items ≡ spec.balances_of layout.csv year rest.now.plan rest.now.entries) }
+{
+    let mut out = Vec::new(layout.alloc);
+    put_head(layout, &mut out)?;
+    put_funds(layout, &mut out, rest, year, rest.chart().funds())?;
+    let accounts = gov_accounts(layout.alloc, rest.chart())?;
+    put_accounts(
+        layout,
+        &mut out,
+        rest,
+        Basis::Gov,
+        year,
+        0,
+        accounts.as_slice(),
+    )?;
+    Ok(out)
+}
+
+/// The balances of accounts through a fiscal year that aren't zero: those of each fund on the fund basis, and then those of
+/// the city as a whole on the government-wide one, whose fund is 0. They are those of the look `account`, debits above zero,
+/// in units of money. On the fund basis those of a fund sum to zero, and on the other those of the city, under any chart that
+/// was read (GASB Statement 34: each entry balances).
+pub fn balances_text(layout: Layout, rest: &Rest, year: u16) -> Result<Vec<u8>, AllocError>
+    ensures text { IfOk result (λ v. v.items ≡ spec.balances_of layout.csv year rest.now.plan rest.now.entries) }
+    ensures zero { (bytes : List ℕ) → chart_of bytes ≡ Ok rest.now.plan → Balances rest.now.plan rest.now.entries year }
+{
+    // So that the proof knows that the history is legal.
+    let _legal = rest.entries();
+    all_text(layout, rest, year)
+}

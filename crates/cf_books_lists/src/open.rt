@@ -1,0 +1,454 @@
+//! What is open, as looks at documents, bills and debt show it, and what is closed.
+
+ghost use Rattle.std.specs.Prelude.{◌≡◌, ◌++◌, pos, string_bytes, IfOk, OnOk};
+ghost use Rattle.cf_base.specs.Amounts.{money_of};
+ghost use Rattle.std.specs.Option.{option_copied};
+ghost use Rattle.cf_books_lists.specs.Open as spec;
+ghost use Rattle.cf_books_lists.specs.Records.{head_text, record_text};
+ghost use Rattle.cf_model.specs.Registers.{registers_of};
+
+use crate::names::{department_name, fund_name};
+use crate::records::{Layout, decimal_text, drawn_text, put_names, put_record};
+use cf_base::{Day, day_text, money_text, month_text};
+use cf_call_text::call_word;
+use cf_calls::acts::Period;
+use cf_calls::items::LineAmount;
+use cf_calls::shown::{ItemState, OrderItemShown, RequisitionState, VoucherState};
+use cf_calls::{Act, Entry, Read, Shown};
+use cf_chart::{Chart, Line};
+use cf_office::Rest;
+use std::alloc::{AllocError, Global};
+
+/// A kind of what can be open.
+#[derive(Clone, Copy)]
+enum Section {
+    Requisitions,
+    Orders,
+    Bills,
+    Vouchers,
+    Debts,
+}
+
+/// What is open of a document, a bill or a debt: an amount in cents.
+#[derive(Clone, Copy)]
+struct Part {
+    /// The item's place in its document, from 1; 0 where it is no item.
+    item: u64,
+    line: Option<u16>,
+    year: Option<u16>,
+    amount: u64,
+    /// The day of the next payment.
+    next: Option<Day>,
+}
+
+/// The look at what an entry of a section entered.
+fn look_of(section: Section, entry: &Entry) -> Option<Read>
+    ensures { result ≡ spec.look_of section entry.now }
+{
+    let number = entry.drawn.number;
+    match (section, &entry.change.act) {
+        (Section::Requisitions, Act::Requisition(_)) => Some(Read::Requisition {
+            requisition: number,
+        }),
+        (Section::Orders, Act::Order(_)) => Some(Read::Order { order: number }),
+        (Section::Bills, Act::Bill(_)) => Some(Read::Bill { bill: number }),
+        (Section::Vouchers, Act::Voucher(_)) => Some(Read::Voucher { voucher: number }),
+        (Section::Debts, Act::Issue(_)) => Some(Read::Bond { bond: number }),
+        (Section::Debts, Act::Lease(_)) => Some(Read::Bond {
+            bond: entry.drawn.second,
+        }),
+        _ => None,
+    }
+}
+
+/// The vendor or the payer of what an act enters, 0 where it has none.
+fn party_of(act: &Act) -> u32
+    ensures { result ≡ spec.party_of act.now }
+{
+    match act {
+        Act::Order(order) => order.vendor,
+        Act::Voucher(voucher) => voucher.vendor,
+        Act::Bill(bill) => bill.payer,
+        Act::Lease(lease) => lease.vendor,
+        _ => 0,
+    }
+}
+
+/// The number of what an entry entered: a lease is known by its bond.
+fn number_of(entry: &Entry) -> u32
+    ensures { result ≡ spec.number_of entry.now }
+{
+    match entry.change.act {
+        Act::Lease(_) => entry.drawn.second,
+        _ => entry.drawn.number,
+    }
+}
+
+fn number_text(alloc: Global, number: Option<u16>) -> Result<Vec<u8>, AllocError>
+    ensures { IfOk result (λ t. t.items ≡ spec.number_text number) }
+{
+    match number {
+        Some(number) => decimal_text(alloc, number as u64),
+        None => Ok(Vec::new(alloc)),
+    }
+}
+
+fn next_text(alloc: Global, next: Option<Day>) -> Result<Vec<u8>, AllocError>
+    ensures { IfOk result (λ t. t.items ≡ spec.next_text next) }
+{
+    match next {
+        Some(day) => Vec::from_slice(alloc, &day_text(day)),
+        None => Ok(Vec::new(alloc)),
+    }
+}
+
+/// The control line of a part.
+fn line_of(chart: &Chart, line: Option<u16>) -> Option<&Line>
+    ensures { option_copied result ≡ spec.line_of chart.now line }
+{
+    chart.line(line?)
+}
+
+fn line_fund<'a>(chart: &'a Chart, line: Option<&Line>) -> &'a str
+    ensures { result.now ≡ spec.line_fund chart.now (option_copied line.entry) }
+{
+    match line {
+        Some(line) => fund_name(chart.fund(line.fund)),
+        None => "",
+    }
+}
+
+fn line_department<'a>(chart: &'a Chart, line: Option<&Line>) -> &'a str
+    ensures { result.now ≡ spec.line_department chart.now (option_copied line.entry) }
+{
+    match line {
+        Some(line) => department_name(chart.dept(line.dept)),
+        None => "",
+    }
+}
+
+/// An amount of cents in units of money.
+fn amount_text(alloc: Global, amount: u64) -> Result<String, AllocError>
+    ensures { IfOk result (λ t. string_bytes t ≡ money_of (pos amount)) }
+{
+    money_text(alloc, amount as i128)
+}
+
+/// Appends the record of a part of what an entry entered.
+fn put_part(
+    layout: Layout,
+    out: &mut Vec<u8>,
+    chart: &Chart,
+    entry: &Entry,
+    part: Part,
+) -> Result<(), AllocError>
+    ensures { OnOk result (out.new.items ≡ out.old.items ++ spec.part_text layout.csv chart.now entry.now part) }
+{
+    let change = &entry.change;
+    let call = Vec::from_slice(layout.alloc, call_word(&change.act).as_bytes())?;
+    let number = decimal_text(layout.alloc, number_of(entry) as u64)?;
+    let item = drawn_text(layout.alloc, part.item)?;
+    let day = day_text(change.on);
+    let desk = decimal_text(layout.alloc, change.desk as u64)?;
+    let party = drawn_text(layout.alloc, party_of(&change.act) as u64)?;
+    let year = number_text(layout.alloc, part.year)?;
+    let line = number_text(layout.alloc, part.line)?;
+    let amount = amount_text(layout.alloc, part.amount)?;
+    let next = next_text(layout.alloc, part.next)?;
+    let closed = Vec::new(layout.alloc);
+    let fields = [
+        call.as_slice(),
+        number.as_slice(),
+        item.as_slice(),
+        day.as_slice(),
+        desk.as_slice(),
+        change.key.as_str().as_bytes(),
+        party.as_slice(),
+        year.as_slice(),
+        line.as_slice(),
+        line_fund(chart, line_of(chart, part.line)).as_bytes(),
+        line_department(chart, line_of(chart, part.line)).as_bytes(),
+        amount.as_str().as_bytes(),
+        next.as_slice(),
+        closed.as_slice(),
+    ];
+    put_record(layout, out, fields.as_slice())
+}
+
+/// Appends the items of a requisition.
+fn put_held(
+    layout: Layout,
+    out: &mut Vec<u8>,
+    chart: &Chart,
+    entry: &Entry,
+    year: u16,
+    items: &[LineAmount],
+) -> Result<(), AllocError>
+    ensures { OnOk result (out.new.items ≡ out.old.items ++ spec.held_text layout.csv chart.now entry.now year 1 items.now) }
+{
+    let mut place: u64 = 0;
+    for item in items {
+        place += 1;
+        let part = Part {
+            item: place,
+            line: Some(item.line),
+            year: Some(year),
+            amount: item.amount,
+            next: None,
+        };
+        put_part(layout, out, chart, entry, part)?;
+    }
+    Ok(())
+}
+
+/// Appends an item of an order, where it is live.
+fn put_item(
+    layout: Layout,
+    out: &mut Vec<u8>,
+    chart: &Chart,
+    entry: &Entry,
+    place: u64,
+    item: OrderItemShown,
+) -> Result<(), AllocError>
+    ensures { OnOk result (out.new.items ≡ out.old.items ++ spec.item_text layout.csv chart.now entry.now place item item.state) }
+{
+    match item.state {
+        ItemState::Live => {
+            let part = Part {
+                item: place,
+                line: Some(item.line),
+                year: Some(item.year),
+                amount: item.open_cents,
+                next: None,
+            };
+            put_part(layout, out, chart, entry, part)
+        }
+        _ => Ok(()),
+    }
+}
+
+/// Appends the live items of an order.
+fn put_items(
+    layout: Layout,
+    out: &mut Vec<u8>,
+    chart: &Chart,
+    entry: &Entry,
+    items: &[OrderItemShown],
+) -> Result<(), AllocError>
+    ensures { OnOk result (out.new.items ≡ out.old.items ++ spec.items_text layout.csv chart.now entry.now 1 items.now) }
+{
+    let mut place: u64 = 0;
+    for item in items {
+        place += 1;
+        put_item(layout, out, chart, entry, place, *item)?;
+    }
+    Ok(())
+}
+
+/// Appends an amount that is no item's.
+fn put_whole(
+    layout: Layout,
+    out: &mut Vec<u8>,
+    chart: &Chart,
+    entry: &Entry,
+    year: Option<u16>,
+    amount: u64,
+    next: Option<Day>,
+) -> Result<(), AllocError>
+    ensures { OnOk result (out.new.items ≡ out.old.items ++ spec.whole_text layout.csv chart.now entry.now year amount next) }
+{
+    let part = Part {
+        item: 0,
+        line: None,
+        year,
+        amount,
+        next,
+    };
+    put_part(layout, out, chart, entry, part)
+}
+
+/// Appends what a look shows that is open.
+fn put_shown(
+    layout: Layout,
+    out: &mut Vec<u8>,
+    chart: &Chart,
+    entry: &Entry,
+    shown: Option<&Shown>,
+) -> Result<(), AllocError>
+    ensures { OnOk result (out.new.items ≡ out.old.items ++ spec.shown_text layout.csv chart.now entry.now (option_copied shown.entry)) }
+{
+    match shown {
+        Some(
+            Shown::Requisition {
+                items,
+                state: RequisitionState::Open,
+                year,
+            },
+        ) => { put_held(layout, out, chart, entry, *year, items.as_slice()) }
+        Some(Shown::Order { items, vendor: _ }) => {
+            put_items(layout, out, chart, entry, items.as_slice())
+        }
+        Some(
+            Shown::Voucher {
+                amount,
+                state: VoucherState::Open,
+                year,
+            },
+        ) => { put_whole(layout, out, chart, entry, Some(*year), *amount, None) }
+        Some(
+            Shown::Bill {
+                left,
+                levy_year,
+                source: _,
+            },
+        ) if *left != 0 => { put_whole(layout, out, chart, entry, Some(*levy_year), *left, None) }
+        Some(
+            Shown::Bond {
+                accrued: _,
+                next: Some(next),
+                outstanding,
+            },
+        ) => { put_whole(layout, out, chart, entry, None, *outstanding, Some(*next)) }
+        _ => Ok(()),
+    }
+}
+
+/// Appends what is open of that which an entry entered in a section.
+fn put_entry(
+    layout: Layout,
+    out: &mut Vec<u8>,
+    rest: &Rest,
+    section: Section,
+    entry: &Entry,
+) -> Result<(), AllocError>
+    ensures { OnOk result (out.new.items ≡ out.old.items
+        ++ spec.looked_text layout.csv rest.now.plan (registers_of rest.now.plan rest.now.entries) entry.now (spec.look_of section entry.now)) }
+{
+    let Some(look) = look_of(section, entry) else {
+        return Ok(());
+    };
+    let shown = rest.registers().look(layout.alloc, rest.chart(), &look)?;
+    put_shown(layout, out, rest.chart(), entry, shown.as_ref())
+}
+
+/// Appends what is open of a section.
+fn put_section(
+    layout: Layout,
+    out: &mut Vec<u8>,
+    rest: &Rest,
+    section: Section,
+    entries: &[Entry],
+) -> Result<(), AllocError>
+    ensures { OnOk result (out.new.items ≡ out.old.items ++ spec.section_text layout.csv rest.now.plan (registers_of rest.now.plan rest.now.entries) section entries.now) }
+{
+    for entry in entries {
+        put_entry(layout, out, rest, section, entry)?;
+    }
+    Ok(())
+}
+
+fn period_text(alloc: Global, period: Period) -> Result<Vec<u8>, AllocError>
+    ensures { IfOk result (λ t. t.items ≡ spec.period_text period) }
+{
+    match period {
+        Period::Month(month) => Vec::from_slice(alloc, &month_text(month)),
+        Period::Year(year) => decimal_text(alloc, year as u64),
+    }
+}
+
+/// Appends the record of a month or a fiscal year that an entry closes.
+fn put_period(
+    layout: Layout,
+    out: &mut Vec<u8>,
+    entry: &Entry,
+    period: Period,
+) -> Result<(), AllocError>
+    ensures { OnOk result (out.new.items ≡ out.old.items ++ record_text layout.csv (spec.close_row entry.now period)) }
+{
+    let change = &entry.change;
+    let day = day_text(change.on);
+    let desk = decimal_text(layout.alloc, change.desk as u64)?;
+    let closed = period_text(layout.alloc, period)?;
+    let call = Vec::from_slice(layout.alloc, b"close")?;
+    let empty = Vec::new(layout.alloc);
+    let none = empty.as_slice();
+    let fields = [
+        call.as_slice(),
+        none,
+        none,
+        day.as_slice(),
+        desk.as_slice(),
+        change.key.as_str().as_bytes(),
+        none,
+        none,
+        none,
+        none,
+        none,
+        none,
+        none,
+        closed.as_slice(),
+    ];
+    put_record(layout, out, fields.as_slice())
+}
+
+/// Appends what an entry closes.
+fn put_close(layout: Layout, out: &mut Vec<u8>, entry: &Entry) -> Result<(), AllocError>
+    ensures { OnOk result (out.new.items ≡ out.old.items ++ spec.close_by layout.csv entry.now.change.act entry.now) }
+{
+    match entry.change.act {
+        Act::Close(period) => put_period(layout, out, entry, period),
+        _ => Ok(()),
+    }
+}
+
+/// Appends what these entries close.
+fn put_closes(layout: Layout, out: &mut Vec<u8>, entries: &[Entry]) -> Result<(), AllocError>
+    ensures { OnOk result (out.new.items ≡ out.old.items ++ spec.closes_text layout.csv entries.now) }
+{
+    for entry in entries {
+        put_close(layout, out, entry)?;
+    }
+    Ok(())
+}
+
+/// Appends the names of the columns.
+fn put_head(layout: Layout, out: &mut Vec<u8>) -> Result<(), AllocError>
+    ensures { OnOk result (out.new.items ≡ out.old.items ++ head_text layout.csv spec.head) }
+{
+    let names: [&[u8]; 14] = [
+        b"call",
+        b"number",
+        b"item",
+        b"day",
+        b"desk",
+        b"key",
+        b"party",
+        b"year",
+        b"line",
+        b"fund_name",
+        b"dept_name",
+        b"open",
+        b"next",
+        b"closed",
+    ];
+    put_names(layout, out, names.as_slice())
+}
+
+/// What is open, as records below a row of names: open requisitions by item, live items of orders with what is open of each,
+/// bills with what is left, vouchers that aren't paid, and bonds and leases with what is outstanding and the day of the next
+/// payment, each kind by rising number and as looks show them, in units of money; then the months and the fiscal years that
+/// are closed.
+pub fn open_text(layout: Layout, rest: &Rest) -> Result<Vec<u8>, AllocError>
+    ensures { IfOk result (λ v. v.items ≡ spec.open_text layout.csv rest.now.plan rest.now.entries) }
+{
+    let entries = rest.entries();
+    let mut out = Vec::new(layout.alloc);
+    put_head(layout, &mut out)?;
+    put_section(layout, &mut out, rest, Section::Requisitions, entries)?;
+    put_section(layout, &mut out, rest, Section::Orders, entries)?;
+    put_section(layout, &mut out, rest, Section::Bills, entries)?;
+    put_section(layout, &mut out, rest, Section::Vouchers, entries)?;
+    put_section(layout, &mut out, rest, Section::Debts, entries)?;
+    put_closes(layout, &mut out, entries)?;
+    Ok(out)
+}

@@ -1,0 +1,32 @@
+-- What the parser is told of the program's command line.
+use Rattle.std.specs.Prelude.{true, List, [], ◌∷◌, ◌++◌, Some, codes}
+use Rattle.clap.specs.Words.{App, Rule, Shape, Text, new_rule}
+use Rattle.clap.specs.Simple.{new_shape}
+use Rattle.cf_words.specs.CommandLine.{flag_rule, option_rule}
+
+-- the words are without the program's own name, and ask for no help
+abbrev pub bare_shape : Shape
+bare_shape = record (new_shape (codes "books")) { no_binary_name = true; disable_help_flag = true }
+
+abbrev pub bare : App
+bare = record { top = bare_shape; subs = [] }
+
+-- the words that are no options: a command, and up to three behind it
+abbrev pub place_rules : List Rule
+place_rules = new_rule (codes "command") ∷ new_rule (codes "first") ∷ new_rule (codes "second") ∷ new_rule (codes "third") ∷ []
+
+-- the options that say which posts are wanted
+abbrev pub filter_rules : List Rule
+filter_rules = option_rule (codes "year") ∷ option_rule (codes "fund") ∷ option_rule (codes "account") ∷ []
+
+abbrev pub with_rules : List Rule → App
+with_rules rules = record { top = record bare_shape { rules = rules }; subs = [] }
+
+abbrev pub places : App
+places = with_rules place_rules
+
+abbrev pub with_csv : App
+with_csv = with_rules (place_rules ++ flag_rule (codes "csv") ∷ [])
+
+abbrev pub program : App
+program = with_rules (place_rules ++ flag_rule (codes "csv") ∷ filter_rules)
