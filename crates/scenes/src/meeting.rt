@@ -1,6 +1,6 @@
 //! Doors in memory whose links wait for each other.
 
-ghost use Rattle.std.specs.Prelude.{◌≡◌, ◌+◌, None, [], false, true};
+ghost use Rattle.std.specs.Prelude.{◌≡◌, ◌+◌, ◌≤◌, None, [], false, length, true};
 ghost use Rattle.std.proofs.lemmas.Bool.{false≢true};
 
 use crate::doors::{post_text, show_answers};
