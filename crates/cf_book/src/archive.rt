@@ -29,7 +29,7 @@ use cf_disk::Disk;
 use cf_journal::Journal;
 use cf_looks::look_reply;
 use cf_office::{
-    Lent, Prepared, PreparedLines, Rest, apply_rest, judge, refusal_reply, repeat_reply, reserve,
+    History, Prepared, PreparedLines, Rest, apply_rest, judge, refusal_reply, repeat_reply, reserve,
 };
 use std::alloc::Global;
 use std::marker::Model;
@@ -163,8 +163,8 @@ impl<D: Disk + Drop> Archive<D> {
     {
         match call {
             Call::Look(look) => {
-                let lent = Lent::new(lines, &self.rest);
-                Settled::Kept(look_reply(alloc, &lent, look))
+                let history = History::new(lines, &self.rest);
+                Settled::Kept(look_reply(alloc, &history, look))
             }
             Call::Change(change) => self.settle_change(alloc, lines, change),
         }
@@ -184,11 +184,11 @@ impl<D: Disk + Drop> Archive<D> {
         ensures any_moment { IsTrue D.tells → AtEachMoment D.moment D.was_image self.old.disk self.new.disk
             (RecoversNear self.old.plan self.old.entries (IsInHand (state_of D.faults self.old) (calls.Change change.now))) }
     {
-        let lent = Lent::new(lines, &self.rest);
-        match judge(&lent, change) {
+        let history = History::new(lines, &self.rest);
+        match judge(&history, change) {
             Verdict::Accept(drawn) => self.accept(alloc, lines, change, drawn),
-            Verdict::Repeat { was } => Settled::Kept(repeat_reply(&lent, was)),
-            Verdict::Refuse(refusal) => Settled::Kept(refusal_reply(&lent, refusal)),
+            Verdict::Repeat { was } => Settled::Kept(repeat_reply(&history, was)),
+            Verdict::Refuse(refusal) => Settled::Kept(refusal_reply(&history, refusal)),
         }
     }
 
@@ -210,8 +210,8 @@ impl<D: Disk + Drop> Archive<D> {
         ensures any_moment { IsTrue D.tells → AtEachMoment D.moment D.was_image self.old.disk self.new.disk
             (RecoversNear self.old.plan self.old.entries (IsInHand (state_of D.faults self.old) (calls.Change entry.now.change))) }
     {
-        let lent = Lent::new(lines, &self.rest);
-        match refusal_of(&lent, entry) {
+        let history = History::new(lines, &self.rest);
+        match refusal_of(&history, entry) {
             Some(refusal) => Err(refusal),
             None => Ok(self.accept(alloc, lines, &entry.change, entry.drawn)),
         }

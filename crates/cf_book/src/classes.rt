@@ -17,7 +17,7 @@ impl<D: Disk + Drop> Book<D> {
         requires { IsYear year }
         ensures { IfOk result (λ rows. rows.items ≡ spec.class_rows self.now.plan self.now.entries year) }
     {
-        class_rows(alloc, &self.lent(), year)
+        class_rows(alloc, &self.history(), year)
     }
 
     /// The rows of the components of net position through a fiscal year from 1971 to 2199 (GASB Statement 34), in cents. They
@@ -26,7 +26,7 @@ impl<D: Disk + Drop> Book<D> {
         requires { IsYear year }
         ensures { IfOk result (λ rows. rows.items ≡ spec.component_rows self.now.plan self.now.entries year) }
     {
-        component_rows(alloc, &self.lent(), year)
+        component_rows(alloc, &self.history(), year)
     }
 
     /// The rows of the major funds of a fiscal year from 1971 to 2199 (GASB Statement 34), in cents. They are read off running
@@ -35,6 +35,6 @@ impl<D: Disk + Drop> Book<D> {
         requires { IsYear year }
         ensures { IfOk result (λ rows. rows.items ≡ spec.major_rows self.now.plan self.now.entries year) }
     {
-        major_rows(alloc, &self.lent(), year)
+        major_rows(alloc, &self.history(), year)
     }
 }

@@ -1,6 +1,7 @@
 //! Whether an office takes an entry again behind its history.
 
 ghost use Rattle.std.specs.Prelude.{◌≡◌};
+ghost use Rattle.cf_budget.specs.Tables.{has_line};
 ghost use Rattle.cf_calls.specs.Form.{IsEntryInForm};
 ghost use Rattle.cf_registers.specs.Lines.{LendsTouched};
 ghost use Rattle.cf_book.specs.Recovery as spec;
@@ -16,10 +17,10 @@ fn is_drawn(entry: &Entry, drawn: Drawn) -> bool
 }
 
 /// The number of the refusal of an entry: `None` where the office takes it again.
-pub(crate) fn refusal_of<H: History>(history: &H, entry: &Entry) -> Option<u8>
+pub(crate) fn refusal_of(history: &History, entry: &Entry) -> Option<u8>
     requires form { IsEntryInForm entry.now }
-    requires lent { LendsTouched (H.plan history.now) (H.lends history.now) entry.now.change.act }
-    ensures { result ≡ spec.entry_refusal (H.plan history.now) (H.entries history.now) entry.now }
+    requires lent { LendsTouched history.now.plan (has_line history.now.lines) entry.now.change.act }
+    ensures { result ≡ spec.entry_refusal history.now.plan history.now.entries entry.now }
 {
     match judge(history, &entry.change) {
         Verdict::Accept(drawn) if is_drawn(entry, drawn) => None,

@@ -25,7 +25,7 @@ fn accepted(office: &BookOffice, change: &Change) -> Option<Drawn>
     requires { IsChangeInForm change.now }
     ensures { result ≡ spec.drawn_by (verdict_of office.now.plan office.now.entries change.now) }
 {
-    match judge(office, change) {
+    match judge(&office.history(), change) {
         Verdict::Accept(drawn) => Some(drawn),
         _ => None,
     }

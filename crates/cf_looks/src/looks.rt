@@ -1,6 +1,7 @@
 //! The answer of a look, over any history.
 
 ghost use Rattle.std.specs.Prelude.{◌≡◌, ◌<◌, true, IfOk};
+ghost use Rattle.cf_budget.specs.Tables.{has_line};
 ghost use Rattle.cf_calls.specs.Form.{IsReadInForm};
 ghost use Rattle.cf_calls.specs.declared.call.Call.TheVariants as calls;
 ghost use Rattle.cf_model.specs.Registers.{registers_of};
@@ -11,14 +12,15 @@ ghost use Rattle.cf_looks.specs.Posts.{Posts};
 
 use crate::reports::show_report;
 use cf_calls::{Body, Look, NameKind, Posted, Read, Refusal, Reply, Shown};
-use cf_rules::{History, ahead_rule, debt_of, leave_fault};
+use cf_history::History;
+use cf_rules::{ahead_rule, leave_fault};
 use std::alloc::{AllocError, Global};
 
 /// The numbers of a line and year, or that there is no such line in the year.
-fn show_line<H: History>(history: &H, line: u16, year: u16) -> Body
+fn show_line(history: &History, line: u16, year: u16) -> Body
     requires year { year < 2201 }
-    requires lent { H.lends history.now line ≡ true }
-    ensures { result ≡ step.line_shown (H.plan history.now) (H.entries history.now) line year }
+    requires lent { has_line history.now.lines line ≡ true }
+    ensures { result ≡ step.line_shown history.now.plan history.now.entries line year }
 {
     match history.chart().line(line) {
         Some(row) if history.chart().is_of_year(row, year) => {
@@ -32,21 +34,21 @@ fn show_line<H: History>(history: &H, line: u16, year: u16) -> Body
 }
 
 /// What a look at a document or a bill shows, if there is one of its number.
-fn look_at<H: History>(alloc: Global, history: &H, read: &Read) -> Result<Option<Shown>, AllocError>
-    ensures { IfOk result (λ s. s ≡ register_shown (H.plan history.now) (registers_of (H.plan history.now) (H.entries history.now)) read.now) }
+fn look_at(alloc: Global, history: &History, read: &Read) -> Result<Option<Shown>, AllocError>
+    ensures { IfOk result (λ s. s ≡ register_shown history.now.plan (registers_of history.now.plan history.now.entries) read.now) }
 {
     history.registers().look(alloc, history.chart(), read)
 }
 
 /// What a look at a document or a bill shows, or that there is none of its number.
-fn show_numbered<H: History>(
+fn show_numbered(
     alloc: Global,
-    history: &H,
+    history: &History,
     kind: NameKind,
     number: u32,
     read: &Read,
 ) -> Result<Body, AllocError>
-    ensures { IfOk result (λ b. b ≡ step.or_refused kind number (register_shown (H.plan history.now) (registers_of (H.plan history.now) (H.entries history.now)) read.now)) }
+    ensures { IfOk result (λ b. b ≡ step.or_refused kind number (register_shown history.now.plan (registers_of history.now.plan history.now.entries) read.now)) }
 {
     match look_at(alloc, history, read)? {
         Some(shown) => Ok(Body::Shown(shown)),
@@ -55,22 +57,22 @@ fn show_numbered<H: History>(
 }
 
 /// The leave of a fund's department that is left, or that there is no such fund or department.
-fn show_leave<H: History>(history: &H, fund: u16, dept: u16) -> Body
-    ensures { result ≡ step.shown_of (H.plan history.now) (H.entries history.now) (Read.Leave fund dept) }
+fn show_leave(history: &History, fund: u16, dept: u16) -> Body
+    ensures { result ≡ step.shown_of history.now.plan history.now.entries (Read.Leave fund dept) }
 {
     match leave_fault(history.chart(), fund, dept) {
         Some(refusal) => Body::Refused(refusal),
         None => Body::Shown(Shown::Leave {
-            left: debt_of(history).leave_of(fund, dept),
+            left: history.debt().leave_of(fund, dept),
         }),
     }
 }
 
 /// What a look shows, but for what its caller has seen.
-fn show<H: History>(alloc: Global, history: &H, read: &Read) -> Result<Body, AllocError>
+fn show(alloc: Global, history: &History, read: &Read) -> Result<Body, AllocError>
     requires form { IsReadInForm read.now }
-    requires lent { LendsRead (H.lends history.now) read.now }
-    ensures { IfOk result (λ b. b ≡ step.shown_of (H.plan history.now) (H.entries history.now) read.now) }
+    requires lent { LendsRead (has_line history.now.lines) read.now }
+    ensures { IfOk result (λ b. b ≡ step.shown_of history.now.plan history.now.entries read.now) }
 {
     match *read {
         Read::Line { line, year } => Ok(show_line(history, line, year)),
@@ -107,10 +109,10 @@ fn show<H: History>(alloc: Global, history: &H, read: &Read) -> Result<Body, All
 
 /// What a look shows. A look is refused where the caller has seen more than the history has, for which it takes no memory, and
 /// where there is nothing of its name. Its list of items takes memory.
-pub fn answer<H: History>(alloc: Global, history: &H, look: &Look) -> Result<Body, AllocError>
+pub fn answer(alloc: Global, history: &History, look: &Look) -> Result<Body, AllocError>
     requires form { IsReadInForm look.now.read }
-    requires lent { LendsRead (H.lends history.now) look.now.read }
-    ensures { IfOk result (λ b. b ≡ step.look_body (H.plan history.now) (H.entries history.now) look.now) }
+    requires lent { LendsRead (has_line history.now.lines) look.now.read }
+    ensures { IfOk result (λ b. b ≡ step.look_body history.now.plan history.now.entries look.now) }
 {
     match ahead_rule(look.after, history.len()) {
         Some(refusal) => Ok(Body::Refused(refusal)),
@@ -119,10 +121,10 @@ pub fn answer<H: History>(alloc: Global, history: &H, look: &Look) -> Result<Bod
 }
 
 /// What is given for a look: what it shows, or want of memory.
-pub fn look_reply<H: History>(alloc: Global, history: &H, look: &Look) -> Posted
+pub fn look_reply(alloc: Global, history: &History, look: &Look) -> Posted
     requires form { IsReadInForm look.now.read }
-    requires lent { LendsRead (H.lends history.now) look.now.read }
-    ensures { Posts (H.plan history.now) (H.entries history.now) (calls.Look look.now) (H.entries history.now) result }
+    requires lent { LendsRead (has_line history.now.lines) look.now.read }
+    ensures { Posts history.now.plan history.now.entries (calls.Look look.now) history.now.entries result }
 {
     match answer(alloc, history, look) {
         Ok(body) => Posted::Reply(Reply {

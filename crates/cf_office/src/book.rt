@@ -14,16 +14,11 @@ ghost use Rattle.cf_office.specs.BookState.{IsPrepared};
 ghost use Rattle.cf_registers.specs.Moved.{AreTablesOf};
 
 use crate::prepared::{Prepared, apply_lines, apply_rest, reserve};
-use crate::rest::Rest;
-use cf_base::Day;
 use cf_budget::Lines;
-use cf_calls::shown::ReconShown;
-use cf_calls::{Basis, Change, Entry, LineNumbers, Made};
-use cf_chart::{Chart, LineId};
+use cf_calls::{Basis, Entry, Made};
+use cf_chart::Chart;
+use cf_history::{History, Rest};
 use cf_ledger::Post;
-use cf_recon::Changes;
-use cf_registers::Registers;
-use cf_rules::History;
 use std::alloc::{AllocError, Global};
 use std::marker::Model;
 
@@ -66,6 +61,15 @@ impl BookOffice {
         ensures sound { IsSoundState (record { plan = self.now.plan; entries = self.now.entries }) }
     {
         self.rest.entries()
+    }
+
+    /// The history with the numbers of every line, to who reads it.
+    pub fn history(&self) -> History<'_>
+        ensures plan { result.plan ≡ self.now.plan }
+        ensures entries { result.entries ≡ self.now.entries }
+        ensures whole { (line : ℕ) → has_line result.lines line ≡ true }
+    {
+        History::new(&self.lines, &self.rest)
     }
 
     /// Takes all memory of the application of an entry that the rules accept. The history stays.
@@ -125,69 +129,5 @@ impl BookOffice {
     {
         let BookOffice { lines, rest } = self;
         (lines, rest)
-    }
-}
-
-impl History for BookOffice {
-    ghost plan = { λ s. s.plan };
-
-    ghost entries = { λ s. s.entries };
-
-    ghost lends = { λ _ _. true };
-
-    fn chart(&self) -> &Chart {
-        self.rest.chart()
-    }
-
-    fn len(&self) -> u64 {
-        self.rest.entries().len() as u64
-    }
-
-    fn known(&self, change: &Change) -> Option<u64> {
-        self.rest.known(change)
-    }
-
-    fn is_repeat(&self, change: &Change, place: u64) -> bool {
-        self.rest.is_repeat(change, place)
-    }
-
-    fn made_at(&self, place: u64) -> Made {
-        self.rest.made_at(place)
-    }
-
-    fn adopted(&self, fund: u16, year: u16) -> Option<u64> {
-        self.rest.adopted(fund, year)
-    }
-
-    fn registers(&self) -> &Registers {
-        self.rest.registers()
-    }
-
-    fn is_closed(&self, on: Day) -> bool {
-        self.rest.is_closed(on)
-    }
-
-    fn open_year(&self) -> u16 {
-        self.rest.open_year()
-    }
-
-    fn balance(&self, basis: Basis, year: u16, fund: u16, account: u32) -> i128 {
-        self.rest.balance(basis, year, fund, account)
-    }
-
-    fn recon(&self, year: u16) -> ReconShown {
-        self.rest.recon(year)
-    }
-
-    fn changes(&self, year: u16) -> Changes {
-        self.rest.changes(year)
-    }
-
-    fn estimate(&self, year: u16, source: u16) -> u64 {
-        self.rest.estimate(year, source)
-    }
-
-    fn numbers(&self, line: u16, year: u16) -> LineNumbers {
-        self.lines.numbers(LineId { number: line }, year)
     }
 }

@@ -2,6 +2,7 @@
 
 ghost use Rattle.std.specs.Prelude.{◌≡◌, ◌<◌, ◌≤ℤ◌, ◌++◌, ◌-ℤ◌, ◌^◌, ℕ, true, pos, length, IfOk, OnOk};
 ghost use Rattle.cf_base.specs.Limits.{last_fiscal_year};
+ghost use Rattle.cf_budget.specs.Tables.{has_line};
 ghost use Rattle.cf_budget.specs.Tables.{zero_row};
 ghost use Rattle.cf_model.specs.Documents.{documents_of};
 ghost use Rattle.cf_model.specs.Moves as model;
@@ -10,7 +11,7 @@ ghost use Rattle.cf_office.specs.Rolled as spec;
 use cf_budget::{LineChange, Row, ZERO};
 use cf_calls::LineNumbers;
 use cf_chart::LineId;
-use cf_rules::{History, orders_of};
+use cf_history::History;
 use std::alloc::{AllocError, Global};
 
 /// What the year that is rolled loses: all that is held and encumbered, which is not below zero.
@@ -36,19 +37,19 @@ fn carried(amount: i128) -> Row
 }
 
 /// Adds the changes of a line in the year that is rolled, and in the year after, in which so much is carried onto it.
-fn push_line<H: History>(
+fn push_line(
     changes: &mut Vec<LineChange>,
-    history: &H,
+    history: &History,
     year: u16,
     line: u16,
     amount: u128,
 ) -> Result<(), AllocError>
-    requires line { line < length (H.plan history.now).lines }
+    requires line { line < length history.now.plan.lines }
     requires year { year < last_fiscal_year }
-    requires lent { H.lends history.now line ≡ true }
+    requires lent { has_line history.now.lines line ≡ true }
     requires small { amount < 2 ^ 100 }
-    requires carried { amount ≡ model.carried_to (H.plan history.now) line year (documents_of (H.plan history.now) (H.entries history.now)).items }
-    ensures { OnOk result (changes.new.items ≡ changes.old.items ++ spec.line_changes (H.plan history.now) (H.entries history.now) year line) }
+    requires carried { amount ≡ model.carried_to history.now.plan line year (documents_of history.now.plan history.now.entries).items }
+    ensures { OnOk result (changes.new.items ≡ changes.old.items ++ spec.line_changes history.now.plan history.now.entries year line) }
 {
     let numbers = history.numbers(line, year);
     changes.push(LineChange {
@@ -66,17 +67,17 @@ fn push_line<H: History>(
 
 /// What the roll of a fiscal year changes: in the year, nothing of a line stays held or encumbered, and in the year after
 /// a line is encumbered by what is carried onto it, and has as much appropriation.
-pub fn roll_changes<H: History>(
+pub fn roll_changes(
     alloc: Global,
-    history: &H,
+    history: &History,
     year: u16,
 ) -> Result<Vec<LineChange>, AllocError>
     requires year { year < last_fiscal_year }
-    requires lent { (line : ℕ) → H.lends history.now line ≡ true }
-    ensures { IfOk result (λ v. v.items ≡ spec.changes_to (H.plan history.now) (H.entries history.now) year (length (H.plan history.now).lines)) }
+    requires lent { (line : ℕ) → has_line history.now.lines line ≡ true }
+    ensures { IfOk result (λ v. v.items ≡ spec.changes_to history.now.plan history.now.entries year (length history.now.plan.lines)) }
 {
     let chart = history.chart();
-    let amounts = orders_of(history).carried_amounts(alloc, chart, year)?;
+    let amounts = history.orders().carried_amounts(alloc, chart, year)?;
     let count = chart.lines().len() as u16;
     let mut changes = Vec::new(alloc);
     for line in 0..count {

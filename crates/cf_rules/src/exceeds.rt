@@ -2,6 +2,7 @@
 
 ghost use Rattle.std.specs.Prelude.{◌≡◌, ◌<◌, None, true, pos, length};
 ghost use Rattle.std.specs.List.{All, list_all};
+ghost use Rattle.cf_budget.specs.Tables.{has_line};
 ghost use Rattle.cf_calls.specs.Form.{IsChangeInForm};
 ghost use Rattle.cf_calls.specs.Refusals.{overspends};
 ghost use Rattle.cf_model.specs.DocumentRules.{document_refusal};
@@ -16,7 +17,7 @@ ghost use Rattle.cf_rules.specs.Least.{is_before as spec_is_before, lesser as sp
 ghost use Rattle.cf_registers.specs.Lines.{LendsTouched};
 ghost use Rattle.cf_registers.specs.Moved.{act_moves, asks_of, is_inside, AreSmallSums, IsCleared};
 
-use crate::history::History;
+use cf_history::History;
 use cf_base::Day;
 use cf_budget::{LineChange, Row, line_refusal};
 use cf_calls::acts::{Amendment, LineTransfer};
@@ -63,11 +64,11 @@ fn lesser(first: Option<Excess>, second: Option<Excess>) -> Option<Excess>
 }
 
 /// What a change asks too much of its line and year.
-fn change_excess<H: History>(history: &H, change: &LineChange) -> Option<Excess>
-    requires inside { is_inside (H.plan history.now) change.now.line.number change.now.year ≡ true }
-    requires lent { H.lends history.now change.now.line.number ≡ true }
+fn change_excess(history: &History, change: &LineChange) -> Option<Excess>
+    requires inside { is_inside history.now.plan change.now.line.number change.now.year ≡ true }
+    requires lent { has_line history.now.lines change.now.line.number ≡ true }
     requires small { AreSmallSums change.now.by }
-    ensures { result ≡ excess_by (λ line year. numbers.room (H.plan history.now) line year (H.entries history.now)) change.now }
+    ensures { result ≡ excess_by (λ line year. numbers.room history.now.plan line year history.now.entries) change.now }
 {
     let line = change.line.number;
     let year = change.year;
@@ -81,11 +82,11 @@ fn change_excess<H: History>(history: &H, change: &LineChange) -> Option<Excess>
 }
 
 /// The least line, and its least year, of which one of these changes asks too much.
-fn least_excess<H: History>(history: &H, changes: &[LineChange]) -> Option<Excess>
-    requires inside { list_all (λ c. is_inside (H.plan history.now) c.line.number c.year) changes.now ≡ true }
-    requires lent { All (λ c. H.lends history.now c.line.number ≡ true) changes.now }
+fn least_excess(history: &History, changes: &[LineChange]) -> Option<Excess>
+    requires inside { list_all (λ c. is_inside history.now.plan c.line.number c.year) changes.now ≡ true }
+    requires lent { All (λ c. has_line history.now.lines c.line.number ≡ true) changes.now }
     requires small { All (λ c. AreSmallSums c.by) changes.now }
-    ensures { result ≡ least_from (excess_by (λ line year. numbers.room (H.plan history.now) line year (H.entries history.now))) None changes.now }
+    ensures { result ≡ least_from (excess_by (λ line year. numbers.room history.now.plan line year history.now.entries)) None changes.now }
 {
     let mut best = None;
     for change in changes {
@@ -95,12 +96,12 @@ fn least_excess<H: History>(history: &H, changes: &[LineChange]) -> Option<Exces
 }
 
 /// Too much is asked by an act's moves: the least line.
-fn moves_rule<H: History>(history: &H, on: Day, act: &Act) -> Option<Refusal>
-    requires lent { LendsTouched (H.plan history.now) (H.lends history.now) act.now }
-    requires cleared { IsCleared (H.plan history.now) (registers_of (H.plan history.now) (H.entries history.now)) on act.now }
+fn moves_rule(history: &History, on: Day, act: &Act) -> Option<Refusal>
+    requires lent { LendsTouched history.now.plan (has_line history.now.lines) act.now }
+    requires cleared { IsCleared history.now.plan (registers_of history.now.plan history.now.entries) on act.now }
     ensures { result ≡ spec.first_below
-        (λ line. spec.first_below (λ year. overspends line (asks_of_moves (H.plan history.now) line year (act_moves (H.plan history.now) (registers_of (H.plan history.now) (H.entries history.now)) on act.now)) (numbers.room (H.plan history.now) line year (H.entries history.now))) 2201)
-        (length (H.plan history.now).lines) }
+        (λ line. spec.first_below (λ year. overspends line (asks_of_moves history.now.plan line year (act_moves history.now.plan (registers_of history.now.plan history.now.entries) on act.now)) (numbers.room history.now.plan line year history.now.entries)) 2201)
+        (length history.now.plan.lines) }
 {
     let changes = merged_moves(history.chart(), history.registers(), on, act);
     refusal_of(least_excess(history, changes.as_slice()))
@@ -116,13 +117,13 @@ fn refusal_of(excess: Option<Excess>) -> Option<Refusal>
 }
 
 /// More is asked of a control line than it has room for (GASB Codification 1700: budgetary control).
-pub fn exceed_rule<H: History>(history: &H, change: &Change) -> Option<Refusal>
-    requires lent { LendsTouched (H.plan history.now) (H.lends history.now) change.now.act }
-    requires legal { step.IsLegal (H.plan history.now) (H.entries history.now) }
+pub fn exceed_rule(history: &History, change: &Change) -> Option<Refusal>
+    requires lent { LendsTouched history.now.plan (has_line history.now.lines) change.now.act }
+    requires legal { step.IsLegal history.now.plan history.now.entries }
     requires form { IsChangeInForm change.now }
-    requires names { spec.name_refusal (H.plan history.now) (documents_of (H.plan history.now) (H.entries history.now)) change.now.on change.now.act ≡ None }
-    requires documents { document_refusal (H.plan history.now) (documents_of (H.plan history.now) (H.entries history.now)) change.now.on change.now.desk change.now.act ≡ None }
-    ensures { result ≡ spec.exceed_refusal (H.plan history.now) (H.entries history.now) (results.entry_with (registers_of (H.plan history.now) (H.entries history.now)) change.now) }
+    requires names { spec.name_refusal history.now.plan (documents_of history.now.plan history.now.entries) change.now.on change.now.act ≡ None }
+    requires documents { document_refusal history.now.plan (documents_of history.now.plan history.now.entries) change.now.on change.now.desk change.now.act ≡ None }
+    ensures { result ≡ spec.exceed_refusal history.now.plan history.now.entries (results.entry_with (registers_of history.now.plan history.now.entries) change.now) }
 {
     if let Some(amendment) = change.act.amendment() {
         return amendment_rule(history, amendment);
@@ -139,24 +140,24 @@ pub fn exceed_rule<H: History>(history: &H, change: &Change) -> Option<Refusal>
     moves_rule(history, change.on, &change.act)
 }
 
-fn amendment_rule<H: History>(history: &H, amendment: &Amendment) -> Option<Refusal>
-    requires line { amendment.now.line < length (H.plan history.now).lines }
+fn amendment_rule(history: &History, amendment: &Amendment) -> Option<Refusal>
+    requires line { amendment.now.line < length history.now.plan.lines }
     requires year { amendment.now.year < 2201 }
-    requires lent { H.lends history.now amendment.now.line ≡ true }
+    requires lent { has_line history.now.lines amendment.now.line ≡ true }
     ensures { result ≡ overspends amendment.now.line (pos (numbers.fall_of amendment.now.by))
-        (numbers.room (H.plan history.now) amendment.now.line amendment.now.year (H.entries history.now)) }
+        (numbers.room history.now.plan amendment.now.line amendment.now.year history.now.entries) }
 {
     let asked = i128::from(fall_of(amendment.by));
     let room = history.numbers(amendment.line, amendment.year).room;
     line_refusal(amendment.line, asked, room)
 }
 
-fn transfer_rule<H: History>(history: &H, transfer: &LineTransfer) -> Option<Refusal>
-    requires line { transfer.now.from < length (H.plan history.now).lines }
+fn transfer_rule(history: &History, transfer: &LineTransfer) -> Option<Refusal>
+    requires line { transfer.now.from < length history.now.plan.lines }
     requires year { transfer.now.year < 2201 }
-    requires lent { H.lends history.now transfer.now.from ≡ true }
+    requires lent { has_line history.now.lines transfer.now.from ≡ true }
     ensures { result ≡ overspends transfer.now.from (pos transfer.now.amount)
-        (numbers.room (H.plan history.now) transfer.now.from transfer.now.year (H.entries history.now)) }
+        (numbers.room history.now.plan transfer.now.from transfer.now.year history.now.entries) }
 {
     let room = history.numbers(transfer.from, transfer.year).room;
     line_refusal(transfer.from, i128::from(transfer.amount), room)

@@ -3,7 +3,6 @@
 
 mod cash;
 mod exceeds;
-mod history;
 mod names;
 mod posting;
 mod register_names;
@@ -11,7 +10,6 @@ mod rules;
 mod verdict;
 mod windows;
 
-pub use history::{History, debt_of, orders_of, revenue_of};
 pub use posting::{refusal_reply, repeat_reply};
 pub use register_names::leave_fault;
 pub use rules::ahead_rule;

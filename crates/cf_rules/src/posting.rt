@@ -5,12 +5,12 @@ ghost use Rattle.cf_calls.specs.declared.reply.Body.TheVariants as bodies;
 ghost use Rattle.cf_calls.specs.declared.reply.Posted.TheVariants as posted;
 ghost use Rattle.cf_model.specs.Results as results;
 
-use crate::history::History;
+use cf_history::History;
 use cf_calls::{Body, Posted, Refusal, Reply};
 
 /// The reply to a change that repeats the call at a place.
-pub fn repeat_reply<H: History>(history: &H, was: u64) -> Posted
-    ensures { result ≡ posted.Reply (record { at = length (H.entries history.now); body = bodies.Done (results.made_at (H.plan history.now) (H.entries history.now) was) (Some was) }) }
+pub fn repeat_reply(history: &History, was: u64) -> Posted
+    ensures { result ≡ posted.Reply (record { at = length history.now.entries; body = bodies.Done (results.made_at history.now.plan history.now.entries was) (Some was) }) }
 {
     let made = history.made_at(was);
     Posted::Reply(Reply {
@@ -23,8 +23,8 @@ pub fn repeat_reply<H: History>(history: &H, was: u64) -> Posted
 }
 
 /// The reply to a change that a rule refuses.
-pub fn refusal_reply<H: History>(history: &H, refusal: Refusal) -> Posted
-    ensures { result ≡ posted.Reply (record { at = length (H.entries history.now); body = bodies.Refused refusal }) }
+pub fn refusal_reply(history: &History, refusal: Refusal) -> Posted
+    ensures { result ≡ posted.Reply (record { at = length history.now.entries; body = bodies.Refused refusal }) }
 {
     Posted::Reply(Reply {
         at: history.len(),

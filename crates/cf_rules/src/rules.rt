@@ -14,7 +14,7 @@ ghost use Rattle.cf_model.specs.Rules.{first_refusal};
 ghost use Rattle.cf_rules.specs.Least.{closed_where};
 ghost use Rattle.cf_chart.specs.Plan.{object_at, desk_at, is_capital_kind};
 
-use crate::history::{History, debt_of, orders_of, revenue_of};
+use cf_history::History;
 use cf_base::{Day, LAST_YEAR, MOST_CENTS, MOST_ENTRIES, Month, fiscal_year, month_of};
 use cf_calls::acts::{AssetAct, LeaveAct, Period};
 use cf_calls::items::{AccountItem, Charge, LineAmount, SourceAmount, VoucherItem};
@@ -233,9 +233,9 @@ pub fn amount_rule(act: &Act) -> Option<Refusal>
 // ---- months and years
 
 /// The month of the call's day is closed.
-pub fn period_rule<H: History>(history: &H, on: Day) -> Option<Refusal>
+pub fn period_rule(history: &History, on: Day) -> Option<Refusal>
     requires { is_day on ≡ true }
-    ensures { result ≡ spec.period_refusal (H.plan history.now) (H.entries history.now) on }
+    ensures { result ≡ spec.period_refusal history.now.plan history.now.entries on }
 {
     if history.is_closed(on) {
         Some(Refusal::PeriodClosed {
@@ -273,9 +273,9 @@ fn stated_fault(first_open: u16, act: &Act) -> Option<Refusal>
 }
 
 /// The year of the call's day, or a year that it states, is too far ahead.
-pub fn year_rule<H: History>(history: &H, on: Day, act: &Act) -> Option<Refusal>
+pub fn year_rule(history: &History, on: Day, act: &Act) -> Option<Refusal>
     requires { is_day on ≡ true }
-    ensures { result ≡ spec.year_refusal (H.plan history.now) (H.entries history.now) on act.now }
+    ensures { result ≡ spec.year_refusal history.now.plan history.now.entries on act.now }
 {
     let first_open = history.open_year();
     let year = year_of_day(history.chart(), on);
@@ -283,9 +283,9 @@ pub fn year_rule<H: History>(history: &H, on: Day, act: &Act) -> Option<Refusal>
 }
 
 /// The fiscal year of the month that is closed is too far ahead, or the year isn't the next one to close.
-pub fn closing_rule<H: History>(history: &H, on: Day, act: &Act) -> Option<Refusal>
+pub fn closing_rule(history: &History, on: Day, act: &Act) -> Option<Refusal>
     requires { IsActInForm on act.now }
-    ensures { result ≡ spec.closing_refusal (H.plan history.now) (H.entries history.now) act.now }
+    ensures { result ≡ spec.closing_refusal history.now.plan history.now.entries act.now }
 {
     match act {
         Act::Close(Period::Month(month)) => {
@@ -319,12 +319,12 @@ fn levy_fault(revenue: &Revenue, year: u16, bill: u32) -> Option<Refusal>
 }
 
 /// A bill is collected or written off before its levy year.
-pub fn levy_rule<H: History>(history: &H, on: Day, act: &Act) -> Option<Refusal>
+pub fn levy_rule(history: &History, on: Day, act: &Act) -> Option<Refusal>
     requires { is_day on ≡ true }
-    ensures { result ≡ levy_refusal (H.plan history.now) (registers_of (H.plan history.now) (H.entries history.now)) on act.now }
+    ensures { result ≡ levy_refusal history.now.plan (registers_of history.now.plan history.now.entries) on act.now }
 {
     let year = year_of_day(history.chart(), on);
-    let revenue = revenue_of(history);
+    let revenue = history.revenue();
     match act {
         Act::Collect(part) => levy_fault(revenue, year, part.bill),
         Act::WriteOff(part) => levy_fault(revenue, year, part.bill),
@@ -353,9 +353,9 @@ fn closed_if(first_open: u16, year: Option<u16>) -> Option<Refusal>
 
 /// The year that the call posts to is closed.
 #[tactic(auto, using(cf_model::proofs::First::firsts))]
-pub fn closed_rule<H: History>(history: &H, on: Day, act: &Act) -> Option<Refusal>
+pub fn closed_rule(history: &History, on: Day, act: &Act) -> Option<Refusal>
     requires { is_day on ≡ true }
-    ensures { result ≡ spec.closed_refusal (H.plan history.now) (H.entries history.now) on act.now }
+    ensures { result ≡ spec.closed_refusal history.now.plan history.now.entries on act.now }
 {
     let first_open = history.open_year();
     match act {
@@ -363,12 +363,12 @@ pub fn closed_rule<H: History>(history: &H, on: Day, act: &Act) -> Option<Refusa
         Act::Amend(a) => or(closed_fault(first_open, a.year), None),
         Act::Transfer(t) => or(closed_fault(first_open, t.year), None),
         Act::Bill(b) => or(closed_fault(first_open, b.levy_year), None),
-        Act::ChangeOrder(c) => closed_if(first_open, orders_of(history).item_year(c.order, c.item)),
+        Act::ChangeOrder(c) => closed_if(first_open, history.orders().item_year(c.order, c.item)),
         Act::Voucher(_) => or(
             closed_fault(first_open, document_year(history.chart(), on, act)),
             None,
         ),
-        Act::VoidVoucher(number) => closed_if(first_open, orders_of(history).voucher_year(*number)),
+        Act::VoidVoucher(number) => closed_if(first_open, history.orders().voucher_year(*number)),
         Act::Close(Period::Year(year)) => or(closed_fault(first_open, *year), None),
         _ => None,
     }
@@ -377,8 +377,8 @@ pub fn closed_rule<H: History>(history: &H, on: Day, act: &Act) -> Option<Refusa
 // ---- adopted budgets
 
 /// The fund's budget of the year was adopted before.
-pub fn adopted_rule<H: History>(history: &H, act: &Act) -> Option<Refusal>
-    ensures { result ≡ spec.adopted_refusal (H.entries history.now) act.now }
+pub fn adopted_rule(history: &History, act: &Act) -> Option<Refusal>
+    ensures { result ≡ spec.adopted_refusal history.now.entries act.now }
 {
     match act {
         Act::Adopt(a) => match history.adopted(a.fund, a.year) {
@@ -389,8 +389,8 @@ pub fn adopted_rule<H: History>(history: &H, act: &Act) -> Option<Refusal>
     }
 }
 
-fn unadopted_fault<H: History>(history: &H, fund: u16, year: u16) -> Option<Refusal>
-    ensures { result ≡ spec.unadopted_where fund year (spec.adopted_at fund year (H.entries history.now)) }
+fn unadopted_fault(history: &History, fund: u16, year: u16) -> Option<Refusal>
+    ensures { result ≡ spec.unadopted_where fund year (spec.adopted_at fund year history.now.entries) }
 {
     match history.adopted(fund, year) {
         Some(_) => None,
@@ -399,8 +399,8 @@ fn unadopted_fault<H: History>(history: &H, fund: u16, year: u16) -> Option<Refu
 }
 
 #[tactic(auto, using(cf_model::proofs::First::firsts))]
-fn items_unadopted<H: History>(history: &H, year: u16, items: &[VoucherItem]) -> Option<Refusal>
-    ensures { result ≡ first_refusal (λ fund. spec.unadopted_where fund year (spec.adopted_at fund year (H.entries history.now))) (spec.direct_funds items.now) }
+fn items_unadopted(history: &History, year: u16, items: &[VoucherItem]) -> Option<Refusal>
+    ensures { result ≡ first_refusal (λ fund. spec.unadopted_where fund year (spec.adopted_at fund year history.now.entries)) (spec.direct_funds items.now) }
 {
     for item in items {
         if let Some(refusal) = item_unadopted(history, year, item) {
@@ -411,8 +411,8 @@ fn items_unadopted<H: History>(history: &H, year: u16, items: &[VoucherItem]) ->
 }
 
 #[tactic(auto, using(cf_model::proofs::First::firsts))]
-fn item_unadopted<H: History>(history: &H, year: u16, item: &VoucherItem) -> Option<Refusal>
-    ensures { result ≡ first_refusal (λ fund. spec.unadopted_where fund year (spec.adopted_at fund year (H.entries history.now))) (spec.funds_if_direct item.now.charge item.now.account.fund) }
+fn item_unadopted(history: &History, year: u16, item: &VoucherItem) -> Option<Refusal>
+    ensures { result ≡ first_refusal (λ fund. spec.unadopted_where fund year (spec.adopted_at fund year history.now.entries)) (spec.funds_if_direct item.now.charge item.now.account.fund) }
 {
     match &item.charge {
         Charge::Direct => or(unadopted_fault(history, item.account.fund, year), None),
@@ -421,8 +421,8 @@ fn item_unadopted<H: History>(history: &H, year: u16, item: &VoucherItem) -> Opt
 }
 
 #[tactic(auto, using(cf_model::proofs::First::firsts))]
-fn accounts_unadopted<H: History>(history: &H, year: u16, items: &[AccountItem]) -> Option<Refusal>
-    ensures { result ≡ first_refusal (λ i. spec.unadopted_where i.fund year (spec.adopted_at i.fund year (H.entries history.now))) items.now }
+fn accounts_unadopted(history: &History, year: u16, items: &[AccountItem]) -> Option<Refusal>
+    ensures { result ≡ first_refusal (λ i. spec.unadopted_where i.fund year (spec.adopted_at i.fund year history.now.entries)) items.now }
 {
     for item in items {
         if let Some(refusal) = unadopted_fault(history, item.fund, year) {
@@ -434,9 +434,9 @@ fn accounts_unadopted<H: History>(history: &H, year: u16, items: &[AccountItem])
 
 /// The fund's budget of the year isn't adopted.
 #[tactic(auto, using(cf_model::proofs::First::firsts))]
-pub fn unadopted_rule<H: History>(history: &H, on: Day, act: &Act) -> Option<Refusal>
+pub fn unadopted_rule(history: &History, on: Day, act: &Act) -> Option<Refusal>
     requires { is_day on ≡ true }
-    ensures { result ≡ spec.unadopted_refusal (H.plan history.now) (H.entries history.now) on act.now }
+    ensures { result ≡ spec.unadopted_refusal history.now.plan history.now.entries on act.now }
 {
     match act {
         Act::Amend(a) => or(unadopted_fault(history, a.fund, a.year), None),
@@ -466,11 +466,11 @@ pub fn unadopted_rule<H: History>(history: &H, on: Day, act: &Act) -> Option<Ref
 }
 
 /// The fund's budget of the fiscal year in which a debt payment is due isn't adopted.
-pub fn payment_rule<H: History>(history: &H, act: &Act) -> Option<Refusal>
-    ensures { result ≡ payment_refusal (H.plan history.now) (H.entries history.now) (registers_of (H.plan history.now) (H.entries history.now)) act.now }
+pub fn payment_rule(history: &History, act: &Act) -> Option<Refusal>
+    ensures { result ≡ payment_refusal history.now.plan history.now.entries (registers_of history.now.plan history.now.entries) act.now }
 {
     match act {
-        Act::PayDue(payment) => match debt_of(history).due(history.chart(), payment.bond) {
+        Act::PayDue(payment) => match history.debt().due(history.chart(), payment.bond) {
             Some(due) => unadopted_fault(history, payment.fund, due.year),
             None => None,
         },

@@ -2,6 +2,7 @@
 
 ghost use Rattle.std.specs.Prelude.{◌≡◌, true, None};
 ghost use Rattle.cf_base.specs.Calendar.{is_day};
+ghost use Rattle.cf_budget.specs.Tables.{has_line};
 ghost use Rattle.cf_calls.specs.Form.{IsChangeInForm};
 ghost use Rattle.cf_model.specs.Documents.{documents_of};
 ghost use Rattle.cf_registers.specs.Lines.{LendsTouched};
@@ -13,7 +14,7 @@ ghost use Rattle.cf_registers.specs.RegistersState.{register_rules};
 
 use crate::cash::cash_rule;
 use crate::exceeds::exceed_rule;
-use crate::history::{History, orders_of};
+use cf_history::History;
 use crate::names::name_rule;
 use crate::register_names::register_name_rule;
 use crate::rules::{
@@ -24,8 +25,8 @@ use crate::windows::window_rule;
 use cf_calls::{Change, Refusal, Verdict};
 
 /// The rules before a repeat: an unknown desk, and a caller that has seen more than the history has.
-fn first_rules<H: History>(history: &H, change: &Change) -> Option<Refusal>
-    ensures { result ≡ rules.first_of (step.first_rules (H.plan history.now) (H.entries history.now) change.now) }
+fn first_rules(history: &History, change: &Change) -> Option<Refusal>
+    ensures { result ≡ rules.first_of (step.first_rules history.now.plan history.now.entries change.now) }
 {
     or(
         desk_rule(history.chart(), change.desk),
@@ -34,9 +35,9 @@ fn first_rules<H: History>(history: &H, change: &Change) -> Option<Refusal>
 }
 
 /// The rules of the desk's role, the history's length, amounts and names.
-fn call_rules<H: History>(history: &H, change: &Change) -> Option<Refusal>
+fn call_rules(history: &History, change: &Change) -> Option<Refusal>
     requires { is_day change.now.on ≡ true }
-    ensures first { result ≡ rules.first_of (step.call_rules (H.plan history.now) (H.entries history.now) change.now) }
+    ensures first { result ≡ rules.first_of (step.call_rules history.now.plan history.now.entries change.now) }
 {
     let chart = history.chart();
     let act = &change.act;
@@ -49,7 +50,7 @@ fn call_rules<H: History>(history: &H, change: &Change) -> Option<Refusal>
     if let Some(refusal) = amount_rule(act) {
         return Some(refusal);
     }
-    if let Some(refusal) = name_rule(chart, orders_of(history), change.on, act) {
+    if let Some(refusal) = name_rule(chart, history.orders(), change.on, act) {
         return Some(refusal);
     }
     or(
@@ -59,9 +60,9 @@ fn call_rules<H: History>(history: &H, change: &Change) -> Option<Refusal>
 }
 
 /// The rules of periods and adopted budgets.
-fn period_rules<H: History>(history: &H, change: &Change) -> Option<Refusal>
+fn period_rules(history: &History, change: &Change) -> Option<Refusal>
     requires { IsChangeInForm change.now }
-    ensures { result ≡ rules.first_of (step.period_rules (H.plan history.now) (H.entries history.now) change.now) }
+    ensures { result ≡ rules.first_of (step.period_rules history.now.plan history.now.entries change.now) }
 {
     if let Some(refusal) = period_rule(history, change.on) {
         return Some(refusal);
@@ -91,9 +92,9 @@ fn period_rules<H: History>(history: &H, change: &Change) -> Option<Refusal>
 }
 
 /// The first broken rule of the registers.
-fn register_rule<H: History>(history: &H, change: &Change) -> Option<Refusal>
+fn register_rule(history: &History, change: &Change) -> Option<Refusal>
     requires { is_day change.now.on ≡ true }
-    ensures { result ≡ rules.first_of (register_rules (H.plan history.now) (registers_of (H.plan history.now) (H.entries history.now)) change.now.on change.now.desk change.now.act) }
+    ensures { result ≡ rules.first_of (register_rules history.now.plan (registers_of history.now.plan history.now.entries) change.now.on change.now.desk change.now.act) }
 {
     history
         .registers()
@@ -103,12 +104,12 @@ fn register_rule<H: History>(history: &H, change: &Change) -> Option<Refusal>
 /// The rules on the states of documents, on what is left of bills and loans, on assets, debt, leave and the order of
 /// months, of room, and of cash.
 #[tactic(auto, using(cf_model::proofs::First::rule_lists))]
-fn last_rules<H: History>(history: &H, change: &Change) -> Option<Refusal>
-    requires lent { LendsTouched (H.plan history.now) (H.lends history.now) change.now.act }
+fn last_rules(history: &History, change: &Change) -> Option<Refusal>
+    requires lent { LendsTouched history.now.plan (has_line history.now.lines) change.now.act }
     requires form { IsChangeInForm change.now }
-    requires names { rules.name_refusal (H.plan history.now) (documents_of (H.plan history.now) (H.entries history.now)) change.now.on change.now.act ≡ None }
-    requires register_names { register_name_refusal (H.plan history.now) (registers_of (H.plan history.now) (H.entries history.now)) change.now.on change.now.act ≡ None }
-    ensures { result ≡ rules.first_of (step.last_rules (H.plan history.now) (H.entries history.now) change.now) }
+    requires names { rules.name_refusal history.now.plan (documents_of history.now.plan history.now.entries) change.now.on change.now.act ≡ None }
+    requires register_names { register_name_refusal history.now.plan (registers_of history.now.plan history.now.entries) change.now.on change.now.act ≡ None }
+    ensures { result ≡ rules.first_of (step.last_rules history.now.plan history.now.entries change.now) }
 {
     // So that the proof knows that the history is legal.
     let _chart = history.chart();
@@ -123,10 +124,10 @@ fn last_rules<H: History>(history: &H, change: &Change) -> Option<Refusal>
 
 /// The rules after a repeat, the least broken one first.
 #[tactic(auto, using(cf_model::proofs::First::rule_lists))]
-fn later_rules<H: History>(history: &H, change: &Change) -> Option<Refusal>
-    requires lent { LendsTouched (H.plan history.now) (H.lends history.now) change.now.act }
+fn later_rules(history: &History, change: &Change) -> Option<Refusal>
+    requires lent { LendsTouched history.now.plan (has_line history.now.lines) change.now.act }
     requires form { IsChangeInForm change.now }
-    ensures { result ≡ rules.first_of (step.later_rules (H.plan history.now) (H.entries history.now) change.now) }
+    ensures { result ≡ rules.first_of (step.later_rules history.now.plan history.now.entries change.now) }
 {
     if let Some(refusal) = call_rules(history, change) {
         return Some(refusal);
@@ -138,8 +139,8 @@ fn later_rules<H: History>(history: &H, change: &Change) -> Option<Refusal>
 }
 
 /// A change whose desk used the key before: a repeat where it is the same call.
-fn judge_known<H: History>(history: &H, change: &Change, was: u64) -> Verdict
-    ensures { result ≡ step.verdict_known (H.entries history.now) change.now was }
+fn judge_known(history: &History, change: &Change, was: u64) -> Verdict
+    ensures { result ≡ step.verdict_known history.now.entries change.now was }
 {
     if history.is_repeat(change, was) {
         Verdict::Repeat { was }
@@ -148,10 +149,10 @@ fn judge_known<H: History>(history: &H, change: &Change, was: u64) -> Verdict
     }
 }
 
-fn judge_new<H: History>(history: &H, change: &Change) -> Verdict
-    requires lent { LendsTouched (H.plan history.now) (H.lends history.now) change.now.act }
+fn judge_new(history: &History, change: &Change) -> Verdict
+    requires lent { LendsTouched history.now.plan (has_line history.now.lines) change.now.act }
     requires form { IsChangeInForm change.now }
-    ensures { result ≡ step.verdict_new (H.plan history.now) (H.entries history.now) change.now None }
+    ensures { result ≡ step.verdict_new history.now.plan history.now.entries change.now None }
 {
     match later_rules(history, change) {
         Some(refusal) => Verdict::Refuse(refusal),
@@ -161,10 +162,10 @@ fn judge_new<H: History>(history: &H, change: &Change) -> Verdict
 
 /// What the rules say of a change over a history: that it is accepted with the numbers that it draws, that it
 /// repeats an earlier call, or the least broken rule with its values. It takes no memory.
-pub fn judge<H: History>(history: &H, change: &Change) -> Verdict
+pub fn judge(history: &History, change: &Change) -> Verdict
     requires form { IsChangeInForm change.now }
-    requires lent { LendsTouched (H.plan history.now) (H.lends history.now) change.now.act }
-    ensures { result ≡ step.verdict_of (H.plan history.now) (H.entries history.now) change.now }
+    requires lent { LendsTouched history.now.plan (has_line history.now.lines) change.now.act }
+    ensures { result ≡ step.verdict_of history.now.plan history.now.entries change.now }
 {
     if let Some(refusal) = first_rules(history, change) {
         return Verdict::Refuse(refusal);

@@ -6,7 +6,7 @@ ghost use Rattle.cf_model.proofs.MonthNumbers.{IsNamed};
 ghost use Rattle.cf_model.specs.Calendar.{is_month_closed};
 ghost use Rattle.cf_model.specs.Rules as spec;
 
-use crate::history::History;
+use cf_history::History;
 use cf_base::{Day, Month, month_at, window_end, year_end};
 use cf_calls::acts::Period;
 use cf_calls::{Act, Refusal};
@@ -24,18 +24,18 @@ fn window_month(chart: &Chart, year: u16) -> Month
 }
 
 /// Whether a month is closed: it is before the chart's first month, or one of the first months that are closed.
-fn is_closed<H: History>(history: &H, month: Month) -> bool
+fn is_closed(history: &History, month: Month) -> bool
     requires { IsNamed month }
-    ensures { result ≡ is_month_closed (H.plan history.now) (H.entries history.now) month }
+    ensures { result ≡ is_month_closed history.now.plan history.now.entries month }
 {
     let first = start_month(history.chart());
     month_number(month) < first + u32::from(history.registers().closed())
 }
 
 /// A year closes while what is collected can still be revenue of it.
-pub fn window_rule<H: History>(history: &H, on: Day, act: &Act) -> Option<Refusal>
+pub fn window_rule(history: &History, on: Day, act: &Act) -> Option<Refusal>
     requires { IsActInForm on act.now }
-    ensures { result ≡ spec.window_refusal (H.plan history.now) (H.entries history.now) act.now }
+    ensures { result ≡ spec.window_refusal history.now.plan history.now.entries act.now }
 {
     let Act::Close(Period::Year(year)) = act else {
         return None;

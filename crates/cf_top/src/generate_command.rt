@@ -12,7 +12,7 @@ use cf_base::Sink;
 use cf_calls::shown::ReconShown;
 use cf_calls::{Label, List, Row};
 use cf_generator::generate;
-use cf_office::{BookOffice, History};
+use cf_office::BookOffice;
 use cf_runs::{Status, print};
 use cf_text::{put_count, put_row};
 use cf_words::{Command, WordsRefused, read_words};
@@ -44,7 +44,8 @@ fn total_lines(alloc: Global, count: u64, recon: &ReconShown) -> Result<Vec<u8>,
 fn office_lines(alloc: Global, office: &BookOffice) -> Result<Vec<u8>, AllocError>
     ensures { IfOk result (λ text. text.items ≡ spec.office_lines office.now.plan office.now.entries) }
 {
-    total_lines(alloc, office.len(), &office.recon(2026))
+    let history = office.history();
+    total_lines(alloc, history.len(), &history.recon(2026))
 }
 
 /// The lines of the run of so many drawn calls.

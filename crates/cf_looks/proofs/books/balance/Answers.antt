@@ -6,10 +6,10 @@ use Rattle.cf_looks.proofs.SmallBalance.{small_balance}
 use Rattle.cf_looks.proofs.books.balance.Goals as goal
 
 pub returns-clause-small : goal.returns-clause-small
-returns-clause-small g c =
-    let few : length (g.H.History.entries c.args.history.now) ≤ 1500000 = search rules in
+returns-clause-small c =
+    let few : length c.args.history.now.entries ≤ 1500000 = search rules in
     let fits : SFits w128 c.balance.result = search rules in
     rw (to_z-of_z w128 c.balance.result fits)
     (subst (λ z. unsigned_abs z < 2 ^ 104) (sym c.balance.ensures)
-    (small_balance c.args.basis (g.H.History.plan c.args.history.now) (g.H.History.entries c.args.history.now) c.args.year c.args.fund c.args.account
+    (small_balance c.args.basis c.args.history.now.plan c.args.history.now.entries c.args.year c.args.fund c.args.account
     c.chart-chart.ensures.whole c.chart-chart.ensures.legal few))

@@ -6,7 +6,7 @@ use Rattle.cf_model.proofs.FundAccounts.{fund_balance_is}
 use Rattle.cf_looks.proofs.books.fund_balance.Goals as goal
 
 pub returns : goal.returns
-returns g c =
+returns c =
     let fits : SFits w128 c.fund_sum.result = search rules in
     rw (to_z-of_z w128 c.fund_sum.result fits)
-    (c.fund_sum.ensures ∙ fund_balance_is (g.H.History.plan c.args.history.now) c.args.year c.args.fund (g.H.History.entries c.args.history.now))
+    (c.fund_sum.ensures ∙ fund_balance_is c.args.history.now.plan c.args.year c.args.fund c.args.history.now.entries)

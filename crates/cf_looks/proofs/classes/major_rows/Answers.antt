@@ -3,5 +3,5 @@ use Rattle.cf_classes.specs.Statements as spec
 use Rattle.cf_looks.proofs.classes.major_rows.Goals as goal
 
 pub returns : goal.returns
-returns g c =
-    subst (λ h. IfOk c.major_funds.result (λ rows. rows.items ≡ spec.major_rows (g.H.History.plan h) (g.H.History.entries h) c.args.year)) c.of.ensures c.major_funds.ensures.rows
+returns c =
+    subst (λ h. IfOk c.major_funds.result (λ rows. rows.items ≡ spec.major_rows h.plan h.entries c.args.year)) c.of.ensures c.major_funds.ensures.rows

@@ -12,13 +12,13 @@ use Rattle.cf_registers.specs.RegistersState.{register_shown}
 use Rattle.cf_looks.proofs.looks.show.Goals as goal
 
 pub returns-in-Line : goal.returns-in-Line
-returns-in-Line g c =
-    c.show_line.ensures ∙ ap (shown_of (g.H.History.plan c.args.history.now) (g.H.History.entries c.args.history.now)) (sym c.in-Line.is)
+returns-in-Line c =
+    c.show_line.ensures ∙ ap (shown_of c.args.history.now.plan c.args.history.now.entries) (sym c.in-Line.is)
 
 pub returns-in-Requisition : goal.returns-in-Requisition
-returns-in-Requisition g c =
-    let plan = g.H.History.plan c.args.history.now in
-    let entries = g.H.History.entries c.args.history.now in
+returns-in-Requisition c =
+    let plan = c.args.history.now.plan in
+    let entries = c.args.history.now.entries in
     let n = c.in-Requisition.requisition in
     let same = ap (λ (r : Read). or_refused kind.Requisition n (register_shown plan (registers_of plan entries) r)) c.in-Requisition.is
     ∙ ap (λ (d : Documents). or_refused kind.Requisition n (requisition_shown plan n d.holds)) (documents_are plan entries)
@@ -26,9 +26,9 @@ returns-in-Requisition g c =
     IfOk-weaker _ _ (λ (b : Body). b ≡ shown_of plan entries c.args.read.now) (λ b is. is ∙ same) c.show_numbered.ensures
 
 pub returns-in-Order : goal.returns-in-Order
-returns-in-Order g c =
-    let plan = g.H.History.plan c.args.history.now in
-    let entries = g.H.History.entries c.args.history.now in
+returns-in-Order c =
+    let plan = c.args.history.now.plan in
+    let entries = c.args.history.now.entries in
     let n = c.in-Order.order in
     let same = ap (λ (r : Read). or_refused kind.Order n (register_shown plan (registers_of plan entries) r)) c.in-Order.is
     ∙ ap (λ (d : Documents). or_refused kind.Order n (order_shown plan n d.items)) (documents_are plan entries)
@@ -36,9 +36,9 @@ returns-in-Order g c =
     IfOk-weaker _ _ (λ (b : Body). b ≡ shown_of plan entries c.args.read.now) (λ b is. is ∙ same) c.show_numbered-in-Order.ensures
 
 pub returns-in-Voucher : goal.returns-in-Voucher
-returns-in-Voucher g c =
-    let plan = g.H.History.plan c.args.history.now in
-    let entries = g.H.History.entries c.args.history.now in
+returns-in-Voucher c =
+    let plan = c.args.history.now.plan in
+    let entries = c.args.history.now.entries in
     let n = c.in-Voucher.voucher in
     let same = ap (λ (r : Read). or_refused kind.Voucher n (register_shown plan (registers_of plan entries) r)) c.in-Voucher.is
     ∙ ap (λ (d : Documents). or_refused kind.Voucher n (voucher_shown n d.expenditures)) (documents_are plan entries)

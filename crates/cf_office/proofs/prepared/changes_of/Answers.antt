@@ -1,7 +1,7 @@
 use Rattle.std.proofs.Common.{◌≡◌, ◌∙◌, None, Some, true, List, Vec, Global, length, ap, sym, subst}
 use Rattle.std.proofs.lemmas.Result.{IfOk-weaker}
 use Rattle.std.specs.Result.{IfOk}
-use Rattle.cf_office.specs.LentState.{LentState}
+use Rattle.cf_history.specs.HistoryState.{HistoryState}
 use Rattle.cf_office.specs.Rolled.{changes_to}
 use Rattle.cf_budget.specs.declared.changes.LineChange.{LineChange}
 use Rattle.cf_budget.specs.Tables.{has_line}
@@ -27,7 +27,7 @@ roll_changes-requires-clause-year c =
 
 pub roll_changes-requires-clause-lent : goal.roll_changes-requires-clause-lent
 roll_changes-requires-clause-lent c line =
-    subst (λ (s : LentState). has_line s.lines line ≡ true) (sym c.new.ensures)
+    subst (λ (s : HistoryState). has_line s.lines line ≡ true) (sym c.new.ensures)
     (rolled_lent c.args.rest.now.plan (has_line c.args.lines.now) c.args.entry.now.change.act c.in-Some.year
     (ap (λ (p : Plan). rolled_year p c.args.entry.now.change.act) (sym c.chart-chart.ensures.value) ∙ sym c.rolled_year.ensures ∙ c.in-Some.is) c.requires.lent line)
 
@@ -57,7 +57,7 @@ returns-in-Some-clause-make c =
     let rolls : rolled_year plan change.act ≡ Some c.in-Some.year = ap (λ (p : Plan). rolled_year p change.act) (sym c.chart-chart.ensures.value) ∙ sym c.rolled_year.ensures ∙ c.in-Some.is in
     let make = roll_make plan h change.on change.act c.in-Some.year rolls (rolled_before plan change.on change.act c.in-Some.year c.requires.adds.form.act rolls) in
     IfOk-weaker _ _ _ (λ (v : Vec LineChange Global) is. subst (λ (xs : List LineChange). Make plan (moved_by plan (registers_of plan h) change.on change.act) xs) (sym is) make)
-    (subst (λ (s : LentState). IfOk c.roll_changes.result (λ (v : Vec LineChange Global). v.items ≡ changes_to s.plan s.entries c.in-Some.year (length s.plan.lines))) c.new.ensures c.roll_changes.ensures)
+    (subst (λ (s : HistoryState). IfOk c.roll_changes.result (λ (v : Vec LineChange Global). v.items ≡ changes_to s.plan s.entries c.in-Some.year (length s.plan.lines))) c.new.ensures c.roll_changes.ensures)
 
 pub returns-in-Some-clause-touched : goal.returns-in-Some-clause-touched
 returns-in-Some-clause-touched c =
@@ -67,7 +67,7 @@ returns-in-Some-clause-touched c =
     let rolls : rolled_year plan act ≡ Some c.in-Some.year = ap (λ (p : Plan). rolled_year p act) (sym c.chart-chart.ensures.value) ∙ sym c.rolled_year.ensures ∙ c.in-Some.is in
     let touched = roll_touched plan h act c.in-Some.year (length plan.lines) rolls in
     IfOk-weaker _ _ (λ (v : Vec LineChange Global). are_touched plan act v.items ≡ true) (λ (v : Vec LineChange Global) is. subst (λ (xs : List LineChange). are_touched plan act xs ≡ true) (sym is) touched)
-    (subst (λ (s : LentState). IfOk c.roll_changes.result (λ (v : Vec LineChange Global). v.items ≡ changes_to s.plan s.entries c.in-Some.year (length s.plan.lines))) c.new.ensures c.roll_changes.ensures)
+    (subst (λ (s : HistoryState). IfOk c.roll_changes.result (λ (v : Vec LineChange Global). v.items ≡ changes_to s.plan s.entries c.in-Some.year (length s.plan.lines))) c.new.ensures c.roll_changes.ensures)
 
 pub returns-in-None-clause-make : goal.returns-in-None-clause-make
 returns-in-None-clause-make c =

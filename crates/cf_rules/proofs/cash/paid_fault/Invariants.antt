@@ -7,8 +7,8 @@ use Rattle.cf_registers.proofs.Paying.{fund_short}
 use Rattle.cf_rules.proofs.cash.paid_fault.Given as goal
 
 abbrev pub invariant-loop-fund : goal.invariant-loop-fund
-invariant-loop-fund g l =
-    let plan = g.H.History.plan l.history in
-    let h = g.H.History.entries l.history in
+invariant-loop-fund l =
+    let plan = l.history.plan in
+    let h = l.history.entries in
     let act : Act = Pay (record { vouchers = l.vouchers }) in
     first_refusal (fund_short plan h act) (drop l.fund-index plan.funds) ≡ cash_refusal plan h act

@@ -12,21 +12,21 @@ use Rattle.cf_rules.proofs.Short.{payment_short}
 use Rattle.cf_rules.proofs.cash.payment_fault.Goals as goal
 
 pub returns-in-Some : goal.returns-in-Some
-returns-in-Some g c =
-    let plan = g.H.History.plan c.args.history.now in
-    let h = g.H.History.entries c.args.history.now in
+returns-in-Some c =
+    let plan = c.args.history.now.plan in
+    let h = c.args.history.now.entries in
     let p = c.args.payment.now in
     let d = c.in-Some.due in
-    let due : due_now plan (bond_at p.bond (registers_of plan h).bonds) ≡ Some d = due_over plan h _ _ p.bond _ c.chart.ensures.value c.debt_of.ensures c.due.ensures ∙ c.in-Some.is in
+    let due : due_now plan (bond_at p.bond (registers_of plan h).bonds) ≡ Some d = due_over plan h _ _ p.bond _ c.chart.ensures.value c.debt.ensures c.due.ensures ∙ c.in-Some.is in
     let taken : c.from.result + c.from-in-Some.result ≡ d.principal + d.interest = omega (arith, c.from.ensures, c.from-in-Some.ensures) in
     c.cash_fault.ensures ∙ ap (cash_short p.fund (cash_of plan p.fund h)) (taken ∙ ap due_amount (sym due))
     ∙ payment_short plan h c.args.on p (named_always plan h c.chart.ensures.legal p.bond) c.requires
 
 pub returns-in-None : goal.returns-in-None
-returns-in-None g c =
-    let plan = g.H.History.plan c.args.history.now in
-    let h = g.H.History.entries c.args.history.now in
+returns-in-None c =
+    let plan = c.args.history.now.plan in
+    let h = c.args.history.now.entries in
     let p = c.args.payment.now in
-    let due : due_now plan (bond_at p.bond (registers_of plan h).bonds) ≡ None = due_over plan h _ _ p.bond _ c.chart.ensures.value c.debt_of.ensures c.due.ensures ∙ c.in-None.is in
+    let due : due_now plan (bond_at p.bond (registers_of plan h).bonds) ≡ None = due_over plan h _ _ p.bond _ c.chart.ensures.value c.debt.ensures c.due.ensures ∙ c.in-None.is in
     ap (λ (o : Option Due). cash_short p.fund (cash_of plan p.fund h) (due_amount o)) (sym due)
     ∙ payment_short plan h c.args.on p (named_always plan h c.chart.ensures.legal p.bond) c.requires

@@ -14,54 +14,54 @@ use Rattle.cf_registers.proofs.Taken.{moves_drawn}
 use Rattle.cf_rules.proofs.exceeds.exceed_rule.Goals as goal
 
 pub amendment_rule-requires-clause-line : goal.amendment_rule-requires-clause-line
-amendment_rule-requires-clause-line g c =
-    amended_line (g.H.History.plan c.args.history.now) (documents_of (g.H.History.plan c.args.history.now) (g.H.History.entries c.args.history.now)) c.args.change.now.on c.args.change.now.act c.in-Some.amendment.now (sym c.amendment.ensures ∙ ap option_copied c.in-Some.is) c.requires.names
+amendment_rule-requires-clause-line c =
+    amended_line c.args.history.now.plan (documents_of c.args.history.now.plan c.args.history.now.entries) c.args.change.now.on c.args.change.now.act c.in-Some.amendment.now (sym c.amendment.ensures ∙ ap option_copied c.in-Some.is) c.requires.names
 
 pub amendment_rule-requires-clause-year : goal.amendment_rule-requires-clause-year
-amendment_rule-requires-clause-year g c = amended_year c.args.change.now.on c.args.change.now.act c.in-Some.amendment.now (sym c.amendment.ensures ∙ ap option_copied c.in-Some.is) c.requires.form.act
+amendment_rule-requires-clause-year c = amended_year c.args.change.now.on c.args.change.now.act c.in-Some.amendment.now (sym c.amendment.ensures ∙ ap option_copied c.in-Some.is) c.requires.form.act
 
 pub amendment_rule-requires-clause-lent : goal.amendment_rule-requires-clause-lent
-amendment_rule-requires-clause-lent g c =
-    c.requires.lent _ (amended_touched (g.H.History.plan c.args.history.now) c.args.change.now.act c.in-Some.amendment.now (sym c.amendment.ensures ∙ ap option_copied c.in-Some.is))
+amendment_rule-requires-clause-lent c =
+    c.requires.lent _ (amended_touched c.args.history.now.plan c.args.change.now.act c.in-Some.amendment.now (sym c.amendment.ensures ∙ ap option_copied c.in-Some.is))
 
 pub transfer_rule-requires-clause-lent : goal.transfer_rule-requires-clause-lent
-transfer_rule-requires-clause-lent g c =
-    c.requires.lent _ (transferred_touched (g.H.History.plan c.args.history.now) c.args.change.now.act c.in-Some-line_transfer.transfer.now (sym c.line_transfer.ensures ∙ ap option_copied c.in-Some-line_transfer.is)).0
+transfer_rule-requires-clause-lent c =
+    c.requires.lent _ (transferred_touched c.args.history.now.plan c.args.change.now.act c.in-Some-line_transfer.transfer.now (sym c.line_transfer.ensures ∙ ap option_copied c.in-Some-line_transfer.is)).0
 
 pub returns-in-Some : goal.returns-in-Some
-returns-in-Some g c =
-    let plan = g.H.History.plan c.args.history.now in
-    let h = g.H.History.entries c.args.history.now in
+returns-in-Some c =
+    let plan = c.args.history.now.plan in
+    let h = c.args.history.now.entries in
     let is = sym c.amendment.ensures ∙ ap option_copied c.in-Some.is in
     c.amendment_rule.ensures
     ∙ sym (exceed_amendment plan h (entry_with (registers_of plan h) c.args.change.now) c.in-Some.amendment.now c.requires.legal (amend_unrolled plan c.args.change.now.act c.in-Some.amendment.now is) c.requires.form.act is
     (amended_line plan (documents_of plan h) c.args.change.now.on c.args.change.now.act c.in-Some.amendment.now is c.requires.names))
 
 pub transfer_rule-requires-clause-line : goal.transfer_rule-requires-clause-line
-transfer_rule-requires-clause-line g c =
-    transferred_line (g.H.History.plan c.args.history.now) (documents_of (g.H.History.plan c.args.history.now) (g.H.History.entries c.args.history.now)) c.args.change.now.on c.args.change.now.act c.in-Some-line_transfer.transfer.now (sym c.line_transfer.ensures ∙ ap option_copied c.in-Some-line_transfer.is) c.requires.names
+transfer_rule-requires-clause-line c =
+    transferred_line c.args.history.now.plan (documents_of c.args.history.now.plan c.args.history.now.entries) c.args.change.now.on c.args.change.now.act c.in-Some-line_transfer.transfer.now (sym c.line_transfer.ensures ∙ ap option_copied c.in-Some-line_transfer.is) c.requires.names
 
 pub transfer_rule-requires-clause-year : goal.transfer_rule-requires-clause-year
-transfer_rule-requires-clause-year g c = transferred_year c.args.change.now.on c.args.change.now.act c.in-Some-line_transfer.transfer.now (sym c.line_transfer.ensures ∙ ap option_copied c.in-Some-line_transfer.is) c.requires.form.act
+transfer_rule-requires-clause-year c = transferred_year c.args.change.now.on c.args.change.now.act c.in-Some-line_transfer.transfer.now (sym c.line_transfer.ensures ∙ ap option_copied c.in-Some-line_transfer.is) c.requires.form.act
 
 pub returns-in-Some-line_transfer : goal.returns-in-Some-line_transfer
-returns-in-Some-line_transfer g c =
-    let plan = g.H.History.plan c.args.history.now in
-    let h = g.H.History.entries c.args.history.now in
+returns-in-Some-line_transfer c =
+    let plan = c.args.history.now.plan in
+    let h = c.args.history.now.entries in
     let is = sym c.line_transfer.ensures ∙ ap option_copied c.in-Some-line_transfer.is in
     c.transfer_rule.ensures
     ∙ sym (exceed_transfer plan h (entry_with (registers_of plan h) c.args.change.now) c.in-Some-line_transfer.transfer.now c.requires.legal (transfer_unrolled plan c.args.change.now.act c.in-Some-line_transfer.transfer.now is) c.requires.form.act is
     (transferred_line plan (documents_of plan h) c.args.change.now.on c.args.change.now.act c.in-Some-line_transfer.transfer.now is c.requires.names))
 
 pub moves_rule-requires-clause-cleared : goal.moves_rule-requires-clause-cleared
-moves_rule-requires-clause-cleared g c =
-    cleared (g.H.History.plan c.args.history.now) (g.H.History.entries c.args.history.now) c.args.change.now.on c.args.change.now.desk c.args.change.now.act
+moves_rule-requires-clause-cleared c =
+    cleared c.args.history.now.plan c.args.history.now.entries c.args.change.now.on c.args.change.now.desk c.args.change.now.act
     c.chart-whole.ensures.whole.calendar c.requires.legal c.requires.form.on c.requires.form.act c.requires.documents
 
 pub returns : goal.returns
-returns g c =
-    let plan = g.H.History.plan c.args.history.now in
-    let h = g.H.History.entries c.args.history.now in
+returns c =
+    let plan = c.args.history.now.plan in
+    let h = c.args.history.now.entries in
     let act = c.args.change.now.act in
     let none = unrolled plan act (λ p e. c.in_default-act.not-Close p e) in
     let no_amendment = sym c.amendment.ensures ∙ ap option_copied (none_is c.amendment.result c.in_default.not-Some) in
@@ -71,7 +71,7 @@ returns g c =
     ∙ sym (exceed_rest plan h (entry_with (registers_of plan h) c.args.change.now) c.requires.legal none c.requires.form.act no_amendment no_transfer)
 
 pub returns-in-Close : goal.returns-in-Close
-returns-in-Close g c =
-    let plan = g.H.History.plan c.args.history.now in
-    let h = g.H.History.entries c.args.history.now in
+returns-in-Close c =
+    let plan = c.args.history.now.plan in
+    let h = c.args.history.now.entries in
     sym (exceed_close plan h (entry_with (registers_of plan h) c.args.change.now) _ c.requires.legal c.requires.form.act c.in-Close.is)

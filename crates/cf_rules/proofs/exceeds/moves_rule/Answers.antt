@@ -1,5 +1,6 @@
 use Rattle.std.proofs.Common.{◌≡◌, true, ◌∙◌, sym, ap, subst, List, None, ℕ, ℤ}
 use Rattle.std.specs.List.{All}
+use Rattle.cf_budget.specs.Tables.{has_line}
 use Rattle.cf_budget.specs.declared.changes.LineChange.{LineChange}
 use Rattle.cf_chart.specs.Plan.{Plan}
 use Rattle.cf_model.specs.Registers.{Registers, registers_of}
@@ -11,18 +12,18 @@ use Rattle.cf_registers.proofs.Lending.{are_touched, touched_lent}
 use Rattle.cf_rules.proofs.exceeds.moves_rule.Goals as goal
 
 pub least_excess-requires-clause-lent : goal.least_excess-requires-clause-lent
-least_excess-requires-clause-lent g c =
-    let lends = g.H.History.lends c.args.history.now in
+least_excess-requires-clause-lent c =
+    let lends = has_line c.args.history.now.lines in
     let act = c.args.act.now in
     let changes : List LineChange = c.merged_moves-changes.result.items in
     let touched = subst (λ (p : Plan). are_touched p act changes ≡ true) c.chart.ensures.value c.merged_moves-changes.ensures.touched in
     subst (λ (xs : List LineChange). All (λ (x : LineChange). lends x.line.number ≡ true) xs) (sym c.as_slice.ensures.value)
-    (touched_lent (g.H.History.plan c.args.history.now) lends act changes c.requires.lent touched)
+    (touched_lent c.args.history.now.plan lends act changes c.requires.lent touched)
 
 pub returns : goal.returns
-returns g c =
-    let plan = g.H.History.plan c.args.history.now in
-    let h = g.H.History.entries c.args.history.now in
+returns c =
+    let plan = c.args.history.now.plan in
+    let h = c.args.history.now.entries in
     let rooms : ℕ → ℕ → ℤ = λ line year. numbers.room plan line year h in
     let changes : List LineChange = c.merged_moves-changes.result.items in
     let make : Make plan (moves_row plan (act_moves plan (registers_of plan h) c.args.on c.args.act.now)) changes =

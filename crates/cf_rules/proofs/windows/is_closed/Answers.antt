@@ -5,9 +5,9 @@ use Rattle.cf_model.proofs.LegalMonths.{closed_are}
 use Rattle.cf_rules.proofs.windows.is_closed.Goals as goal
 
 pub returns : goal.returns
-returns g c =
-    let plan = g.H.History.plan c.args.history.now in
-    let h = g.H.History.entries c.args.history.now in
+returns c =
+    let plan = c.args.history.now.plan in
+    let h = c.args.history.now.entries in
     let first : c.start_month-first.result ≡ start_month plan = c.start_month-first.ensures.value ∙ ap start_month c.chart.ensures.value in
     let closed : c.from.result ≡ (registers_of plan h).closed = c.from.ensures ∙ c.closed.ensures ∙ ap (λ (r : Registers). r.closed) c.registers.ensures in
     (λ i. nat_lt (c.month_number.ensures i) (first i + closed i)) ∙ sym (closed_are plan h c.chart.ensures.whole.calendar c.chart.ensures.legal c.args.month c.requires)

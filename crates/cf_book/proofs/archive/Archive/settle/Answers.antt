@@ -1,7 +1,7 @@
 use Rattle.std.proofs.Common.{inl, sym, subst}
 use Rattle.cf_calls.specs.declared.call.Call.{Call}
 use Rattle.cf_calls.specs.declared.call.Call.TheVariants as calls
-use Rattle.cf_office.specs.LentState.{LentState}
+use Rattle.cf_history.specs.HistoryState.{HistoryState}
 use Rattle.cf_looks.specs.Posts.{Posts}
 use Rattle.cf_book.specs.DurableState.{DurableState}
 use Rattle.cf_book.specs.Settling.{Settles}
@@ -17,7 +17,7 @@ pub returns-in-Look-clause-reply : goal.returns-in-Look-clause-reply
 returns-in-Look-clause-reply g c =
     let b = c.self.inside in
     let s : DurableState = record { plan = b.rest.plan; entries = b.rest.entries; doubt = doubt_of b.doubt; faults = g.D.Disk.faults b.disk } in
-    let posts = subst (λ (x : LentState). Posts x.plan x.entries (calls.Look c.in-Look.look) x.entries c.look_reply.result) c.new-lent.ensures c.look_reply.ensures in
+    let posts = subst (λ (x : HistoryState). Posts x.plan x.entries (calls.Look c.in-Look.look) x.entries c.look_reply.result) c.new-history.ensures c.look_reply.ensures in
     rw (← c.self.view_is) (subst (λ (x : Call). Settles s x c.look_reply.result s) (sym c.in-Look.is) (look_settles s c.in-Look.look c.look_reply.result posts))
 
 pub returns-in-Look-clause-any_moment : goal.returns-in-Look-clause-any_moment
