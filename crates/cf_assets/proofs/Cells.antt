@@ -1,34 +1,9 @@
 -- The sums by fiscal year, and by closed month.
-use Rattle.std.proofs.Common.{◌≡◌, ◌⊎◌, inl, inr, ℕ, zero, suc, ◌+◌, ◌-◌, ◌*◌, ◌<◌, ◌≤◌, Bool, true, false, ◌==◌, List, [], ◌∷◌, ◌++◌, length, set, get_or, sum_by, sym, ap, ◌∙◌, arith}
-use Rattle.std.proofs.lemmas.Bool.Decides.{eqb_tells}
-use Rattle.std.proofs.lemmas.List.{length-set, length-replicate, get_or-replicate, get_or-set_same, get_or-set_other}
+use Rattle.std.proofs.Common.{◌≡◌, ℕ, zero, suc, ◌+◌, ◌-◌, ◌*◌, ◌<◌, ◌≤◌, List, [], ◌∷◌, ◌++◌, length, set, get_or, sum_by, ◌∙◌, arith}
 use Rattle.std.proofs.lemmas.List.Sums.{sum_by-cons}
-use Rattle.cf_assets.specs.Years.{AreYears, cell_of, with_cell, no_years}
+use Rattle.cf_rows.specs.Years.{AreYears, cell_of, with_cell}
+use Rattle.cf_rows.proofs.Cells.{year_is, years_same, years_set}
 use Rattle.cf_model.specs.Assets.{Asset}
-
--- a year's cell, as a place of the list
-pub year_is : (of : ℕ → ℕ) (cells : List ℕ) (year : ℕ) → AreYears of cells → 1970 ≤ year → year ≤ 2200 → cell_of cells year ≡ of year
-year_is of cells year are from to =
-    let back : (year - 1970) + 1970 ≡ year = omega (arith, from) in are.are (year - 1970) (omega (arith, from, to)) ∙ ap of back
-
--- the same amounts
-pub years_same : (F G : ℕ → ℕ) (cells : List ℕ) → AreYears F cells → ((year : ℕ) → G year ≡ F year) → AreYears G cells
-years_same F G cells are same = record { count = are.count; are = λ n l. are.are n l ∙ sym (same (n + 1970)) }
-
--- one year has another amount
-pub years_set : (F G : ℕ → ℕ) (cells : List ℕ) (at amount : ℕ) → AreYears F cells → 1970 ≤ at → at ≤ 2200 → G at ≡ amount → ((year : ℕ) → (year ≡ at → ⊥) → G year ≡ F year) →
-    AreYears G (with_cell cells at amount)
-years_set F G cells at amount are from to here others = record {
-  count = length-set cells (at - 1970) amount ∙ are.count;
-  are = λ n l. by_place n l (n + 1970 == at) (eqb_tells (n + 1970) at);
-}
-  where
-    by_place : (n : ℕ) → n < 231 → (b : Bool) → ((b ≡ true) × (n + 1970 ≡ at)) ⊎ ((b ≡ false) × (n + 1970 ≡ at → ⊥)) → get_or (set cells (at - 1970) amount) n 0 ≡ G (n + 1970)
-    by_place n l b (inl h) =
-        let place : at - 1970 ≡ n = omega (arith, h.1) in
-        ap (λ k. get_or (set cells k amount) n 0) place ∙ get_or-set_same cells n amount 0 (omega (arith, l, are.count)) ∙ sym here ∙ ap G (sym h.1)
-    by_place n l b (inr h) =
-        get_or-set_other cells (at - 1970) n amount 0 (λ same. h.1 (omega (arith, same, from))) ∙ are.are n l ∙ sym (others (n + 1970) h.1)
 
 -- ---- sums
 
@@ -84,11 +59,3 @@ enough_there f xs k d cells at amount l are from to is = omega (arith, sum_set (
     within g [] k d l = absurd (omega arith)
     within g (y ∷ ys) zero d l = omega (arith, sum_by-cons g y ys)
     within g (y ∷ ys) (suc k) d l = omega (arith, sum_by-cons g y ys, within g ys k d (omega arith))
-
--- a cell has room for one amount more
-pub cell_small : (f : ℕ → Asset → ℕ) (xs : List Asset) (cells : List ℕ) (at amount : ℕ) → AreYears (λ y. sum_by (f y) xs) cells → 1970 ≤ at → at ≤ 2200 → length xs ≤ 48000000 → amount ≤ 10000000000000 →
-    ((k : ℕ) (d : Asset) → k < length xs → f at (get_or xs k d) ≤ 10000000000000) → cell_of cells at + amount < 340282366920938463463374607431768211456
-cell_small f xs cells at amount are from to few most all = omega (arith, year_is (λ y. sum_by (f y) xs) cells at are from to, sum_small (f at) xs all)
-
-pub none_years : (F : ℕ → ℕ) → ((year : ℕ) → F year ≡ 0) → AreYears F no_years
-none_years F none = record { count = length-replicate {A = ℕ} 231 0; are = λ n l. get_or-replicate {A = ℕ} 231 n 0 0 l ∙ sym (none (n + 1970)) }

@@ -1,5 +1,5 @@
 -- What the assets by number keep of their rows.
-use Rattle.std.proofs.Common.{◌≡◌, ◌≢◌, ◌⊎◌, inl, inr, ℕ, zero, suc, ◌+◌, ◌-◌, ◌<◌, ◌≤◌, min, Bool, true, false, not, if◌then◌else◌, ◌==◌, ◌&&◌, List, [], ◌∷◌, ◌++◌, length, map, set, get_or, sum_by, Option, Some, None, is_some, is_none, refl, sym, subst, ap, ◌∙◌, arith}
+use Rattle.std.proofs.Common.{◌≡◌, ◌≢◌, ◌⊎◌, inl, inr, ℕ, zero, suc, ◌+◌, ◌-◌, ◌<◌, ◌≤◌, min, Bool, true, false, not, if◌then◌else◌, ◌==◌, ◌&&◌, List, [], ◌∷◌, ◌++◌, length, map, set, get_or, sum_by, is_some, refl, sym, subst, ap, ◌∙◌, arith}
 use Rattle.cf_assets.specs.declared.rows.Acquired.TheVariants.{Given, Leased}
 use Rattle.cf_assets.specs.declared.rows.Acquired.{Acquired}
 use Rattle.std.proofs.lemmas.Grind.{common_steps}
@@ -11,8 +11,10 @@ use Rattle.cf_assets.specs.declared.rows.StageNow.TheVariants.{Held, Void, Dispo
 use Rattle.cf_assets.specs.Inventory.{AreKept, accumulated_at}
 use Rattle.cf_assets.specs.InventoryView.{AreAccumulated}
 use Rattle.cf_assets.specs.Rows.{view_asset, view_stage, IsRow, IsStage, AreRows, no_row, view_origin}
-use Rattle.cf_assets.specs.Years.{AreYears, cell_of, with_cell, bought_in, given_in, book_in}
-use Rattle.cf_assets.proofs.Cells.{sum_push, sum_set, sum_small, push_adds, push_same, set_same, set_adds, set_takes, years_same, enough_there}
+use Rattle.cf_assets.specs.Years.{bought_in, given_in, book_in}
+use Rattle.cf_rows.specs.Years.{AreYears, cell_of, with_cell}
+use Rattle.cf_assets.proofs.Cells.{sum_push, sum_set, sum_small, push_adds, push_same, set_same, set_adds, set_takes, enough_there}
+use Rattle.cf_rows.proofs.Cells.{years_same}
 use Rattle.cf_assets.proofs.Charging.{not_yet, never_falls, total_next, total_first, total_most}
 use Rattle.cf_model.specs.Assets.{Asset, held, counted, depreciated, depreciation, charge, Origin, purchase, gift, lease, voucher_of, is_given}
 use Rattle.cf_model.specs.Changes.{is_void, is_disposed_in}

@@ -1,5 +1,5 @@
 -- What is leased, and the amortization of it: what each act makes of the running numbers.
-use Rattle.std.proofs.Common.{◌≡◌, ◌⊎◌, inl, inr, ℕ, zero, suc, ◌+◌, ◌-◌, ◌*◌, ◌<◌, ◌≤◌, Bool, true, false, not, if◌then◌else◌, ◌==◌, ◌&&◌, List, [], ◌∷◌, ◌++◌, length, map, get_or, sum_by, Option, None, refl, sym, ap, ◌∙◌, arith, length-append}
+use Rattle.std.proofs.Common.{◌≡◌, ◌⊎◌, inl, inr, ℕ, zero, suc, ◌+◌, ◌-◌, ◌*◌, ◌<◌, ◌≤◌, Bool, true, false, not, if◌then◌else◌, ◌==◌, ◌&&◌, List, [], ◌∷◌, ◌++◌, length, map, get_or, sum_by, None, refl, sym, ap, ◌∙◌, arith, length-append}
 use Rattle.std.specs.List.{filter, AllByRecursion}
 use Rattle.std.proofs.lemmas.Grind.{common_steps}
 use Rattle.std.proofs.lemmas.List.{get_or_append_left, get_or_push}
@@ -8,20 +8,19 @@ use Rattle.cf_assets.specs.Charges.{charge_in}
 use Rattle.cf_assets.specs.Inventory.{AreCheap, accumulated_at, staged}
 use Rattle.cf_assets.specs.Leases.{AreAmortized, amortization}
 use Rattle.cf_assets.specs.Steps.{voids, disposes}
-use Rattle.cf_assets.specs.Years.{AreYears, let_in, with_cell, cell_of}
-use Rattle.cf_assets.proofs.Cells.{push_adds, sum_push, years_same}
+use Rattle.cf_assets.specs.Years.{let_in}
+use Rattle.cf_rows.specs.Years.{AreYears, with_cell, cell_of}
+use Rattle.cf_assets.proofs.Cells.{push_adds, sum_push}
+use Rattle.cf_rows.proofs.Cells.{years_same}
 use Rattle.cf_assets.proofs.Charging.{depreciation_most, never_falls, not_yet}
 use Rattle.cf_base.specs.declared.calendar.Day.{Day}
 use Rattle.cf_calls.specs.declared.items.VoucherItem.{VoucherItem}
 use Rattle.cf_calls.specs.declared.refusal.AssetFault.TheVariants as fault
-use Rattle.cf_calls.specs.declared.refusal.Refusal.{Refusal}
 use Rattle.cf_calls.specs.declared.refusal.Refusal.TheVariants as refusal
 use Rattle.cf_chart.specs.Plan.{Plan, object_at}
-use Rattle.cf_model.specs.Assets.{Asset, Origin, purchase, gift, lease, Stage, held, void, disposed, counted, depreciation, charge, bought, new_asset, is_leased, life_of, voucher_of, leased, owned}
-use Rattle.cf_model.specs.Calendar.{is_before}
+use Rattle.cf_model.specs.Assets.{Asset, Origin, purchase, gift, lease, Stage, held, void, disposed, counted, depreciation, bought, new_asset, is_leased, life_of, voucher_of, leased, owned}
 use Rattle.cf_model.specs.Charted.{is_capital}
 use Rattle.cf_model.specs.Documents.{is_number}
-use Rattle.cf_model.specs.Months.{number_of_day}
 use Rattle.cf_model.specs.RegisterRules.{disposed_asset, not_held}
 use Rattle.cf_model.specs.Rules.{first_refusal, refuse_if}
 use Rattle.cf_model.proofs.First.{or_else_none, refuse_none}

@@ -1,11 +1,11 @@
 -- Capital assets, net, from the sums of the years.
-use Rattle.std.proofs.Common.{◌≡◌, ◌⊎◌, inl, inr, ℕ, zero, suc, ◌+◌, ◌-◌, ◌*◌, ◌<◌, ◌≤◌, Bool, true, false, not, if◌then◌else◌, ◌==◌, ◌&&◌, nat_le, List, [], ◌∷◌, length, take, get_or, sum, sum_by, is_some, ℤ, pos, ◌+ℤ◌, ◌-ℤ◌, refl, sym, ap, ◌∙◌, arith}
+use Rattle.std.proofs.Common.{◌≡◌, ◌⊎◌, inl, inr, ℕ, zero, suc, ◌+◌, ◌-◌, ◌<◌, ◌≤◌, Bool, true, false, not, if◌then◌else◌, ◌==◌, ◌&&◌, nat_le, List, [], ◌∷◌, length, get_or, sum_by, is_some, ℤ, pos, ◌+ℤ◌, ◌-ℤ◌, refl, sym, ap, ◌∙◌, arith}
 use Rattle.std.specs.List.{filter, AllByRecursion}
 use Rattle.std.proofs.lemmas.Bool.Decides.{leb_tells}
 use Rattle.std.proofs.lemmas.Int.{ints}
-use Rattle.std.proofs.lemmas.List.{take_all}
-use Rattle.std.proofs.lemmas.List.Sums.{sum_by-cons, sum_by_more}
-use Rattle.cf_assets.specs.Years.{AreYears, sum_to, bought_in, given_in, let_in, book_in}
+use Rattle.std.proofs.lemmas.List.Sums.{sum_by-cons}
+use Rattle.cf_assets.specs.Years.{bought_in, given_in, let_in, book_in}
+use Rattle.cf_rows.specs.Years.{sum_to}
 use Rattle.cf_assets.proofs.Charging.{depreciation_most, total_first}
 use Rattle.cf_chart.specs.Plan.{Plan}
 use Rattle.cf_model.specs.Assets.{Asset, Origin, purchase, gift, lease, Stage, held, void, disposed, depreciation, net, is_there, voucher_of, is_given, is_leased, leased, owned}
@@ -17,30 +17,6 @@ use Rattle.cf_model.proofs.Depreciated.{IsSoundAsset}
 use Rattle.cf_model.proofs.Posted.{all_filter}
 use Rattle.cf_model.proofs.Totals.{sum_same, sum_pos, none_first, split_sum}
 use Rattle.cf_assets.proofs.Leases.{depreciated_parts}
-
--- ---- the sums of the years
-
-pub cells_to : (of : ℕ → ℕ) (cells : List ℕ) → AreYears of cells → (n : ℕ) → n ≤ 231 → sum (take n cells) ≡ sum_to of n
-cells_to of cells are zero l = refl
-cells_to of cells are (suc n) l =
-    let more : suc n ≡ n + 1 = omega arith in
-    ap (λ m. sum (take m cells)) more
-    ∙ sum_by_more (λ (x : ℕ). x) cells n 0 (omega (arith, are.count))
-    ∙ (λ i. cells_to of cells are n (omega (arith, l)) i + are.are n (omega (arith, l)) i)
-
-pub to_most : (of : ℕ → ℕ) (most : ℕ) → ((year : ℕ) → of year ≤ most) → (n : ℕ) → sum_to of n ≤ n * most
-to_most of most all zero = omega arith
-to_most of most all (suc n) =
-    let more : suc n * most ≡ n * most + most = times n most in
-    omega (arith, to_most of most all n, all (n + 1970), more)
-  where
-    times : (a b : ℕ) → suc a * b ≡ a * b + b
-    times a b = omega arith
-
-pub cells_most : (of : ℕ → ℕ) (cells : List ℕ) (most : ℕ) → AreYears of cells → ((year : ℕ) → of year ≤ most) → sum cells ≤ 231 * most
-cells_most of cells most are all =
-    let whole : take 231 cells ≡ cells = take_all 231 cells (omega (arith, are.count)) in
-    omega (arith, ap sum whole, cells_to of cells are 231 (omega arith), to_most of most all 231)
 
 -- ---- each row as a sum of cents
 

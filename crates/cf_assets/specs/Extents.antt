@@ -1,16 +1,9 @@
 -- Where the assets of vouchers stand: those of each voucher one after another, in the order of their numbers.
-use Rattle.std.specs.Prelude.{◌≡◌, ℕ, zero, suc, ◌<◌, ◌≤◌, Bool, ◌&&◌, nat_le, nat_lt, List, length, slice_index_or}
-use Rattle.cf_assets.specs.declared.rows.Extent.{Extent}
+use Rattle.std.specs.Prelude.{◌≡◌, ℕ, ◌<◌, ◌≤◌, Bool, ◌&&◌, nat_le, nat_lt, List, length, slice_index_or}
 use Rattle.cf_model.specs.Assets.{Asset, voucher_of}
 use Rattle.cf_model.specs.Documents.{is_number}
-
-abbrev pub no_extent : Extent
-no_extent = record { first = 0; end = 0 }
-
--- the extent of a number, and an empty one where there is no such voucher
-abbrev pub extent_at : List Extent → ℕ → Extent
-extent_at extents zero = no_extent
-extent_at extents (suc n) = slice_index_or extents n no_extent
+use Rattle.cf_rows.specs.Extents.{extent_at}
+use Rattle.cf_rows.specs.declared.extents.Extent.{Extent}
 
 -- the places from first up to end, and no others
 abbrev pub is_within : Extent → ℕ → Bool

@@ -7,7 +7,8 @@ use Rattle.cf_assets.specs.Inventory.{Inventory}
 use Rattle.cf_assets.specs.Rows.{view_asset, AreRows}
 use Rattle.cf_assets.specs.Serving.{ServeAll}
 use Rattle.cf_model.specs.Assets.{Asset, depreciation}
-use Rattle.cf_assets.specs.Years.{AreYears, bought_in, given_in, book_in}
+use Rattle.cf_assets.specs.Years.{bought_in, given_in, book_in}
+use Rattle.cf_rows.specs.Years.{AreYears}
 
 abbrev pub inventory_of : Inside → Inventory
 inventory_of a = record {

@@ -30,9 +30,9 @@ impl Assets {
         ensures acts { self.new.acts ≡ self.old.acts }
     {
         match act {
-            Act::Voucher(invoice) => {
+            Act::Voucher(voucher) => {
                 self.vouchers.reserve(1)?;
-                self.inventory.reserve(invoice.items.as_slice().len())
+                self.inventory.reserve(voucher.items.as_slice().len())
             }
             Act::Asset(AssetAct::Donate(_)) => self.inventory.reserve(1),
             Act::Lease(_) => self.inventory.reserve(1),
@@ -61,7 +61,7 @@ impl Assets {
         ensures acts { self.new.acts ≡ self.old.acts + 1 }
     {
         match act {
-            Act::Voucher(invoice) => self.enter_voucher(chart, on, invoice, drawn),
+            Act::Voucher(voucher) => self.enter_voucher(chart, on, voucher, drawn),
             Act::VoidVoucher(voucher) => self.void_voucher(*voucher),
             Act::Asset(what) => self.take_asset(chart, on, what, drawn),
             Act::Close(period) => self.close(period),

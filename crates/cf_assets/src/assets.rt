@@ -7,18 +7,17 @@ ghost use Rattle.cf_assets.specs.Readers.{asset_now_at, look_shown};
 ghost use Rattle.cf_assets.specs.Rows.{view_stage};
 ghost use Rattle.cf_model.specs.AssetsShown as shown;
 ghost use Rattle.cf_assets.specs.Charges.{AreCharges, of_kind};
-ghost use Rattle.cf_assets.specs.Extents.{extent_at};
 ghost use Rattle.cf_assets.specs.Register.{asset_draws};
 ghost use Rattle.cf_model.specs.RegisterRules.{asset_at};
 
 use crate::charges::{MOST_FUNCTIONS, depreciation_of};
 use crate::inventory::Inventory;
-use crate::rows::{Extent, StageNow};
-use crate::years::{YEARS, no_years};
+use crate::rows::StageNow;
 use cf_calls::acts::AssetAct;
 use cf_calls::shown::AssetState;
 use cf_calls::{Act, Drawn, Read, Shown};
 use cf_chart::Chart;
+use cf_rows::{Extent, YEARS, no_years};
 use std::alloc::Global;
 use std::marker::Model;
 
@@ -74,14 +73,6 @@ impl Assets {
             amortized: Vec::new(alloc),
             acts: 0,
         }
-    }
-
-    /// How many acts were applied.
-    pub fn acts(&self) -> u32
-        ensures value { result ≡ self.now.acts }
-        ensures most { result ≤ most_entries }
-    {
-        self.acts
     }
 
     /// How many months are closed.
@@ -178,14 +169,4 @@ fn state_of(stage: StageNow) -> AssetState
         StageNow::Void => AssetState::Void,
         StageNow::Disposed { .. } => AssetState::Disposed,
     }
-}
-
-/// Where the assets of a voucher stand; an empty extent where there is no such voucher.
-pub fn extent_in(extents: &Vec<Extent>, number: u32) -> Extent
-    ensures { result ≡ extent_at extents.now.items number }
-{
-    if number == 0 || number as usize > extents.len() {
-        return Extent { first: 0, end: 0 };
-    }
-    extents[number as usize - 1]
 }

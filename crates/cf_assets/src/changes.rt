@@ -7,7 +7,8 @@ ghost use Rattle.cf_base.specs.Limits.{last_fiscal_year};
 ghost use Rattle.cf_assets.specs.Changes.{asset_changes};
 ghost use Rattle.cf_calls.specs.Form.{IsYear};
 ghost use Rattle.cf_assets.specs.Inventory.{AreKept};
-ghost use Rattle.cf_assets.specs.Years.{let_in, sum_to};
+ghost use Rattle.cf_assets.specs.Years.{let_in};
+ghost use Rattle.cf_rows.specs.Years.{sum_to};
 ghost use Rattle.cf_model.specs.Assets as spec;
 ghost use Rattle.cf_model.specs.Assets.{depreciation};
 ghost use Rattle.cf_model.specs.Months.{closed_to};
@@ -16,8 +17,8 @@ ghost use Rattle.cf_model.proofs.Depreciated.{IsSoundAsset};
 
 use crate::assets::Assets;
 use crate::inventory::accumulated_after;
-use crate::years::{amount_in, total_through};
 use cf_chart::Chart;
+use cf_rows::{amount_in, difference, total_through, years_to};
 
 /// The rows of assets in the change of a fiscal year, in cents, each as it is added.
 #[derive(Clone, Copy)]
@@ -128,14 +129,6 @@ fn closed_through(chart: &Chart, closed: u32, year: u16) -> u32
     ensures within { result ≤ closed }
     ensures first { 1971 ≤ chart.now.first_year }
 {
-    let years = (u32::from(year) + 1).saturating_sub(u32::from(chart.first_year()));
-    closed.min(12 * years)
-}
-
-fn difference(a: u128, b: u128) -> i128
-    requires most { a < 2 ^ 127 }
-    requires least { b < 2 ^ 127 }
-    ensures { result ≡ pos a -ℤ pos b }
-{
-    a as i128 - b as i128
+    let _first = chart.first_year();
+    closed.min(12 * u32::from(years_to(chart, year)))
 }

@@ -18,8 +18,8 @@ use crate::charges::{
 };
 use crate::rows::{AssetRow, StageNow};
 use crate::serving::{enlist, retire};
-use crate::years::{YEARS, lower, no_years, raise};
 use cf_chart::Function;
+use cf_rows::{YEARS, lower, no_years, raise};
 use std::alloc::{AllocError, Global};
 use std::marker::Model;
 
@@ -138,7 +138,7 @@ impl Inventory {
         let at = self.rows.len() as u32;
         raise(&mut self.outlay, row.year, row.cost);
         enlist(&mut self.serving, at, &row);
-        push_within(&mut self.rows, row);
+        self.rows.push_reserved(row);
     }
 
     /// Enters an asset that was given. It takes no memory.
@@ -153,7 +153,7 @@ impl Inventory {
         let at = self.rows.len() as u32;
         raise(&mut self.donated, row.year, row.cost);
         enlist(&mut self.serving, at, &row);
-        push_within(&mut self.rows, row);
+        self.rows.push_reserved(row);
     }
 
     /// Enters an asset that is leased. It takes no memory.
@@ -167,7 +167,7 @@ impl Inventory {
     {
         let at = self.rows.len() as u32;
         enlist(&mut self.serving, at, &row);
-        push_within(&mut self.rows, row);
+        self.rows.push_reserved(row);
     }
 
     /// Voids an asset that a voucher bought, and that nothing was charged for.
@@ -208,7 +208,7 @@ impl Inventory {
         let closed = self.accumulated.len() as u32;
         let before = accumulated_after(&self.accumulated, closed);
         let charge = total_charge(&self.rows, &self.serving, closed);
-        push_within(&mut self.accumulated, before + charge);
+        self.accumulated.push_reserved(before + charge);
         retire(&mut self.serving, &self.rows, closed + 1);
     }
 
@@ -251,14 +251,4 @@ fn staged(row: AssetRow, stage: StageNow) -> AssetRow
     let mut row = row;
     row.stage = stage;
     row
-}
-
-/// Appends within the room that was reserved.
-pub fn push_within<T: Drop>(rows: &mut Vec<T>, row: T)
-    requires { vec_len rows.old < vec_capacity rows.old }
-    ensures items { rows.new.items ≡ rows.old.items ++ row ∷ [] }
-    ensures len { vec_len rows.new ≡ vec_len rows.old + 1 }
-    ensures room { vec_capacity rows.old ≤ vec_capacity rows.new }
-{
-    let _ = rows.push(row);
 }

@@ -3,7 +3,6 @@
 
 mod apply;
 mod assets;
-mod calendar;
 mod changes;
 mod charges;
 mod inventory;
@@ -12,7 +11,6 @@ mod rules;
 mod serving;
 mod steps;
 mod sums;
-mod years;
 
 pub use assets::{AssetNow, Assets};
 pub use changes::AssetChanges;

@@ -1,4 +1,4 @@
-//! What the register keeps of assets, and of the vouchers that bought them.
+//! What the register keeps of assets.
 
 use cf_base::Day;
 
@@ -38,11 +38,4 @@ pub struct AssetRow {
     /// The month from which it serves, counted from the chart's first.
     pub service: u16,
     pub stage: StageNow,
-}
-
-/// Where the assets of a voucher stand: from `first` up to `end`.
-#[derive(Clone, Copy)]
-pub struct Extent {
-    pub first: u32,
-    pub end: u32,
 }

@@ -12,15 +12,15 @@ ghost use Rattle.cf_model.specs.RegisterRules as spec;
 ghost use Rattle.cf_model.specs.RegisterRules.{asset_refusal};
 ghost use Rattle.cf_model.specs.Rules.{first_refusal};
 
-use crate::assets::{Assets, extent_in};
-use crate::calendar::is_before;
+use crate::assets::Assets;
 use crate::charges::{depreciation_of, is_leased};
 use crate::inventory::Inventory;
-use crate::rows::{AssetRow, Extent, StageNow};
+use crate::rows::{AssetRow, StageNow};
 use cf_base::Day;
 use cf_calls::acts::AssetAct;
 use cf_calls::{Act, AssetFault, Refusal};
 use cf_chart::Chart;
+use cf_rows::{Extent, extent_of, is_before};
 
 impl Assets {
     /// The rule of the register that an act breaks: an asset that isn't in the needed state. Of a voucher's assets the
@@ -58,7 +58,7 @@ fn first_fault(inventory: &Inventory, vouchers: &Vec<Extent>, voucher: u32) -> O
     ensures { result ≡ first_refusal (spec.voided_asset inventory.now.closed) (filter (λ a. is_number (voucher_of a.origin) voucher) inventory.now.assets) }
 {
     let closed = inventory.closed();
-    let extent = extent_in(vouchers, voucher);
+    let extent = extent_of(vouchers, voucher);
     for at in extent.first as usize..extent.end as usize {
         let fault = voided_asset(&inventory.row(at), closed);
         if fault.is_some() {

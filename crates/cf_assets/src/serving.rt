@@ -34,7 +34,7 @@ pub fn enlist(serving: &mut Vec<u32>, at: u32, row: &AssetRow)
     ensures room { vec_capacity serving.old ≤ vec_capacity serving.new }
 {
     if row.life > 0 {
-        let _ = serving.push(at);
+        serving.push_reserved(at);
     }
 }
 

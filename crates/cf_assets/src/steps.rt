@@ -22,16 +22,15 @@ ghost use Rattle.cf_model.specs.Rules.{first_refusal};
 ghost use Rattle.cf_base.specs.declared.calendar.Day.{Day};
 ghost use Rattle.cf_chart.specs.Plan.{object_at};
 
-use crate::assets::{Assets, extent_in};
-use crate::calendar::{month_number, year_of};
-use crate::inventory::{Inventory, accumulated_after, push_within};
-use crate::rows::{Acquired, AssetRow, Extent, StageNow};
-use crate::years::raise;
+use crate::assets::Assets;
+use crate::inventory::{Inventory, accumulated_after};
+use crate::rows::{Acquired, AssetRow, StageNow};
 use cf_base::Day;
 use cf_calls::Drawn;
 use cf_calls::acts::{Donation, NewLease, NewVoucher};
 use cf_calls::items::VoucherItem;
 use cf_chart::{Chart, ObjectKind};
+use cf_rows::{Extent, extent_of, number_of_day, raise, year_of_day};
 
 /// How an asset is acquired: how, for which day and fiscal year, and from which month it serves.
 #[derive(Clone, Copy)]
@@ -59,35 +58,35 @@ impl Assets {
         &mut self,
         chart: &Chart,
         on: Day,
-        invoice: &NewVoucher,
+        voucher: &NewVoucher,
         drawn: Drawn,
     )
-        requires reserved { HasRoomForVoucher (length invoice.now.items) self.old.room }
+        requires reserved { HasRoomForVoucher (length voucher.now.items) self.old.room }
         requires day { is_day on ≡ true }
-        requires items { length invoice.now.items ≤ 32 }
-        requires amounts { AreMost invoice.now.items }
+        requires items { length voucher.now.items ≤ 32 }
+        requires amounts { AreMost voucher.now.items }
         requires drawn { IsNextVoucher drawn self.old }
         requires early { self.old.closed ≤ number_of_day chart.now on }
-        requires year { chart.now.first_year + (if invoice.now.back then 1 else 0) ≤ year_of_day chart.now on }
+        requires year { chart.now.first_year + (if voucher.now.back then 1 else 0) ≤ year_of_day chart.now on }
         requires few { self.old.acts < most_entries }
-        ensures assets { self.new.assets ≡ self.old.assets ++ bought chart.now drawn.number on (if invoice.now.back then year_of_day chart.now on - 1 else year_of_day chart.now on) drawn.second invoice.now.items }
+        ensures assets { self.new.assets ≡ self.old.assets ++ bought chart.now drawn.number on (if voucher.now.back then year_of_day chart.now on - 1 else year_of_day chart.now on) drawn.second voucher.now.items }
         ensures closed { self.new.closed ≡ self.old.closed }
         ensures vouchers { self.new.vouchers ≡ self.old.vouchers + 1 }
         ensures acts { self.new.acts ≡ self.old.acts + 1 }
     {
-        let day_year = year_of(chart, on);
+        let day_year = year_of_day(chart, on);
         // so the year before that of the day is kept too
         let _first_year = chart.first_year();
         let title = Title {
             acquired: Acquired::Bought(drawn.number),
             on,
-            year: if invoice.back { day_year - 1 } else { day_year },
-            service: month_number(chart, on),
+            year: if voucher.back { day_year - 1 } else { day_year },
+            service: number_of_day(chart, on),
         };
         let first = self.inventory.count();
-        buy_all(&mut self.inventory, chart, title, invoice.items.as_slice());
+        buy_all(&mut self.inventory, chart, title, voucher.items.as_slice());
         let end = self.inventory.count();
-        push_within(&mut self.vouchers, Extent { first, end });
+        self.vouchers.push_reserved(Extent { first, end });
         self.acts += 1;
     }
 
@@ -120,8 +119,8 @@ impl Assets {
         let title = Title {
             acquired: Acquired::Given,
             on,
-            year: year_of(chart, on),
-            service: month_number(chart, on),
+            year: year_of_day(chart, on),
+            service: number_of_day(chart, on),
         };
         let life = life_on(chart, gift.object);
         let row = new_row(chart, title, number, gift.dept, life, gift.amount);
@@ -146,8 +145,8 @@ impl Assets {
         let title = Title {
             acquired: Acquired::Leased,
             on,
-            year: year_of(chart, on),
-            service: month_number(chart, on),
+            year: year_of_day(chart, on),
+            service: number_of_day(chart, on),
         };
         let account = lease.account;
         let life = life_of_lease(chart, lease);
@@ -183,7 +182,8 @@ impl Assets {
     {
         let _count = self.inventory.count();
         let before = accumulated_after(&self.amortized, self.inventory.closed());
-        push_within(&mut self.amortized, before + self.inventory.leased_charge());
+        self.amortized
+            .push_reserved(before + self.inventory.leased_charge());
         self.inventory.close();
         self.acts += 1;
     }
@@ -300,7 +300,7 @@ fn void_all(inventory: &mut Inventory, vouchers: &Vec<Extent>, voucher: u32)
     ensures assets { inventory.new.assets ≡ map (voids voucher) inventory.old.assets }
     ensures closed { inventory.new.closed ≡ inventory.old.closed }
 {
-    let extent = extent_in(vouchers, voucher);
+    let extent = extent_of(vouchers, voucher);
     for at in extent.first as usize..extent.end as usize {
         void_one(inventory, at);
     }
@@ -326,7 +326,7 @@ fn dispose_of(inventory: &mut Inventory, chart: &Chart, on: Day, number: u32)
     ensures assets { inventory.new.assets ≡ map (disposes number (year_of_day chart.now on) inventory.old.closed) inventory.old.assets }
     ensures closed { inventory.new.closed ≡ inventory.old.closed }
 {
-    let year = year_of(chart, on);
+    let year = year_of_day(chart, on);
     let count = inventory.count();
     if 1 <= number && number <= count {
         inventory.dispose_at(number as usize - 1, year);

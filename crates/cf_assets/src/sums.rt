@@ -3,11 +3,12 @@
 ghost use Rattle.std.specs.Prelude.{◌≡◌, ◌≤◌, ◌+◌, ◌-◌, sum_by};
 ghost use Rattle.cf_base.specs.Limits.{last_fiscal_year};
 ghost use Rattle.cf_assets.specs.Inventory.{AreKept};
-ghost use Rattle.cf_assets.specs.Years.{bought_in, given_in, book_in, sum_to};
+ghost use Rattle.cf_assets.specs.Years.{bought_in, given_in, book_in};
+ghost use Rattle.cf_rows.specs.Years.{sum_to};
 ghost use Rattle.cf_model.specs.Assets.{depreciation};
 
 use crate::inventory::{Inventory, accumulated_after};
-use crate::years::{amount_in, total_through};
+use cf_rows::{amount_in, total_through};
 
 /// What a fiscal year has, in cents.
 #[derive(Clone, Copy)]

@@ -12,7 +12,7 @@ use Rattle.cf_debt.specs.declared.rows.BondRow.{BondRow}
 use Rattle.cf_debt.specs.RegisterView.{AreRows, HasBonds, HasSums, amount_of, is_live, lease_amount, lease_principal, principal_of}
 use Rattle.cf_debt.specs.Rows.{IsBond, IsRow, IsSmallDue, view_bond, view_bonds}
 use Rattle.cf_debt.specs.Steps.{bond_row}
-use Rattle.cf_debt.specs.Years.{lease_part}
+use Rattle.cf_debt.specs.Rows.{lease_part}
 use Rattle.cf_debt.proofs.Lists.{among_push, each_append, each_push, map_same, map-push}
 use Rattle.cf_debt.proofs.Schedules.{bond_more, bond_paying, is_bond_more, length_dues, new_dues, new_view, small_dues}
 use Rattle.cf_debt.proofs.RunningSums.{Rise, charged_push, issued_push, paid_push}

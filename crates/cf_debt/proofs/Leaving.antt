@@ -6,7 +6,7 @@ use Rattle.cf_debt.specs.declared.rows.LeaveRow.{LeaveRow}
 use Rattle.cf_debt.specs.Accounts.{Accounts, PutsAmount, left_in}
 use Rattle.cf_debt.specs.RegisterView.{AreLeave, AreLeft}
 use Rattle.cf_debt.specs.Rows.{view_leave}
-use Rattle.cf_debt.specs.Years.{sum_through}
+use Rattle.cf_rows.specs.Years.{sum_through}
 use Rattle.cf_debt.proofs.RunningSums.{Rise, rise_through}
 use Rattle.cf_model.specs.Leave.{LeaveChange, leave_left, leave_through}
 use Rattle.cf_model.specs.Sums.{through}

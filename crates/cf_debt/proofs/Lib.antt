@@ -12,4 +12,3 @@ pub mod Running
 pub mod RunningSums
 pub mod Schedules
 pub mod Stepping
-pub mod YearSums

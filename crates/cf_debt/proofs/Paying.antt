@@ -10,7 +10,7 @@ use Rattle.cf_debt.specs.Register.{unpaid_of}
 use Rattle.cf_debt.specs.RegisterView.{AreRows, HasBonds, HasSums, is_live, lease_amount, lease_principal, paid_in, principal_of}
 use Rattle.cf_debt.specs.Rows.{IsRow, view_bond, view_bonds}
 use Rattle.cf_debt.specs.Steps.{paid_row}
-use Rattle.cf_debt.specs.Years.{lease_part}
+use Rattle.cf_debt.specs.Rows.{lease_part}
 use Rattle.cf_debt.proofs.Finding.{agree, differ}
 use Rattle.cf_debt.proofs.Lists.{among_set, each_set, map_set, sum_set}
 use Rattle.cf_debt.proofs.Refusing.{or_none}

@@ -5,4 +5,3 @@ pub mod Register
 pub mod RegisterView
 pub mod Rows
 pub mod Steps
-pub mod Years

@@ -1,5 +1,5 @@
 -- What the register's rows stand for.
-use Rattle.std.specs.Prelude.{◌≡◌, ℕ, ◌+◌, ◌*◌, ◌<◌, ◌≤◌, if◌then◌else◌, List, length, map, take, drop, get_or, pos, ◌-ℤ◌}
+use Rattle.std.specs.Prelude.{◌≡◌, ℕ, Bool, ◌+◌, ◌*◌, ◌<◌, ◌≤◌, if◌then◌else◌, List, length, map, take, drop, get_or, pos, ◌-ℤ◌}
 use Rattle.cf_calls.specs.Form.{IsCount}
 use Rattle.cf_debt.specs.declared.rows.BondRow.{BondRow}
 use Rattle.cf_debt.specs.declared.rows.LeaveRow.{LeaveRow}
@@ -67,3 +67,7 @@ pub record IsRow (closed : ℕ) (all : List Due) (k : ℕ) (r : BondRow) : Type 
   pub number : r.number ≡ k + 1
   pub bond : IsBond all r
   pub unpaid : r.paid < r.count → closed ≤ r.month + r.terms.every * (r.paid + 1)
+
+-- what of an amount is of a lease
+abbrev pub lease_part : Bool → ℕ → ℕ
+lease_part is_lease amount = if is_lease then amount else 0

@@ -13,12 +13,12 @@ ghost use Rattle.cf_model.specs.Rules.{amount_refusal};
 
 use crate::accounts::{LeaveKey, reserve_in};
 use crate::debt::Debt;
-use crate::months::year_of;
 use crate::rows::LeaveRow;
 use cf_base::Day;
 use cf_calls::acts::{LeaveAct, Period};
 use cf_calls::{Act, Drawn};
 use cf_chart::Chart;
+use cf_rows::year_of_day;
 use std::alloc::AllocError;
 
 impl Debt {
@@ -111,7 +111,7 @@ impl Debt {
         } }
         ensures acts { self.new.acts ≡ self.old.acts + 1 }
     {
-        let year = year_of(chart, on);
+        let year = year_of_day(chart, on);
         match leave {
             LeaveAct::Earn(part) => self.earn(LeaveRow {
                 fund: part.fund,

@@ -15,13 +15,12 @@ ghost use Rattle.cf_model.specs.Results.{bond_at, payment_number};
 
 use crate::accounts::{LeaveKey, amount_in};
 use crate::interest::{bond_charge, coupon};
-use crate::months::{month_at, year_at};
 use crate::rows::{BondRow, LeaveRow, Payment};
 use crate::schedule::next_of;
-use crate::years::YEARS;
 use cf_base::Day;
 use cf_calls::{Act, Drawn};
 use cf_chart::Chart;
+use cf_rows::{YEARS, month_at, year_at};
 use std::alloc::Global;
 use std::collections::BTreeMap;
 use std::marker::Model;
@@ -115,14 +114,6 @@ impl Debt {
             taken: [0; YEARS],
             acts: 0,
         }
-    }
-
-    /// How many acts were applied.
-    pub fn acts(&self) -> u32
-        ensures value { result ≡ self.now.acts }
-        ensures most { result ≤ most_entries }
-    {
-        self.acts
     }
 
     /// How many months are closed, from the chart's first.

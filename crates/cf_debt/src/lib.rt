@@ -6,13 +6,11 @@ mod apply;
 mod debt;
 mod interest;
 mod look;
-mod months;
 mod rows;
 mod rules;
 mod schedule;
 mod steps;
 mod sums;
-mod years;
 
 pub use debt::{Debt, Due};
 pub use sums::DebtChanges;

@@ -11,9 +11,9 @@ use crate::debt::{Debt, due_day};
 use crate::interest::{coupon, earned_by};
 use crate::rows::{BondRow, Payment, Terms};
 use crate::schedule::next_of;
-use crate::sums::difference;
 use cf_calls::{Read, Shown};
 use cf_chart::Chart;
+use cf_rows::difference;
 
 impl Debt {
     /// What a look at a bond or at the leave of a fund's department shows: `None` exactly where there is no such bond,

@@ -7,19 +7,18 @@ ghost use Rattle.cf_debt.specs.Register.{registers_with, debt_due, debt_due_of, 
 ghost use Rattle.cf_debt.specs.RegisterView.{HasBonds};
 ghost use Rattle.cf_debt.specs.Rows.{AreSmallDues, IsBond, view_bond, view_bonds, view_payment, view_payments};
 ghost use Rattle.cf_model.specs.Bonds.{Due, next_due};
-ghost use Rattle.cf_model.specs.Calendar as calendar;
 ghost use Rattle.cf_model.specs.RegisterRules as rules;
 ghost use Rattle.cf_model.specs.RegisterRules.{debt_refusal};
 ghost use Rattle.cf_model.specs.Rules.{first_refusal};
 
 use crate::debt::{Debt, due_day};
-use crate::months::month_at;
 use crate::rows::{BondRow, Payment};
 use crate::schedule::next_of;
 use cf_base::{Day, Month};
 use cf_calls::acts::{DebtPayment, LeaveAct, Period};
 use cf_calls::{Act, DocumentKind, DocumentState, Refusal};
 use cf_chart::Chart;
+use cf_rows::{is_before, month_at};
 
 impl Debt {
     /// The first rule of the register that an act breaks: a bond with nothing left to pay, a payment that isn't due
@@ -149,12 +148,4 @@ fn over_leave(amount: u64, left: u64) -> Option<Refusal>
     } else {
         None
     }
-}
-
-/// Whether a day comes before another.
-fn is_before(a: Day, b: Day) -> bool
-    ensures { result ≡ calendar.is_before a b }
-{
-    a.year < b.year
-        || (a.year == b.year && (a.month < b.month || (a.month == b.month && a.day < b.day)))
 }

@@ -28,7 +28,7 @@ pub fn add_schedule(
             owed,
             principal: *principal,
         };
-        push_within(payments, payment);
+        payments.push_reserved(payment);
         from = payment.month;
         owed = owed.saturating_sub(*principal);
     }
@@ -48,13 +48,4 @@ pub fn next_of(payments: &[Payment], bond: &BondRow) -> Option<Payment>
     } else {
         None
     }
-}
-
-/// Appends within the room that was reserved.
-pub fn push_within<T: Drop>(rows: &mut Vec<T>, row: T)
-    requires { vec_len rows.old < vec_capacity rows.old }
-    ensures items { rows.new.items ≡ rows.old.items ++ row ∷ [] }
-    ensures room { vec_capacity rows.old ≤ vec_capacity rows.new }
-{
-    let _ = rows.push(row);
 }

@@ -9,6 +9,7 @@ ghost use Rattle.cf_calls.specs.declared.acts.Act.TheVariants as act;
 ghost use Rattle.cf_debt.specs.Register.{HasRoomToIssue, HasRoomForLeave, unpaid_of};
 ghost use Rattle.cf_debt.specs.RegisterView.{live_of};
 ghost use Rattle.cf_debt.specs.Rows.{view_leave};
+ghost use Rattle.cf_debt.specs.Rows.{lease_part as spec_lease_part};
 ghost use Rattle.cf_debt.specs.Steps.{AreNumbered, CanPay, bond_row, issue_of, paid_row};
 ghost use Rattle.cf_debt.specs.declared.rows.BondRow.{BondRow as Row};
 ghost use Rattle.cf_calls.specs.Acts.{schedule_of};
@@ -22,13 +23,12 @@ ghost use Rattle.cf_model.specs.Rules.{first_refusal};
 use crate::accounts::{LeaveKey, amount_in, put_in};
 use crate::debt::{Debt, interest_of};
 use crate::interest::coupon;
-use crate::months::{number_of, number_of_month, year_of};
 use crate::rows::{BondRow, LeaveRow, NewDebt, Terms};
-use crate::schedule::{add_schedule, push_within};
-use crate::years::{add_at, lease_part};
+use crate::schedule::add_schedule;
 use cf_base::{Day, Month};
 use cf_calls::acts::{BondIssue, DebtPayment, NewLease};
 use cf_chart::Chart;
+use cf_rows::{add_at, number_of_day, number_of_month, year_of_day};
 
 impl Debt {
     /// Counts an act that is none of the register's own.
@@ -110,8 +110,8 @@ impl Debt {
             row.amount,
             principals,
         );
-        push_within(&mut self.bonds, row);
-        push_within(&mut self.live, number);
+        self.bonds.push_reserved(row);
+        self.live.push_reserved(number);
         let year = row.year - 1970;
         let leased = lease_part(debt.is_lease, debt.amount);
         add_at(&mut self.issued, year, u128::from(row.amount));
@@ -177,7 +177,7 @@ impl Debt {
         let left = amount_in(&self.left, key) + row.amount;
         put_in(&mut self.left, key, left);
         add_at(&mut self.earned, row.year - 1970, u128::from(row.amount));
-        push_within(&mut self.leave, row);
+        self.leave.push_reserved(row);
         self.acts += 1;
     }
 
@@ -200,7 +200,7 @@ impl Debt {
         let left = amount_in(&self.left, key) - row.amount;
         put_in(&mut self.left, key, left);
         add_at(&mut self.taken, row.year - 1970, u128::from(row.amount));
-        push_within(&mut self.leave, row);
+        self.leave.push_reserved(row);
         self.acts += 1;
     }
 }
@@ -219,14 +219,14 @@ fn new_bond(
     ensures row { result ≡ bond_row chart.now on number debt.is_lease (issue_of debt principals.now) start }
     ensures last { result.last ≤ 2759 }
 {
-    let month = number_of(chart, on);
+    let month = number_of_day(chart, on);
     let count = principals.len() as u16;
     BondRow {
         number,
         is_lease: debt.is_lease,
         fund: debt.fund,
         amount: debt.amount,
-        year: year_of(chart, on),
+        year: year_of_day(chart, on),
         month,
         terms: Terms {
             every: debt.every,
@@ -267,4 +267,11 @@ fn keep_live(live: &mut Vec<u32>, bonds: &[BondRow], closed: u16)
         }
     }
     live.truncate(kept);
+}
+
+/// An amount where it is of a lease, and else nothing.
+fn lease_part(is_lease: bool, amount: u64) -> u128
+    ensures { result ≡ spec_lease_part is_lease amount }
+{
+    if is_lease { u128::from(amount) } else { 0 }
 }

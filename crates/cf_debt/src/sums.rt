@@ -6,9 +6,8 @@ ghost use Rattle.cf_debt.specs.Register.{registers_with, debt_changes};
 ghost use Rattle.cf_model.specs.Items as items;
 
 use crate::debt::Debt;
-use crate::months::years_to;
-use crate::years::total_of;
 use cf_chart::Chart;
+use cf_rows::{difference, total_of, years_to};
 
 /// What bonds add to the change of a fiscal year, in cents.
 #[derive(Clone, Copy)]
@@ -87,13 +86,4 @@ impl Debt {
             principal_paid: difference(repaid, repaid_before),
         }
     }
-}
-
-pub(crate) fn difference(a: u128, b: u128) -> i128
-    requires from { a < 2 ^ 100 }
-    requires to { b < 2 ^ 100 }
-    ensures value { result ≡ pos a -ℤ pos b }
-    ensures small { unsigned_abs result < 2 ^ 100 }
-{
-    a as i128 - b as i128
 }

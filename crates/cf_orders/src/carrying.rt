@@ -4,12 +4,12 @@ ghost use Rattle.std.specs.Prelude.{◌≡◌, ◌≤◌, ◌<◌, ◌+◌, ◌*
 ghost use Rattle.cf_base.specs.Limits.{last_year};
 ghost use Rattle.cf_orders.specs.Carrying.{AreCarried, adds_to};
 
-use crate::extents::count;
 use crate::items::open_row;
 use crate::lapsing::goes_on;
 use crate::orders::Orders;
 use crate::rows::ItemRow;
 use cf_chart::Chart;
+use cf_rows::count;
 use std::alloc::{AllocError, Global};
 
 /// So many amounts, all zero.

@@ -13,7 +13,6 @@ ghost use Rattle.cf_orders.specs.Register.{line_move, IsSmall};
 ghost use Rattle.cf_orders.specs.Rows as spec;
 ghost use Rattle.cf_orders.specs.Rows.{view_hold, view_expenditure};
 
-use crate::extents::extent_of;
 use crate::items::find_row;
 use crate::orders::Orders;
 use crate::rows::{ExpenditureRow, HoldRow, ItemRow};
@@ -21,6 +20,7 @@ use crate::vouchers::is_void;
 use cf_calls::Act;
 use cf_calls::items::{AccountItem, VoucherItem};
 use cf_calls::shown::RequisitionState;
+use cf_rows::extent_of;
 
 /// What an item of a document moves of its account's line in a fiscal year, in cents.
 #[derive(Clone, Copy)]
@@ -161,12 +161,12 @@ impl Orders {
         ensures few { (on : Day) → IsActInForm on act.now → result ≤ 64 }
     {
         match act {
-            Act::Requisition(request) => request.items.as_slice().len(),
+            Act::Requisition(requisition) => requisition.items.as_slice().len(),
             Act::Withdraw(number) => self.released(Some(*number)),
             Act::Order(order) => self.released(order.requisition) + order.items.as_slice().len(),
             Act::ChangeOrder(change) => self.named(change.order, change.item),
             Act::CancelOrder(number) => self.ordered(*number),
-            Act::Voucher(invoice) => 2 * invoice.items.as_slice().len(),
+            Act::Voucher(voucher) => 2 * voucher.items.as_slice().len(),
             Act::VoidVoucher(number) => 2 * self.spent(*number),
             _ => 0,
         }

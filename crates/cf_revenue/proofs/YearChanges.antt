@@ -1,12 +1,13 @@
 -- What changes in a year.
 use Rattle.std.proofs.Common.{◌≡◌, ◌⊎◌, inl, inr, ℕ, ◌+◌, ◌-◌, ◌<◌, ◌≤◌, Bool, true, false, if◌then◌else◌, ◌==◌, nat_le, List, [], ◌∷◌, sum_by, pos, ◌-ℤ◌, refl, sym, ap, ◌∙◌, arith}
 use Rattle.std.proofs.lemmas.Bool.Decides.{leb_tells, eqb_tells}
+use Rattle.std.proofs.lemmas.Int.{ints}
 use Rattle.std.proofs.lemmas.List.Sums.{sum_by-cons}
 use Rattle.std.specs.List.{filter}
 use Rattle.cf_model.specs.Changes.{deferred_in}
 use Rattle.cf_model.specs.Receivables.{Bill, Settlement, Receivables}
 use Rattle.cf_revenue.specs.RegisterView.{AreBilled, AreTaken}
-use Rattle.cf_revenue.specs.Years.{sum_through}
+use Rattle.cf_rows.specs.Years.{sum_through}
 
 -- what counts through a year is what counts through the year before and what is of the year
 pub by_year : {X : Type 0} (of amount : X → ℕ) (xs : List X) (year : ℕ) → 1 ≤ year →
@@ -48,15 +49,13 @@ by_year {X = X} of amount (x ∷ xs) year first =
     by_tests false false true (inl h) k l more = cc
     by_tests false false false h k l more = none _ _ _ more
 
-less : (a b c d : ℕ) → a ≡ b + c → a ≡ b + d → c ≡ d
-less a b c d e f = omega (arith, e, f)
+among : (a b c d x y : ℕ) → a ≡ b + x → c ≡ d + y → pos (a + d) -ℤ pos (c + b) ≡ pos x -ℤ pos y
+among a b c d x y e f = omega (arith, ints, e, f)
 
--- so the amounts of a year, of levied and of settled, are the change of unavailable revenue
-pub change_in : (s : Receivables) (levied settled : List ℕ) (year m n : ℕ) → 1 ≤ year → AreBilled s.bills levied → AreTaken s.settlements settled →
-    sum_through year levied ≡ sum_through (year - 1) levied + m → sum_through year settled ≡ sum_through (year - 1) settled + n → pos m -ℤ pos n ≡ deferred_in year s
-change_in s levied settled year m n first bills taken e f =
-    let more = sym (bills year) ∙ e ∙ ap (λ k. k + m) (bills (year - 1)) in
-    let gone = sym (taken year) ∙ f ∙ ap (λ k. k + n) (taken (year - 1)) in
-    let is = less _ _ _ _ more (by_year (λ (b : Bill). b.levy_year) (λ b. b.amount) s.bills year first) in
-    let was = less _ _ _ _ gone (by_year (λ (x : Settlement). x.year) (λ x. x.amount) s.settlements year first) in
-    λ i. pos (is i) -ℤ pos (was i)
+-- so what two years' sums differ by is the change of unavailable revenue
+pub change_in : (s : Receivables) (levied settled : List ℕ) (year : ℕ) → 1 ≤ year → AreBilled s.bills levied → AreTaken s.settlements settled →
+    pos (sum_through year levied + sum_through (year - 1) settled) -ℤ pos (sum_through year settled + sum_through (year - 1) levied) ≡ deferred_in year s
+change_in s levied settled year first bills taken =
+    among _ _ _ _ _ _
+    (bills year ∙ by_year (λ (b : Bill). b.levy_year) (λ b. b.amount) s.bills year first ∙ ap (λ k. k + sum_by (λ (b : Bill). if b.levy_year == year then b.amount else 0) s.bills) (sym (bills (year - 1))))
+    (taken year ∙ by_year (λ (x : Settlement). x.year) (λ x. x.amount) s.settlements year first ∙ ap (λ k. k + sum_by (λ (x : Settlement). if x.year == year then x.amount else 0) s.settlements) (sym (taken (year - 1))))

@@ -1,14 +1,11 @@
 //! When a collection is revenue.
 
-ghost use Rattle.std.specs.Prelude.{◌≡◌, ◌≤◌, true};
+ghost use Rattle.std.specs.Prelude.{◌≡◌, true};
 ghost use Rattle.cf_base.specs.Calendar.{is_day};
-ghost use Rattle.cf_base.specs.Limits.{last_fiscal_year};
 ghost use Rattle.cf_calls.specs.Form.{IsCount, IsYear};
-ghost use Rattle.cf_model.specs.Calendar.{year_of_day};
 ghost use Rattle.cf_model.specs.Recognition as spec;
 
 use cf_base::{Day, fiscal_year, is_in_window, month_of, year_end};
-use cf_chart::Chart;
 
 /// The fiscal year that a collection is revenue of: the levy year, where the day lies in it or at most `window`
 /// days after its last day, and else the day's fiscal year (own rule). It takes no memory.
@@ -24,14 +21,4 @@ pub fn revenue_year(window: u16, first_month: u8, levy_year: u16, day: Day) -> u
     } else {
         year
     }
-}
-
-/// The fiscal year of a day.
-pub fn year_of(chart: &Chart, on: Day) -> u16
-    requires { is_day on ≡ true }
-    ensures value { result ≡ year_of_day chart.now on }
-    ensures from { 1970 ≤ result }
-    ensures to { result ≤ last_fiscal_year }
-{
-    fiscal_year(chart.first_month(), month_of(on))
 }

@@ -1,8 +1,7 @@
 //! The register of bills and of loans between funds.
 
-ghost use Rattle.std.specs.Prelude.{◌≡◌, ◌≤◌, ◌-ℤ◌, pos, true, option_map, MatchOption, None, length};
+ghost use Rattle.std.specs.Prelude.{◌≡◌, ◌≤◌, true, option_map, MatchOption, None, length};
 ghost use Rattle.cf_base.specs.Calendar.{is_day};
-ghost use Rattle.cf_base.specs.Limits.{most_entries};
 ghost use Rattle.cf_model.specs.Results.{bill_draws};
 ghost use Rattle.cf_model.specs.Changes.{deferred_in};
 ghost use Rattle.cf_model.specs.Receivables as spec;
@@ -14,10 +13,10 @@ ghost use Rattle.cf_chart.specs.Plan.{source_at};
 use crate::pairs::{FundPair, amount_in};
 use crate::recognition::revenue_year;
 use crate::rows::{BillRow, LoanRow, SettlementRow};
-use crate::years::{YEARS, amount_in as amount_of_year, total_through};
 use cf_base::Day;
 use cf_calls::{Act, Drawn, Read, Shown};
 use cf_chart::Chart;
+use cf_rows::{YEARS, difference, total_through};
 use std::alloc::Global;
 use std::collections::BTreeMap;
 use std::marker::Model;
@@ -32,9 +31,9 @@ pub struct Revenue {
     pub(crate) repayments: Vec<LoanRow>,
     pub(crate) owed: BTreeMap<FundPair, u64>,
     /// The amounts of bills, by levy year.
-    pub(crate) billed: [u64; YEARS],
+    pub(crate) billed: [u128; YEARS],
     /// The amounts of settlements, by the year in which they count.
-    pub(crate) settled: [u64; YEARS],
+    pub(crate) settled: [u128; YEARS],
     pub(crate) acts: u32,
 }
 
@@ -75,14 +74,6 @@ impl Revenue {
             settled: [0; YEARS],
             acts: 0,
         }
-    }
-
-    /// How many acts were applied.
-    pub fn acts(&self) -> u32
-        ensures value { result ≡ self.now.acts }
-        ensures most { result ≤ most_entries }
-    {
-        self.acts
     }
 
     /// The row of a bill.
@@ -146,9 +137,11 @@ impl Revenue {
         requires { 1 ≤ year }
         ensures { result ≡ deferred_in year self.now.receivables }
     {
-        let billed = amount_of_year(&self.billed, year);
-        let settled = amount_of_year(&self.settled, year);
-        difference(billed, settled)
+        let billed = total_through(&self.billed, year);
+        let billed_before = total_through(&self.billed, year - 1);
+        let settled = total_through(&self.settled, year);
+        let settled_before = total_through(&self.settled, year - 1);
+        difference(billed + settled_before, settled + billed_before)
     }
 
     /// The numbers that an act draws: the next bill's, from 1.
@@ -194,10 +187,4 @@ fn window_of(chart: &Chart, source: u16) -> u16
         None => 0,
         Some(source) => source.window,
     }
-}
-
-fn difference(a: u64, b: u64) -> i128
-    ensures { result ≡ pos a -ℤ pos b }
-{
-    i128::from(a) - i128::from(b)
 }

@@ -14,13 +14,12 @@ ghost use Rattle.cf_revenue.specs.Steps.{CanSettle, lowered};
 ghost use Rattle.cf_revenue.specs.declared.rows.BillRow.{BillRow as Row};
 
 use crate::pairs::{FundPair, amount_in, put_in};
-use crate::recognition::year_of;
 use crate::revenue::Revenue;
 use crate::rows::{BillRow, LoanRow, SettlementRow};
-use crate::years::add_in;
 use cf_base::Day;
 use cf_calls::acts::{BillAmount, FundMove, FundMoveKind, NewBill};
 use cf_chart::Chart;
+use cf_rows::{raise, year_of_day};
 
 impl Revenue {
     /// Counts an act that is none of the register's own.
@@ -33,26 +32,26 @@ impl Revenue {
     }
 
     /// Enters a bill.
-    pub(crate) fn enter_bill(&mut self, number: u32, levy: &NewBill)
+    pub(crate) fn enter_bill(&mut self, number: u32, bill: &NewBill)
         requires number { number ≡ length self.old.receivables.bills + 1 }
-        requires year { IsYear levy.now.levy_year }
-        requires amount { levy.now.amount ≤ 10000000000000 }
+        requires year { IsYear bill.now.levy_year }
+        requires amount { bill.now.amount ≤ 10000000000000 }
         requires room { length self.old.receivables.bills < self.old.room.bills }
         requires few { self.old.acts < most_entries }
         ensures receivables { self.new.receivables ≡ record self.old.receivables {
-          bills = self.old.receivables.bills ++ bills_by number (act.Bill levy.now);
+          bills = self.old.receivables.bills ++ bills_by number (act.Bill bill.now);
         } }
         ensures acts { self.new.acts ≡ self.old.acts + 1 }
     {
         let row = BillRow {
             number,
-            source: levy.source,
-            levy_year: levy.levy_year,
-            amount: levy.amount,
-            left: levy.amount,
+            source: bill.source,
+            levy_year: bill.levy_year,
+            amount: bill.amount,
+            left: bill.amount,
         };
-        push_within(&mut self.bills, row);
-        add_in(&mut self.billed, row.levy_year, row.amount);
+        self.bills.push_reserved(row);
+        raise(&mut self.billed, row.levy_year, row.amount);
         self.acts += 1;
     }
 
@@ -92,7 +91,7 @@ impl Revenue {
         } }
         ensures acts { self.new.acts ≡ self.old.acts + 1 }
     {
-        let year = year_of(chart, on);
+        let year = year_of_day(chart, on);
         self.settle(SettlementRow {
             bill: part.bill,
             year,
@@ -111,8 +110,8 @@ impl Revenue {
         ensures acts { self.new.acts ≡ self.old.acts + 1 }
     {
         lower(&mut self.bills, settlement.bill, settlement.amount);
-        push_within(&mut self.settlements, settlement);
-        add_in(&mut self.settled, settlement.year, settlement.amount);
+        self.settlements.push_reserved(settlement);
+        raise(&mut self.settled, settlement.year, settlement.amount);
         self.acts += 1;
     }
 
@@ -151,7 +150,7 @@ impl Revenue {
         };
         let amount = amount_in(&self.owed, pair) + loan.amount;
         put_in(&mut self.owed, pair, amount);
-        push_within(&mut self.loans, loan);
+        self.loans.push_reserved(loan);
         self.acts += 1;
     }
 
@@ -171,7 +170,7 @@ impl Revenue {
         };
         let amount = amount_in(&self.owed, pair) - repayment.amount;
         put_in(&mut self.owed, pair, amount);
-        push_within(&mut self.repayments, repayment);
+        self.repayments.push_reserved(repayment);
         self.acts += 1;
     }
 }
@@ -198,13 +197,4 @@ fn row_of(fund_move: &FundMove) -> LoanRow
         to: fund_move.to,
         amount: fund_move.amount,
     }
-}
-
-/// Appends within the room that was reserved.
-fn push_within<T: Drop>(rows: &mut Vec<T>, row: T)
-    requires { vec_len rows.old < vec_capacity rows.old }
-    ensures items { rows.new.items ≡ rows.old.items ++ row ∷ [] }
-    ensures room { vec_capacity rows.old ≤ vec_capacity rows.new }
-{
-    let _ = rows.push(row);
 }

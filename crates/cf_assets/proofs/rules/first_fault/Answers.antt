@@ -14,18 +14,18 @@ none_is (Some r) e = cc
 
 pub loop-at-init : goal.loop-at-init
 loop-at-init c =
-    let e = c.extent_in-extent.result in
+    let e = c.extent_of-extent.result in
     let n = c.args.voucher in
     let assets = c.args.inventory.now.assets in
-    let is : IsExtent n assets e = subst (IsExtent n assets) (sym c.extent_in-extent.ensures) (c.requires n) in
+    let is : IsExtent n assets e = subst (IsExtent n assets) (sym c.extent_of-extent.ensures) (c.requires n) in
     scan_first (voided_asset c.args.inventory.now.closed) n assets e is
 
 pub returns-then-is_some : goal.returns-then-is_some
 returns-then-is_some c =
-    let e = c.extent_in-extent.result in
+    let e = c.extent_of-extent.result in
     let n = c.args.voucher in
     let i = c.args.inventory.now in
-    let is : IsExtent n i.assets e = subst (IsExtent n i.assets) (sym c.extent_in-extent.ensures) (c.requires n) in
+    let is : IsExtent n i.assets e = subst (IsExtent n i.assets) (sym c.extent_of-extent.ensures) (c.requires n) in
     let d = view_asset no_row in
     let f = voided_asset i.closed in
     let here : c.voided_asset-fault.result ≡ voided_asset i.closed (get_or i.assets c.loop-at.at d) = c.voided_asset-fault.ensures ∙ (λ j. voided_asset (c.closed-closed.ensures.value j) (c.row.ensures.is d j)) in
@@ -35,10 +35,10 @@ returns-then-is_some c =
 
 pub loop-at-preserved : goal.loop-at-preserved
 loop-at-preserved c =
-    let e = c.extent_in-extent.result in
+    let e = c.extent_of-extent.result in
     let n = c.args.voucher in
     let i = c.args.inventory.now in
-    let is : IsExtent n i.assets e = subst (IsExtent n i.assets) (sym c.extent_in-extent.ensures) (c.requires n) in
+    let is : IsExtent n i.assets e = subst (IsExtent n i.assets) (sym c.extent_of-extent.ensures) (c.requires n) in
     let d = view_asset no_row in
     let f = voided_asset i.closed in
     let here : c.voided_asset-fault.result ≡ voided_asset i.closed (get_or i.assets c.loop-at.at d) = c.voided_asset-fault.ensures ∙ (λ j. voided_asset (c.closed-closed.ensures.value j) (c.row.ensures.is d j)) in
@@ -47,8 +47,8 @@ loop-at-preserved c =
 
 pub returns : goal.returns
 returns c =
-    let e = c.extent_in-extent.result in
+    let e = c.extent_of-extent.result in
     let n = c.args.voucher in
     let i = c.args.inventory.now in
-    let is : IsExtent n i.assets e = subst (IsExtent n i.assets) (sym c.extent_in-extent.ensures) (c.requires n) in
+    let is : IsExtent n i.assets e = subst (IsExtent n i.assets) (sym c.extent_of-extent.ensures) (c.requires n) in
     sym (c.loop-at.invariant ∙ scan_last (voided_asset i.closed) n i.assets e c.loop-at.at is c.loop-at-test.false)

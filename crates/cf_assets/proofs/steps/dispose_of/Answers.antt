@@ -16,8 +16,8 @@ returns-then-number-count-clause-assets c =
     let i = c.args.inventory.now in
     let l : c.args.number - 1 < length i.assets = omega (arith, c.if-number-ge1.true, c.if-number-count.true, c.count-count.ensures.value) in
     let n : c.args.number ≡ (c.args.number - 1) + 1 = omega (arith, c.if-number-ge1.true) in
-    disposed_one c.args.number (c.args.number - 1) c.year_of-year.result i.closed i.assets c.dispose_at.new.self.assets c.count-count.ensures.numbered l n c.dispose_at.ensures.assets
-    ∙ ap (λ y. map (disposes c.args.number y i.closed) i.assets) c.year_of-year.ensures.value
+    disposed_one c.args.number (c.args.number - 1) c.year_of_day-year.result i.closed i.assets c.dispose_at.new.self.assets c.count-count.ensures.numbered l n c.dispose_at.ensures.assets
+    ∙ ap (λ y. map (disposes c.args.number y i.closed) i.assets) c.year_of_day-year.ensures.value
 
 pub returns-else-number-ge1-clause-assets : goal.returns-else-number-ge1-clause-assets
 returns-else-number-ge1-clause-assets c =

@@ -14,8 +14,8 @@ loop-principal-preserved c =
     let items = c.loop-principal.payments.items in
     record {
       from_is = omega (arith, was.from_is, times c.args.every k);
-      room = omega (arith, was.room, c.push_within.ensures.room, ap length c.push_within.ensures.items, length-append items, c.loop-principal-test.true);
-      built = rw (c.push_within.ensures.items, c.saturating_sub-owed.ensures)
+      room = omega (arith, was.room, c.push_reserved.ensures.capacity, ap length c.push_reserved.ensures.items, length-append items, c.loop-principal-test.true);
+      built = rw (c.push_reserved.ensures.items, c.saturating_sub-owed.ensures)
           (built_step items c.args.every c.loop-principal.from c.loop-principal.owed k (slice_index_or principals k 0) principals (omega (arith, c.loop-principal-test.true))
           (get_or_default principals k 0 (slice_index_or principals k 0) (omega (arith, c.loop-principal-test.true))) ∙ was.built);
     }

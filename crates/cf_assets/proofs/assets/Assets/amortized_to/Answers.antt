@@ -1,9 +1,6 @@
-use Rattle.std.proofs.Common.{◌≡◌, ◌≤◌, ◌∙◌, ap, length, subst, sum_by, sym, arith}
-use Rattle.cf_assets.specs.Inventory.{accumulated_at}
-use Rattle.cf_assets.specs.Leases.{amortization}
+use Rattle.std.proofs.Common.{◌≤◌, ◌∙◌, subst, sym, arith}
 use Rattle.cf_assets.specs.Register.{Register}
 use Rattle.cf_assets.proofs.Leases.{amortized_is, amortized_least, amortized_leased}
-use Rattle.cf_model.specs.Assets.{depreciation, leased}
 use Rattle.cf_assets.proofs.assets.Assets.amortized_to.Goals as goal
 
 pub returns-clause-value : goal.returns-clause-value

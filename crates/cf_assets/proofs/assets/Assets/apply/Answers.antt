@@ -6,7 +6,7 @@ use Rattle.cf_model.specs.Rules.{amount_refusal}
 use Rattle.cf_assets.proofs.assets.Assets.apply.Goals as goal
 
 pub enter_voucher-requires-clause-amounts : goal.enter_voucher-requires-clause-amounts
-enter_voucher-requires-clause-amounts c = items_most c.in-Voucher.invoice.items (subst (λ a. amount_refusal a ≡ None) c.in-Voucher.is c.requires.amounts)
+enter_voucher-requires-clause-amounts c = items_most c.in-Voucher.voucher.items (subst (λ a. amount_refusal a ≡ None) c.in-Voucher.is c.requires.amounts)
 
 pub void_voucher-requires-clause-allowed : goal.void_voucher-requires-clause-allowed
 void_voucher-requires-clause-allowed c = void_allowed c.args.self.now c.args.on c.args.act.now c.in-VoidVoucher.voucher c.in-VoidVoucher.is c.requires.allowed
@@ -16,7 +16,7 @@ returns-in-Voucher-clause-assets c =
     let plan = c.args.chart.now in
     let old = c.args.self.now in
     c.enter_voucher.ensures.assets
-    ∙ adds_only plan old.closed c.args.on c.args.act.now c.args.drawn old.assets _ (voucher_step plan old.closed c.args.on c.args.act.now c.in-Voucher.invoice old.assets c.in-Voucher.is) (sym (ap (λ a. assets_by plan c.args.on a c.args.drawn) c.in-Voucher.is))
+    ∙ adds_only plan old.closed c.args.on c.args.act.now c.args.drawn old.assets _ (voucher_step plan old.closed c.args.on c.args.act.now c.in-Voucher.voucher old.assets c.in-Voucher.is) (sym (ap (λ a. assets_by plan c.args.on a c.args.drawn) c.in-Voucher.is))
 
 pub returns-in-Close-clause-assets : goal.returns-in-Close-clause-assets
 returns-in-Close-clause-assets c = c.close.ensures.assets ∙ close_step c.args.chart.now c.args.self.now.closed c.args.on c.args.act.now c.in-Close.period c.args.drawn c.args.self.now.assets c.in-Close.is

@@ -1,7 +1,5 @@
-use Rattle.std.proofs.Common.{◌≡◌, ◌<◌, ◌≤◌, ◌∙◌, ap, length, true, sum_by, sym, subst, arith}
-use Rattle.cf_assets.specs.Charges.{charge_in}
+use Rattle.std.proofs.Common.{◌≡◌, ◌<◌, ◌∙◌, ap, sym, subst, arith}
 use Rattle.cf_assets.specs.Inventory.{accumulated_at}
-use Rattle.cf_assets.specs.Leases.{AreAmortized}
 use Rattle.cf_assets.specs.Register.{Register}
 use Rattle.cf_assets.proofs.Leases.{amortized_is, amortized_most, close_months}
 use Rattle.cf_assets.proofs.assets.Assets.close_month.Goals as goal
@@ -35,6 +33,6 @@ invariant_of-self c =
       vouchers = omega (arith, was.vouchers);
       extents = rw c.close.ensures.assets was.extents;
       leased = rw c.close.ensures.assets was.leased;
-      amortized = rw (c.close.ensures.assets, c.close.ensures.closed, c.push_within.ensures.items)
+      amortized = rw (c.close.ensures.assets, c.close.ensures.closed, c.push_reserved.ensures.items)
           (close_months inventory.assets inventory.closed amortized c.accumulated_after-before.result c.leased_charge.result before c.leased_charge.ensures.value was.amortized);
     }

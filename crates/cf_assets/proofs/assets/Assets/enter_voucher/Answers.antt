@@ -17,8 +17,8 @@ invariant_of-self c =
       acts = omega (arith, few);
       few = omega (arith, was.few, c.buy_all.ensures.most, items);
       closed = omega (arith, was.closed, c.buy_all.ensures.closed);
-      vouchers = rw (c.push_within.ensures.items, length-append c.self.inside.vouchers.items) (omega (arith, was.vouchers));
-      extents = rw (c.push_within.ensures.items, c.count-first.ensures.value, c.count-end.ensures.value, is)
+      vouchers = rw (c.push_reserved.ensures.items, length-append c.self.inside.vouchers.items) (omega (arith, was.vouchers));
+      extents = rw (c.push_reserved.ensures.items, c.count-first.ensures.value, c.count-end.ensures.value, is)
           (extents_push c.self.inside.vouchers.items c.self.inside.inventory.assets _ was.extents (λ k d l. bought_its c.args.chart.now c.args.drawn.number c.args.on _ _ c.as_slice.result.now k d l ∙ ap (λ (n : ℕ). Some n) next));
       leased = rw is (bought_years c.args.chart.now c.args.drawn.number c.args.on _ _ c.as_slice.result.now c.self.inside.inventory.assets c.self.inside.leased was.leased);
       amortized = rw (is, c.buy_all.ensures.closed)

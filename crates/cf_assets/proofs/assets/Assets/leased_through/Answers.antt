@@ -1,9 +1,9 @@
-use Rattle.std.proofs.Common.{◌≤◌, ◌-◌, ℕ, length, subst, sum_by, ◌∙◌, arith}
+use Rattle.std.proofs.Common.{◌≤◌, ◌-◌, ℕ, subst, sum_by, ◌∙◌, arith}
 use Rattle.cf_assets.specs.Inventory.{AreKept}
 use Rattle.cf_assets.specs.Register.{Register}
 use Rattle.cf_assets.specs.Years.{let_in}
 use Rattle.cf_assets.proofs.Leases.{let_most}
-use Rattle.cf_assets.proofs.Netting.{cells_to, cells_most, to_most}
+use Rattle.cf_rows.proofs.Cells.{cells_to, cells_most, to_most}
 use Rattle.cf_assets.proofs.assets.Assets.leased_through.Goals as goal
 
 pub total_through-requires : goal.total_through-requires

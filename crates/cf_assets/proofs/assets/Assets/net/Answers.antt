@@ -29,7 +29,7 @@ returns c =
     ∙ ap (λ y. sum_by (depreciation (closed_to plan inventory.closed y)) (owned inventory.assets)) (sym back) in
     rw (← c.self.view_is)
     (to_z-of_z w128 c.difference.result fits
-    ∙ c.difference.ensures
+    ∙ c.difference.ensures.value
     ∙ (λ i. pos (c.acquired_through-acquired.ensures.value i) -ℤ pos (c.gone_through-gone.ensures.value i + depreciated i))
     ∙ sym (owned_net plan inventory.closed inventory.assets c.closed_through-months.ensures.first c.acquired_through-acquired.ensures.first sound n)
     ∙ ap (λ y. int_sum (net plan inventory.closed y) (owned inventory.assets)) back)

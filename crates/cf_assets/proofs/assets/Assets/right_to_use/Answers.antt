@@ -22,7 +22,7 @@ returns c =
     ∙ ap (λ m. sum_by (depreciation m) (leased register.assets)) months
     ∙ ap (λ y. sum_by (depreciation (closed_to plan register.closed y)) (leased register.assets)) (sym back) in
     to_z-of_z w128 c.difference.result fits
-    ∙ c.difference.ensures
+    ∙ c.difference.ensures.value
     ∙ (λ i. pos (c.leased_through.ensures.value i) -ℤ pos (amortized i))
     ∙ sym (leased_net plan register.closed register.assets c.closed_through-months.ensures.first c.leased_through.ensures.first c.requires.sound n)
     ∙ ap (λ y. int_sum (net plan register.closed y) (leased register.assets)) back

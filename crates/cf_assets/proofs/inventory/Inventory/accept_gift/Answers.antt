@@ -1,19 +1,18 @@
-use Rattle.std.proofs.Common.{◌≡◌, ◌+◌, ◌<◌, ◌≤◌, arith, sym, subst, length, map, get_or}
+use Rattle.std.proofs.Common.{◌≡◌, ◌+◌, ◌<◌, ◌≤◌, arith, sym, subst, length, map, sum_by}
 use Rattle.std.proofs.lemmas.List.{length-append, length-map}
 use Rattle.cf_assets.specs.Inventory.{Inventory}
 use Rattle.cf_assets.specs.Rows.{view_asset, IsStage}
 use Rattle.cf_assets.specs.Years.{given_in}
-use Rattle.cf_assets.proofs.Cells.{cell_small}
 use Rattle.cf_assets.proofs.InService.{serving_push}
-use Rattle.cf_assets.proofs.Keeping.{rows_push, accumulated_push, gift_bought, gift_given, new_book, given_most, costs}
+use Rattle.cf_assets.proofs.Keeping.{rows_push, accumulated_push, gift_bought, gift_given, new_book, year_most, given_most}
+use Rattle.cf_rows.proofs.Cells.{cells_most}
 use Rattle.cf_assets.proofs.inventory.Inventory.accept_gift.Goals as goal
 
 pub raise-requires-clause-fits : goal.raise-requires-clause-fits
 raise-requires-clause-fits c =
     let rows = c.self.inside.rows.items in
     let was = c.self.invariant in
-    cell_small given_in (map view_asset rows) c.self.inside.donated c.args.row.year c.args.row.cost was.donated c.requires.new.from c.requires.new.to (omega (arith, was.few, length-map rows view_asset)) c.requires.new.cost
-    (λ k d l. omega (arith, given_most c.args.row.year (get_or (map view_asset rows) k d), costs (length c.self.inside.accumulated.items) rows was.rows k d l))
+    omega (arith, c.requires.new.cost, cells_most (λ y. sum_by (given_in y) (map view_asset rows)) c.self.inside.donated 480000000000000000000 was.donated (year_most given_in given_most (length c.self.inside.accumulated.items) rows was.rows was.few))
 
 pub invariant_of-self : goal.invariant_of-self
 invariant_of-self c =
@@ -27,13 +26,13 @@ invariant_of-self c =
     let early : length accumulated ≤ r.service = subst (λ (i : Inventory). i.closed ≤ r.service) (sym c.self.view_is) new.early in
     let at : c.len-at.result ≡ length rows = omega (arith, c.len-at.ensures) in
     record {
-      few = rw (c.push_within.ensures.items, length-append rows) (omega (arith, few, length-map rows view_asset));
+      few = rw (c.push_reserved.ensures.items, length-append rows) (omega (arith, few, length-map rows view_asset));
       months = was.months;
-      rows = rw c.push_within.ensures.items
+      rows = rw c.push_reserved.ensures.items
           (rows_push (length accumulated) rows r was.rows (record { number = omega (arith, next, length-map rows view_asset); cost = new.cost; from = new.from; to = new.to; stage = subst (IsStage (length accumulated)) (sym new.held) tt }));
-      serving = rw (c.push_within.ensures.items, c.enlist.ensures.items) (serving_push (length accumulated) c.len-at.result rows c.self.inside.serving.items r at was.serving);
-      accumulated = rw c.push_within.ensures.items (accumulated_push rows r accumulated new.held early was.accumulated);
-      outlay = rw c.push_within.ensures.items (gift_bought rows r c.self.inside.outlay c.requires.gift was.outlay);
-      donated = rw (c.push_within.ensures.items, c.raise.ensures) (gift_given rows r c.self.inside.donated c.requires.gift new.from new.to was.donated);
-      disposals = rw c.push_within.ensures.items (new_book (length accumulated) rows r c.self.inside.disposals new.held was.disposals);
+      serving = rw (c.push_reserved.ensures.items, c.enlist.ensures.items) (serving_push (length accumulated) c.len-at.result rows c.self.inside.serving.items r at was.serving);
+      accumulated = rw c.push_reserved.ensures.items (accumulated_push rows r accumulated new.held early was.accumulated);
+      outlay = rw c.push_reserved.ensures.items (gift_bought rows r c.self.inside.outlay c.requires.gift was.outlay);
+      donated = rw (c.push_reserved.ensures.items, c.raise.ensures.cell) (gift_given rows r c.self.inside.donated c.requires.gift new.from new.to was.donated);
+      disposals = rw c.push_reserved.ensures.items (new_book (length accumulated) rows r c.self.inside.disposals new.held was.disposals);
     }

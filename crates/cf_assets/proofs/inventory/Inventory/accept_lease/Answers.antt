@@ -18,13 +18,13 @@ invariant_of-self c =
     let early : length accumulated ≤ r.service = subst (λ (i : Inventory). i.closed ≤ r.service) (sym c.self.view_is) new.early in
     let at : c.len-at.result ≡ length rows = omega (arith, c.len-at.ensures) in
     record {
-      few = rw (c.push_within.ensures.items, length-append rows) (omega (arith, few, length-map rows view_asset));
+      few = rw (c.push_reserved.ensures.items, length-append rows) (omega (arith, few, length-map rows view_asset));
       months = was.months;
-      rows = rw c.push_within.ensures.items
+      rows = rw c.push_reserved.ensures.items
           (rows_push (length accumulated) rows r was.rows (record { number = omega (arith, next, length-map rows view_asset); cost = new.cost; from = new.from; to = new.to; stage = subst (IsStage (length accumulated)) (sym new.held) tt }));
-      serving = rw (c.push_within.ensures.items, c.enlist.ensures.items) (serving_push (length accumulated) c.len-at.result rows c.self.inside.serving.items r at was.serving);
-      accumulated = rw c.push_within.ensures.items (accumulated_push rows r accumulated new.held early was.accumulated);
-      outlay = rw c.push_within.ensures.items (lease_bought rows r c.self.inside.outlay c.requires.lease was.outlay);
-      donated = rw c.push_within.ensures.items (lease_given rows r c.self.inside.donated c.requires.lease was.donated);
-      disposals = rw c.push_within.ensures.items (new_book (length accumulated) rows r c.self.inside.disposals new.held was.disposals);
+      serving = rw (c.push_reserved.ensures.items, c.enlist.ensures.items) (serving_push (length accumulated) c.len-at.result rows c.self.inside.serving.items r at was.serving);
+      accumulated = rw c.push_reserved.ensures.items (accumulated_push rows r accumulated new.held early was.accumulated);
+      outlay = rw c.push_reserved.ensures.items (lease_bought rows r c.self.inside.outlay c.requires.lease was.outlay);
+      donated = rw c.push_reserved.ensures.items (lease_given rows r c.self.inside.donated c.requires.lease was.donated);
+      disposals = rw c.push_reserved.ensures.items (new_book (length accumulated) rows r c.self.inside.disposals new.held was.disposals);
     }

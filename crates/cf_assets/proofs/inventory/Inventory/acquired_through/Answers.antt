@@ -3,7 +3,7 @@ use Rattle.cf_assets.specs.Inventory.{Inventory, AreKept}
 use Rattle.cf_assets.specs.Rows.{view_asset}
 use Rattle.cf_assets.specs.Years.{bought_in, given_in}
 use Rattle.cf_assets.proofs.Keeping.{year_most, bought_most, given_most, kept}
-use Rattle.cf_assets.proofs.Netting.{cells_to, cells_most, to_most}
+use Rattle.cf_rows.proofs.Cells.{cells_to, cells_most, to_most}
 use Rattle.cf_assets.proofs.inventory.Inventory.acquired_through.Goals as goal
 
 pub total_through-requires : goal.total_through-requires

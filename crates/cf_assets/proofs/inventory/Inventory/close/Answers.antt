@@ -28,11 +28,11 @@ invariant_of-self c =
     let charged : c.total_charge-charge.result ≡ sum_by (charge (length accumulated)) (map view_asset rows) = c.total_charge-charge.ensures ∙ (λ i. sum_by (charge (len i)) (map view_asset (c.deref.ensures.value i))) in
     record {
       few = was.few;
-      months = rw (c.push_within.ensures.items, length-append accumulated) (omega (arith, few));
-      rows = rw (c.push_within.ensures.items, length-append accumulated) (rows_close (length accumulated) rows was.rows);
-      serving = rw (c.push_within.ensures.items, length-append accumulated, c.retire.ensures, c.deref-3.ensures.value, len) (retired (length accumulated) rows c.self.inside.serving.items was.serving);
-      accumulated = rw c.push_within.ensures.items (close_accumulated (map view_asset rows) accumulated c.accumulated_after-before.result c.total_charge-charge.result was.accumulated before charged);
+      months = rw (c.push_reserved.ensures.items, length-append accumulated) (omega (arith, few));
+      rows = rw (c.push_reserved.ensures.items, length-append accumulated) (rows_close (length accumulated) rows was.rows);
+      serving = rw (c.push_reserved.ensures.items, length-append accumulated, c.retire.ensures, c.deref-3.ensures.value, len) (retired (length accumulated) rows c.self.inside.serving.items was.serving);
+      accumulated = rw c.push_reserved.ensures.items (close_accumulated (map view_asset rows) accumulated c.accumulated_after-before.result c.total_charge-charge.result was.accumulated before charged);
       outlay = was.outlay;
       donated = was.donated;
-      disposals = rw (c.push_within.ensures.items, length-append accumulated) (close_books (length accumulated) rows c.self.inside.disposals was.rows was.disposals);
+      disposals = rw (c.push_reserved.ensures.items, length-append accumulated) (close_books (length accumulated) rows c.self.inside.disposals was.rows was.disposals);
     }

@@ -1,4 +1,4 @@
-use Rattle.std.proofs.Common.{◌≡◌, ◌<◌, ◌-◌, arith, refl, sym, subst, ap, ◌∙◌, length, map, set, get_or, ℕ}
+use Rattle.std.proofs.Common.{◌≡◌, ◌<◌, ◌-◌, arith, refl, sym, subst, ap, ◌∙◌, length, map, set, get_or, sum_by, ℕ}
 use Rattle.std.proofs.lemmas.List.{length-map, length-set}
 use Rattle.cf_assets.specs.Inventory.{Inventory, IsHeldAt, staged}
 use Rattle.cf_assets.specs.InventoryView.{inventory_of}
@@ -7,9 +7,9 @@ use Rattle.cf_assets.specs.Years.{bought_in, given_in, book_in}
 use Rattle.cf_assets.specs.declared.inventory.Inventory.TheInside.{Inside}
 use Rattle.cf_assets.specs.declared.rows.AssetRow.{AssetRow}
 use Rattle.cf_assets.specs.declared.rows.StageNow.TheVariants.{Disposed, Held}
-use Rattle.cf_assets.proofs.Cells.{cell_small}
 use Rattle.cf_assets.proofs.InService.{serving_set}
-use Rattle.cf_assets.proofs.Keeping.{IsAt, restaged, row_is, restage_rows, restage_same, gone_accumulated, gone_bought, gone_book, held_row, view_set, viewed, book_most, costs}
+use Rattle.cf_assets.proofs.Keeping.{IsAt, restaged, row_is, restage_rows, restage_same, gone_accumulated, gone_bought, gone_book, held_row, view_set, viewed, year_most, book_most}
+use Rattle.cf_rows.proofs.Cells.{cells_most}
 use Rattle.cf_model.specs.Assets.{Asset, disposed, depreciation}
 use Rattle.cf_assets.proofs.inventory.Inventory.dispose_at.Goals as goal
 
@@ -27,8 +27,7 @@ raise-requires c =
     record {
       from = c.requires.from;
       to = c.requires.to;
-      fits = cell_small (book_in (length accumulated)) (map view_asset rows) c.self.inside.disposals c.args.year (r.cost - c.depreciation_of.result) was.disposals c.requires.from c.requires.to
-          (omega (arith, was.few, length-map rows view_asset)) (omega (arith, row.cost)) (λ k d l. omega (arith, book_most (length accumulated) c.args.year (get_or (map view_asset rows) k d), costs (length accumulated) rows was.rows k d l));
+      fits = omega (arith, row.cost, cells_most (λ y. sum_by (book_in (length accumulated) y) (map view_asset rows)) c.self.inside.disposals 480000000000000000000 was.disposals (year_most (book_in (length accumulated)) (book_most (length accumulated)) (length accumulated) rows was.rows was.few));
     }
 
 pub invariant_of-self : goal.invariant_of-self
@@ -52,7 +51,7 @@ invariant_of-self c =
       accumulated = rw closed (gone_accumulated c.args.at c.args.year rows r accumulated at is was.accumulated);
       outlay = rw closed (restage_same bought_in c.args.at rows r stage c.self.inside.outlay at was.outlay (λ y. gone_bought y c.args.year (length accumulated) r is));
       donated = rw closed (restage_same given_in c.args.at rows r stage c.self.inside.donated at was.donated (λ y. refl));
-      disposals = rw (closed, c.raise.ensures) (gone_book c.args.at c.args.year (length accumulated) rows r c.self.inside.disposals (r.cost - c.depreciation_of.result) at is c.requires.from c.requires.to value was.disposals);
+      disposals = rw (closed, c.raise.ensures.cell) (gone_book c.args.at c.args.year (length accumulated) rows r c.self.inside.disposals (r.cost - c.depreciation_of.result) at is c.requires.from c.requires.to value was.disposals);
     }
 
 pub returns-clause-assets : goal.returns-clause-assets

@@ -2,7 +2,7 @@ use Rattle.std.proofs.Common.{◌-◌, length, map, sum_by, ◌∙◌, arith}
 use Rattle.cf_assets.specs.Rows.{view_asset}
 use Rattle.cf_assets.specs.Years.{book_in}
 use Rattle.cf_assets.proofs.Keeping.{year_most, book_most}
-use Rattle.cf_assets.proofs.Netting.{cells_to, cells_most, to_most}
+use Rattle.cf_rows.proofs.Cells.{cells_to, cells_most, to_most}
 use Rattle.cf_assets.proofs.inventory.Inventory.gone_through.Goals as goal
 
 pub total_through-requires : goal.total_through-requires

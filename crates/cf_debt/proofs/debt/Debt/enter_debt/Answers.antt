@@ -1,11 +1,11 @@
-use Rattle.std.proofs.Common.{◌≡◌, ◌+◌, ◌-◌, ◌*◌, ◌<◌, ◌≤◌, ◌++◌, ◌∷◌, [], ℕ, Bool, true, false, List, length, map, ap, arith, sym, subst, ◌∙◌}
+use Rattle.std.proofs.Common.{◌≡◌, ◌+◌, ◌-◌, ◌<◌, ◌≤◌, ◌++◌, ◌∷◌, [], ℕ, Bool, true, false, List, length, map, ap, arith, sym, subst, ◌∙◌}
 use Rattle.std.proofs.lemmas.List.{length-append, length-map}
 use Rattle.cf_debt.specs.declared.rows.BondRow.{BondRow}
 use Rattle.cf_debt.specs.Register.{Register}
 use Rattle.cf_debt.specs.RegisterView.{HasSums}
 use Rattle.cf_debt.specs.Rows.{view_bond, view_bonds, view_leave, view_payment, view_payments}
 use Rattle.cf_debt.specs.Steps.{bond_row, issue_of}
-use Rattle.cf_debt.specs.Years.{lease_part}
+use Rattle.cf_debt.specs.Rows.{lease_part}
 use Rattle.cf_debt.proofs.Entering.{IsNew, bonds_entered, has_entered, new_payments, new_row, sums_entered, year_from}
 use Rattle.cf_debt.proofs.RunningSums.{Rise}
 use Rattle.cf_debt.proofs.Schedules.{bond_paying}
@@ -38,10 +38,10 @@ payments_are c =
     ∙ (λ i. view_payments c.self.inside.payments.items ++ dues_from (every i) c.new_bond-row.result.month c.new_bond-row.result.amount c.args.principals.now)
 
 bonds_are : (c : goal.After-self-1) →
-    view_bonds (view_payments c.add_schedule.new.payments.items) c.push_within.new.rows.items
+    view_bonds (view_payments c.add_schedule.new.payments.items) c.push_reserved.new.self.items
     ≡ view_bonds (view_payments c.self.inside.payments.items) c.self.inside.bonds.items ++ bond_paying c.new_bond-row.result c.args.principals.now ∷ []
 bonds_are c =
-    (λ i. view_bonds (payments_are c i) (c.push_within.ensures.items i))
+    (λ i. view_bonds (payments_are c i) (c.push_reserved.ensures.items i))
     ∙ bonds_entered c.self.inside.closed (view_payments c.self.inside.payments.items) c.self.inside.bonds.items c.new_bond-row.result c.args.principals.now c.self.invariant.bonds.each (is_new c)
 
 lease_most : (b : Bool) (n : ℕ) → lease_part b n ≤ n
@@ -61,7 +61,7 @@ invariant_of-self c =
     record {
       small = record {
         acts = omega (arith, few);
-        bonds = rw (c.push_within.ensures.items, length-append c.self.inside.bonds.items) (omega (arith, was.small.bonds));
+        bonds = rw (c.push_reserved.ensures.items, length-append c.self.inside.bonds.items) (omega (arith, was.small.bonds));
         closed = was.small.closed;
         issued = omega (arith, was.small.issued, c.add_at.ensures.total, c.from.ensures, (is_new c).amount);
         leased = omega (arith, was.small.leased, c.add_at-2.ensures.total, leased, lease_most row.is_lease row.amount, (is_new c).amount);
@@ -73,7 +73,7 @@ invariant_of-self c =
         taken = omega (arith, was.small.taken);
         left = λ fund dept. omega (arith, was.small.left fund dept);
       };
-      bonds = rw (payments_are c, c.push_within.ensures.items, c.push_within-2.ensures.items, number) (has_entered c.self.inside.closed all c.self.inside.bonds.items c.self.inside.live.items row principals was.bonds (is_new c));
+      bonds = rw (payments_are c, c.push_reserved.ensures.items, c.push_reserved-2.ensures.items, number) (has_entered c.self.inside.closed all c.self.inside.bonds.items c.self.inside.live.items row principals was.bonds (is_new c));
       sums = subst (λ (bs : List Bond). HasSums c.self.inside.closed bs c.add_at.new.cells c.add_at-2.new.cells c.self.inside.repaid c.self.inside.leases_repaid c.self.inside.coupons c.self.inside.charged) (sym (bonds_are c))
           (sums_entered c.self.inside.closed all (length c.self.inside.bonds.items) (view_bonds all c.self.inside.bonds.items) row principals c.self.inside.issued c.add_at.new.cells c.self.inside.leased c.add_at-2.new.cells c.self.inside.repaid c.self.inside.leases_repaid c.self.inside.coupons c.self.inside.charged (is_new c) was.sums
           (subst (Rise c.self.inside.issued c.add_at.new.cells (row.year - 1970)) c.from.ensures c.add_at.ensures.years)

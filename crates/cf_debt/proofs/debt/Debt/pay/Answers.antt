@@ -7,7 +7,7 @@ use Rattle.cf_debt.specs.Register.{Register}
 use Rattle.cf_debt.specs.RegisterView.{AreRows, register_of}
 use Rattle.cf_debt.specs.Rows.{AreSmallDues, IsRow, IsSmallDue, view_bond, view_bonds, view_leave, view_payment, view_payments}
 use Rattle.cf_debt.specs.Steps.{CanPay}
-use Rattle.cf_debt.specs.Years.{lease_part}
+use Rattle.cf_debt.specs.Rows.{lease_part}
 use Rattle.cf_debt.proofs.Finding.{Pays, found_left, found_row, pays}
 use Rattle.cf_debt.proofs.Paying.{bonds_paid, has_paid, sums_paid}
 use Rattle.cf_debt.proofs.Payments.{payment_at, small_at}

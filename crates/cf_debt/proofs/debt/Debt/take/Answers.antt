@@ -34,7 +34,7 @@ invariant_of-self c =
       };
       bonds = was.bonds;
       sums = was.sums;
-      leave = rw (c.push_within.ensures.items, map-push view_leave c.self.inside.leave.items row) (record {
+      leave = rw (c.push_reserved.ensures.items, map-push view_leave c.self.inside.leave.items row) (record {
         left = left_kept (map view_leave c.self.inside.leave.items) (view_leave row) c.self.inside.left.entries c.put_in.new.map.entries (c.amount_in.result - row.amount) was.leave.left c.put_in.ensures (taken_left (left_in c.self.inside.left.entries row.fund row.dept) row.amount (c.amount_in.result - row.amount) (view_leave row).by (ap (λ n. n - row.amount) c.amount_in.ensures) enough by);
         years = years_taken (map view_leave c.self.inside.leave.items) (view_leave row) row.amount c.self.inside.earned c.self.inside.taken c.add_at.new.cells c.requires.from by was.leave.years (subst (Rise c.self.inside.taken c.add_at.new.cells (row.year - 1970)) c.from.ensures c.add_at.ensures.years);
       });

@@ -1,4 +1,4 @@
-use Rattle.std.proofs.Common.{◌≡◌, sym, ap, ◌∙◌}
+use Rattle.std.proofs.Common.{sym, ap, ◌∙◌}
 use Rattle.cf_model.specs.Documents.{Documents, documents_step}
 use Rattle.cf_orders.specs.Register.{entry_for}
 use Rattle.cf_orders.proofs.orders.Orders.apply.Goals as goal

@@ -1,11 +1,9 @@
-use Rattle.std.proofs.Common.{◌≡◌, ℕ, ◌+◌, ◌*◌, ◌<◌, ◌≤◌, List, length, take, get_or, replicate, subst, sym, ap, ◌∙◌, arith}
+use Rattle.std.proofs.Common.{◌≡◌, ℕ, ◌+◌, ◌<◌, List, length, take, get_or, subst, sym, ap, ◌∙◌, arith}
 use Rattle.std.proofs.lemmas.List.{get_or-replicate, length-replicate, take_all}
 use Rattle.cf_model.specs.Moves.{carried_to}
-use Rattle.cf_model.specs.OrderItems.{OrderItem}
 use Rattle.cf_orders.specs.declared.rows.ItemRow.{ItemRow}
 use Rattle.cf_orders.specs.Carrying.{AreCarried, adds_to}
 use Rattle.cf_orders.specs.Register.{Register}
-use Rattle.cf_orders.specs.RegisterView.{register_of}
 use Rattle.cf_orders.specs.Rows.{view_items}
 use Rattle.cf_orders.proofs.Carried.{carried_more}
 use Rattle.cf_orders.proofs.orders.Orders.carried_amounts.Goals as goal

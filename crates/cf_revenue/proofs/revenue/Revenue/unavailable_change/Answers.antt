@@ -1,4 +1,4 @@
-use Rattle.std.proofs.Common.{◌∙◌, rules, ap}
+use Rattle.std.proofs.Common.{◌+◌, ◌-ℤ◌, pos, ◌∙◌, rules, ap}
 use Rattle.std.proofs.lemmas.Int.{to_z-of_z}
 use mir.Val.{SFits}
 use mir.Syntax.{w128}
@@ -12,6 +12,7 @@ pub returns : goal.returns
 returns c =
     let f : SFits w128 c.difference.result = search rules in
     to_z-of_z w128 c.difference.result f
-    ∙ c.difference.ensures
-    ∙ change_in (register_of c.self.inside).receivables c.self.inside.billed c.self.inside.settled c.args.year _ _ c.requires c.self.invariant.billed c.self.invariant.taken c.amount_in-billed.ensures c.amount_in-settled.ensures
+    ∙ c.difference.ensures.value
+    ∙ (λ i. pos (c.total_through-billed.ensures i + c.total_through-settled_before.ensures i) -ℤ pos (c.total_through-settled.ensures i + c.total_through-billed_before.ensures i))
+    ∙ change_in (register_of c.self.inside).receivables c.self.inside.billed c.self.inside.settled c.args.year c.requires c.self.invariant.billed c.self.invariant.taken
     ∙ ap (λ (r : Register). deferred_in c.args.year r.receivables) c.self.view_is

@@ -1,0 +1,14 @@
+//! What registers are made of: where a document's rows stand, and the chart's fiscal years and months of days.
+#![tactic(auto)]
+
+mod amounts;
+mod calendar;
+mod extents;
+mod months;
+mod years;
+
+pub use amounts::difference;
+pub use calendar::{document_year, is_before, rolled_year, year_of_day};
+pub use extents::{Extent, count, extent_of};
+pub use months::{month_at, number_of_day, number_of_month, year_at, years_to};
+pub use years::{YEARS, add_at, amount_in, lower, no_years, raise, total_of, total_through};
