@@ -1,4 +1,5 @@
 pub mod Records
+pub mod Rows
 pub mod Names
 pub mod Posts
 pub mod Balances

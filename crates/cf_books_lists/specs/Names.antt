@@ -75,5 +75,8 @@ account_name plan n =
     else other_name n))))
 
 -- what an account is of a function is said where it isn't its expenditure
+abbrev pub kind_text : ℕ → List ℕ
+kind_text n = if nat_lt 450000 n && nat_lt n 451000 then codes "Donated capital assets, " else []
+
 abbrev pub account_text : Plan → ℕ → List ℕ
-account_text plan n = (if nat_lt 450000 n && nat_lt n 451000 then codes "Donated capital assets, " else []) ++ account_name plan n
+account_text plan n = kind_text n ++ account_name plan n

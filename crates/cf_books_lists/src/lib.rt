@@ -8,6 +8,8 @@ mod names;
 mod open;
 mod posts;
 mod records;
+mod rows;
+mod texts;
 
 pub use balances::balances_text;
 pub use open::open_text;

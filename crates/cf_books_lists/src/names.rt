@@ -1,6 +1,6 @@
 //! The names that a chart has for its funds, and for the accounts.
 
-ghost use Rattle.std.specs.Prelude.{◌≡◌, IfOk};
+ghost use Rattle.std.specs.Prelude.{◌≡◌, ◌++◌, IfOk, OnOk};
 ghost use Rattle.std.specs.Option.{option_copied};
 ghost use Rattle.cf_books_lists.specs.Names as spec;
 
@@ -129,14 +129,30 @@ pub fn account_name(chart: &Chart, account: u32) -> &str
     other_name(account)
 }
 
-/// The name of an account, with what it is of a function where that isn't its expenditure.
+/// What an account is of a function, where that isn't its expenditure.
+fn kind_text(account: u32) -> &'static str
+    ensures { result.now ≡ spec.kind_text account }
+{
+    if 450_000 < account && account < 451_000 {
+        "Donated capital assets, "
+    } else {
+        ""
+    }
+}
+
+/// Appends the name of an account, with what it is of a function where that isn't its expenditure.
+pub fn put_account(out: &mut Vec<u8>, chart: &Chart, account: u32) -> Result<(), AllocError>
+    ensures { OnOk result (out.new.items ≡ out.old.items ++ spec.account_text chart.now account) }
+{
+    out.extend_from_slice(kind_text(account).as_bytes())?;
+    out.extend_from_slice(account_name(chart, account).as_bytes())
+}
+
+/// The same text alone.
 pub fn account_text(alloc: Global, chart: &Chart, account: u32) -> Result<Vec<u8>, AllocError>
     ensures { IfOk result (λ t. t.items ≡ spec.account_text chart.now account) }
 {
     let mut text = Vec::new(alloc);
-    if 450_000 < account && account < 451_000 {
-        text.extend_from_slice(b"Donated capital assets, ")?;
-    }
-    text.extend_from_slice(account_name(chart, account).as_bytes())?;
+    put_account(&mut text, chart, account)?;
     Ok(text)
 }

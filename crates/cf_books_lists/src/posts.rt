@@ -1,15 +1,20 @@
 //! Each post of each entry, on both bases.
 
-ghost use Rattle.std.specs.Prelude.{◌≡◌, ◌++◌, string_bytes, IfOk, IfErr, OnOk};
+ghost use Rattle.std.specs.Prelude.{◌≡◌, ◌++◌, [], Some, IfOk, IfErr, OnOk};
 ghost use Rattle.cf_base.specs.Amounts.{money_of};
 ghost use Rattle.cf_book.specs.Openings.{OpensBook, OpensNone};
 ghost use Rattle.cf_book.specs.Watching.{all_posted};
 ghost use Rattle.cf_books_lists.specs.Posts as spec;
-ghost use Rattle.cf_books_lists.specs.Records.{head_text, record_text};
+ghost use Rattle.cf_call_text.specs.CallText.{call_word as word_of};
+ghost use Rattle.cf_books_lists.specs.Names.{account_text, basis_word as basis_text};
+ghost use Rattle.cf_books_lists.specs.Records.{head_text};
+ghost use Rattle.cf_books_lists.specs.Rows.{Adds, AddsText, Wrote};
 
-use crate::names::{account_text, basis_word, fund_name};
-use crate::records::{Layout, decimal_text, drawn_text, put_names, put_record};
-use cf_base::{day_text, money_text};
+use crate::names::{basis_word, fund_name, put_account};
+use crate::records::Layout;
+use crate::rows::{put_row, writer, written};
+use crate::texts::{digits, drawn_digits, put_money};
+use cf_base::day_text;
 use cf_book::{Book, NotOpened, Watch, open_watched};
 use cf_books_words::PostFilter;
 use cf_call_text::call_word;
@@ -17,6 +22,8 @@ use cf_calls::{Basis, Entry};
 use cf_chart::Chart;
 use cf_disk::Disk;
 use cf_ledger::Post;
+use csv::Writer;
+use itoa::Buffer;
 use std::alloc::{AllocError, Global};
 
 /// Whether this number is asked for: each is, where none is named.
@@ -98,123 +105,147 @@ fn put_placed(
     Ok(())
 }
 
-/// The amount of a post in units of money.
-fn amount_text(alloc: Global, post: &Post) -> Result<String, AllocError>
-    ensures { IfOk result (λ t. string_bytes t ≡ money_of post.now.amount) }
-{
-    money_text(alloc, post.amount)
+/// Where posts are written, with memory for the texts that are made anew for each.
+#[derive(Drop)]
+struct Sheet {
+    out: Writer<Vec<u8>>,
+    name: Vec<u8>,
+    amount: Vec<u8>,
 }
 
-/// Appends the record of a post.
+/// A sheet with nothing on it.
+fn blank_sheet(layout: Layout) -> Sheet
+    ensures { Wrote layout.csv [] result.out }
+{
+    Sheet {
+        out: writer(layout),
+        name: Vec::new(layout.alloc),
+        amount: Vec::new(layout.alloc),
+    }
+}
+
+/// Makes the texts of a post that are made of several.
+fn make_texts(sheet: &mut Sheet, chart: &Chart, post: &Post) -> Result<(), AllocError>
+    ensures name { OnOk result (sheet.new.name.items ≡ account_text chart.now post.now.account) }
+    ensures amount { OnOk result (sheet.new.amount.items ≡ money_of post.now.amount) }
+    ensures out { sheet.new.out ≡ sheet.old.out }
+{
+    sheet.name.clear();
+    put_account(&mut sheet.name, chart, post.account)?;
+    sheet.amount.clear();
+    put_money(&mut sheet.amount, post.amount)
+}
+
+/// The word of an entry's call.
+fn call_bytes(entry: &Entry) -> &[u8]
+    ensures { result.now ≡ word_of entry.now.change.act }
+{
+    call_word(&entry.change.act).as_bytes()
+}
+
+/// The word of a basis.
+fn basis_bytes(basis: &Basis) -> &[u8]
+    ensures { result.now ≡ basis_text basis.now }
+{
+    basis_word(*basis).as_bytes()
+}
+
+/// Writes the record of a post.
 fn put_post(
-    layout: Layout,
-    out: &mut Vec<u8>,
+    csv: bool,
+    sheet: &mut Sheet,
     chart: &Chart,
     place: u64,
     entry: &Entry,
     basis: Basis,
     post: &Post,
 ) -> Result<(), AllocError>
-    ensures { OnOk result (out.new.items ≡ out.old.items ++ record_text layout.csv (spec.post_row chart.now place entry.now basis post.now)) }
+    ensures { OnOk result (Adds csv (spec.post_row chart.now place entry.now basis post.now) sheet.old.out sheet.new.out) }
 {
+    make_texts(sheet, chart, post)?;
     let change = &entry.change;
-    let at = decimal_text(layout.alloc, place)?;
+    let (mut at, mut desk, mut number) = (Buffer::new(), Buffer::new(), Buffer::new());
+    let (mut year, mut fund, mut account) = (Buffer::new(), Buffer::new(), Buffer::new());
     let day = day_text(change.on);
-    let desk = decimal_text(layout.alloc, change.desk as u64)?;
-    let call = Vec::from_slice(layout.alloc, call_word(&change.act).as_bytes())?;
-    let number = drawn_text(layout.alloc, entry.drawn.number as u64)?;
-    let word = Vec::from_slice(layout.alloc, basis_word(basis).as_bytes())?;
-    let year = decimal_text(layout.alloc, post.year as u64)?;
-    let fund = decimal_text(layout.alloc, post.fund as u64)?;
-    let account = decimal_text(layout.alloc, post.account as u64)?;
-    let name = account_text(layout.alloc, chart, post.account)?;
-    let amount = amount_text(layout.alloc, post)?;
     let fields = [
-        at.as_slice(),
+        digits(&mut at, place),
         day.as_slice(),
-        desk.as_slice(),
+        digits(&mut desk, change.desk as u64),
         change.key.as_str().as_bytes(),
-        call.as_slice(),
-        number.as_slice(),
-        word.as_slice(),
-        year.as_slice(),
-        fund.as_slice(),
+        call_bytes(entry),
+        drawn_digits(&mut number, entry.drawn.number as u64),
+        basis_bytes(&basis),
+        digits(&mut year, post.year as u64),
+        digits(&mut fund, post.fund as u64),
         fund_name(chart.fund(post.fund)).as_bytes(),
-        account.as_slice(),
-        name.as_slice(),
-        amount.as_str().as_bytes(),
+        digits(&mut account, post.account as u64),
+        sheet.name.as_slice(),
+        sheet.amount.as_slice(),
     ];
-    put_record(layout, out, fields.as_slice())
+    put_row(&mut sheet.out, csv, fields.as_slice())
 }
 
-/// Appends the record of a post, where it is asked for.
+/// Writes the record of a post, where it is asked for.
 fn put_asked(
-    layout: Layout,
-    out: &mut Vec<u8>,
+    csv: bool,
+    sheet: &mut Sheet,
     filter: PostFilter,
     chart: &Chart,
-    place: u64,
     entry: &Entry,
-    basis: Basis,
-    post: &Post,
+    placed: &PlacedPost,
 ) -> Result<(), AllocError>
-    ensures { OnOk result (out.new.items ≡ out.old.items ++ spec.post_text layout.csv filter chart.now place entry.now basis post.now) }
+    ensures { OnOk result (AddsText csv (spec.entry_text csv filter chart.now (Some entry.now) placed.now) sheet.old.out sheet.new.out) }
 {
-    if is_wanted(filter, post) {
-        put_post(layout, out, chart, place, entry, basis, post)
+    let wanted = is_wanted(filter, &placed.post);
+    if wanted {
+        let PlacedPost { place, basis, post } = *placed;
+        put_post(csv, sheet, chart, place, entry, basis, &post)
     } else {
         Ok(())
     }
 }
 
-/// Appends the record of a post of one of these entries, where it is asked for.
-fn put_row(
-    layout: Layout,
-    out: &mut Vec<u8>,
+/// Writes the record of a post of one of these entries, where it is asked for.
+fn put_placed_row(
+    csv: bool,
+    sheet: &mut Sheet,
     filter: PostFilter,
     chart: &Chart,
     entries: &[Entry],
     placed: &PlacedPost,
 ) -> Result<(), AllocError>
-    ensures { OnOk result (out.new.items ≡ out.old.items ++ spec.placed_text layout.csv filter chart.now entries.now placed.now) }
+    ensures { OnOk result (AddsText csv (spec.placed_text csv filter chart.now entries.now placed.now) sheet.old.out sheet.new.out) }
 {
-    let place = placed.place;
-    match entries.get(place.saturating_sub(1) as usize) {
-        Some(entry) => put_asked(
-            layout,
-            out,
-            filter,
-            chart,
-            place,
-            entry,
-            placed.basis,
-            &placed.post,
-        ),
+    match entries.get(placed.place.saturating_sub(1) as usize) {
+        Some(entry) => put_asked(csv, sheet, filter, chart, entry, placed),
         None => Ok(()),
     }
 }
 
-/// Appends the records of posts of these entries that are asked for.
+/// Writes the records of posts of these entries that are asked for.
 fn put_rows(
-    layout: Layout,
-    out: &mut Vec<u8>,
+    csv: bool,
+    sheet: &mut Sheet,
     filter: PostFilter,
     chart: &Chart,
     entries: &[Entry],
     posts: &[PlacedPost],
 ) -> Result<(), AllocError>
-    ensures { OnOk result (out.new.items ≡ out.old.items ++ spec.rows_text layout.csv filter chart.now entries.now posts.now) }
+    ensures { OnOk result (AddsText csv (spec.rows_text csv filter chart.now entries.now posts.now) sheet.old.out sheet.new.out) }
 {
     for post in posts {
-        put_row(layout, out, filter, chart, entries, post)?;
+        put_placed_row(csv, sheet, filter, chart, entries, post)?;
     }
     Ok(())
 }
 
-/// Appends the names of the columns.
-fn put_head(layout: Layout, out: &mut Vec<u8>) -> Result<(), AllocError>
-    ensures { OnOk result (out.new.items ≡ out.old.items ++ head_text layout.csv spec.head) }
+/// Writes the names of the columns, where records are written.
+fn put_head(csv: bool, out: &mut Writer<Vec<u8>>) -> Result<(), AllocError>
+    ensures { OnOk result (AddsText csv (head_text csv spec.head) out.old out.new) }
 {
+    if !csv {
+        return Ok(());
+    }
     let names: [&[u8]; 13] = [
         b"place",
         b"day",
@@ -230,7 +261,24 @@ fn put_head(layout: Layout, out: &mut Vec<u8>) -> Result<(), AllocError>
         b"account_name",
         b"amount",
     ];
-    put_names(layout, out, names.as_slice())
+    put_row(out, csv, names.as_slice())
+}
+
+/// The records of posts of these entries that are asked for, below the names of the columns.
+fn text_of_posts(
+    layout: Layout,
+    filter: PostFilter,
+    chart: &Chart,
+    entries: &[Entry],
+    posts: &[PlacedPost],
+) -> Result<Vec<u8>, AllocError>
+    ensures { IfOk result (λ v. v.items ≡ spec.text_of layout.csv filter chart.now entries.now posts.now) }
+{
+    let csv = layout.csv;
+    let mut sheet = blank_sheet(layout);
+    put_head(csv, &mut sheet.out)?;
+    put_rows(csv, &mut sheet, filter, chart, entries, posts)?;
+    written(sheet.out, csv)
 }
 
 /// Opens the book of the journal on a disk, as `cf_book::open` does, with the posts of its entries, oldest first and those on
@@ -263,15 +311,5 @@ pub fn posts_text<D: Disk + Drop>(
 ) -> Result<Vec<u8>, AllocError>
     ensures { IfOk result (λ v. v.items ≡ spec.text_of layout.csv filter book.now.plan book.now.entries posts.now) }
 {
-    let mut out = Vec::new(layout.alloc);
-    put_head(layout, &mut out)?;
-    put_rows(
-        layout,
-        &mut out,
-        filter,
-        book.chart(),
-        book.entries(),
-        posts,
-    )?;
-    Ok(out)
+    text_of_posts(layout, filter, book.chart(), book.entries(), posts)
 }

@@ -17,7 +17,7 @@ pub struct Layout {
 }
 
 /// A writer of rows behind a text.
-fn writer_behind(csv: bool, text: Vec<u8>) -> Writer<Vec<u8>>
+pub(crate) fn writer_behind(csv: bool, text: Vec<u8>) -> Writer<Vec<u8>>
     ensures setup { writer_setup result ≡ spec.setup csv }
     ensures under { writer_under result ≡ text }
     ensures pending { writer_pending result ≡ [] }

@@ -1,0 +1,18 @@
+use Rattle.std.proofs.Common.{◌≡◌, ◌+◌, ◌/◌, ◌%◌, ◌++◌, ◌∷◌, [], rules, decimal, unsigned_abs}
+use Rattle.cf_base.specs.Amounts.{sign_text}
+use Rattle.cf_books_lists.proofs.Amounts.{money_behind}
+use Rattle.cf_books_lists.proofs.texts.put_money.Goals as goal
+
+pub returns : goal.returns
+returns c =
+    let sign = c.sign_of-sign.result.now in
+    let units = c.format-units.result.now in
+    let size = unsigned_abs c.args.amount in
+    let signed : sign ≡ sign_text c.args.amount = search rules in
+    let is : units ≡ decimal (size / 100) = search rules in
+    let one : c.extend_from_slice.new.self.items ≡ c.args.out.now.items ++ sign = search rules in
+    let two : c.extend_from_slice-2.new.self.items ≡ c.extend_from_slice.new.self.items ++ units = search rules in
+    let three : c.push.new.self.items ≡ c.extend_from_slice-2.new.self.items ++ 46 ∷ [] = search rules in
+    let four : c.push-2.new.self.items ≡ c.push.new.self.items ++ (48 + size % 100 / 10) ∷ [] = search rules in
+    let five : c.push-3.new.self.items ≡ c.push-2.new.self.items ++ (48 + size % 10) ∷ [] = search rules in
+    rw (five, four, three, two, one) (money_behind c.args.out.now.items sign units c.args.amount signed is)

@@ -1,0 +1,47 @@
+//! Texts of numbers and amounts that take no memory of their own.
+
+ghost use Rattle.std.specs.Prelude.{◌≡◌, ◌++◌, decimal, OnOk};
+ghost use Rattle.cf_base.specs.Amounts.{money_of, sign_text};
+ghost use Rattle.cf_books_lists.specs.Records as spec;
+
+use itoa::Buffer;
+use std::alloc::AllocError;
+
+/// The digits of a number.
+pub fn digits(buffer: &mut Buffer, n: u64) -> &[u8]
+    ensures { result.now ≡ decimal n }
+{
+    buffer.format(n).as_bytes()
+}
+
+/// The digits of a number that was drawn, none where none was.
+pub fn drawn_digits(buffer: &mut Buffer, n: u64) -> &[u8]
+    ensures { result.now ≡ spec.drawn_text n }
+{
+    if n == 0 {
+        return b"";
+    }
+    digits(buffer, n)
+}
+
+fn sign_of(amount: i128) -> &'static str
+    ensures { result.now ≡ sign_text amount }
+{
+    if amount < 0 { "-" } else { "" }
+}
+
+/// Appends an amount in units of money.
+pub fn put_money(out: &mut Vec<u8>, amount: i128) -> Result<(), AllocError>
+    ensures { OnOk result (out.new.items ≡ out.old.items ++ money_of amount) }
+{
+    let size = amount.unsigned_abs();
+    let sign = sign_of(amount);
+    let mut buffer = Buffer::new();
+    let units = buffer.format(size / 100);
+    out.extend_from_slice(sign.as_bytes())?;
+    out.extend_from_slice(units.as_bytes())?;
+    out.push(b'.')?;
+    out.push(b'0' + (size % 100 / 10) as u8)?;
+    out.push(b'0' + (size % 10) as u8)?;
+    Ok(())
+}
