@@ -1,6 +1,6 @@
 #!/bin/sh
-# How fast `books` lists a long journal, its posts, its balances and what is open, and takes out its calls, on the built programs. The
-# journal has an adoption and 100,000 direct vouchers of one item, or as many as its argument says. Prints the seconds of each command,
+# How fast `books` lists a long journal, its posts, its balances, what is open and a statement, and takes out its calls, on the built
+# programs. The journal has an adoption and 100,000 direct vouchers of one item, or as many as its argument says. Prints the seconds of each command,
 # the least of three runs, with entries a second and how many times that is of what `cityfund report` takes over the same journal.
 top=$(cd "$(dirname "$0")/.." && pwd)
 . "$top/tests/program.sh"
@@ -30,7 +30,8 @@ def seconds(*words):
 size = journals.write(VOUCHERS)
 report, _ = seconds(PROGRAM, "report", "2026", "balance")
 print(f"cityfund report 2026 balance: {VOUCHERS + 1:,} entries of {size:,} bytes in {report:.2f} s")
-for words in (["calls"], ["list"], ["list", "--csv"], ["check"], ["posts"], ["posts", "--account", "100000"], ["balances", "2026"], ["open"]):
+for words in (["calls"], ["list"], ["list", "--csv"], ["check"], ["posts"], ["posts", "--account", "100000"], ["balances", "2026"], ["open"],
+              ["statement", "2026", "budget"]):
     took, status = seconds(BOOKS, *words)
     print(f"books {' '.join(words)}: {os.path.getsize('out'):,} bytes in {took:.2f} s: {(VOUCHERS + 1) / took:,.0f} entries a second, "
           f"{took / report:.2f} times the report, status {status}")

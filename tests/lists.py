@@ -1,18 +1,13 @@
-"""The lists of `books` of the journal in a folder, beside the looks of a desk there, and beside what the independent office of
-tests/office posts for the talk that made it: lists.py PROGRAM BOOKS FOLDER TALK."""
+"""The lists of `books` of the journal in a folder, beside the looks of a desk there: lists.py PROGRAM BOOKS FOLDER."""
 
 import csv
 import io
 import json
-import os
 import subprocess
 import sys
 from collections import Counter, defaultdict
 
-sys.path.insert(0, os.path.join(os.path.dirname(os.path.abspath(__file__)), "office"))
-from answers import calls_in_form, office_of
-
-program, books, folder, talk = sys.argv[1:]
+program, books, folder = sys.argv[1:]
 
 
 def rows_of(*words):
@@ -51,30 +46,6 @@ same("an entry's posts", {key: amount for key, amount in sums.items() if amount}
 places = [int(post["place"]) for post in posts]
 same("the order of places", places, sorted(places))
 
-# ---- what the independent office posts for the same calls
-
-office = office_of(os.path.join(folder, "chart.toml"))
-for call in calls_in_form(talk):
-    office.answer(call)
-
-
-def office_sums(last=None):
-    """What the office's posts come to, by basis, fund and account: through a fiscal year, or by years too."""
-    found = Counter()
-    for basis, of_basis in office.posts.items():
-        for year, fund, account, amount in of_basis:
-            if last is None:
-                found[basis, str(fund), str(account), str(year)] += amount
-            elif year <= last:
-                found[basis, str(fund), str(account)] += amount
-    return {key: amount for key, amount in found.items() if amount}
-
-
-posted = Counter()
-for post in posts:
-    posted[post["basis"], post["fund"], post["account"], post["year"]] += cents(post["amount"])
-same("the office's posts", {key: amount for key, amount in posted.items() if amount}, office_sums())
-
 # ---- balances
 
 years = sorted({int(post["year"]) for post in posts} | {2026})
@@ -91,7 +62,6 @@ for year in (years[0] - 1, *years, years[-1] + 1):
     posted = Counter()
     for post in posts:
         posted[post["basis"], post["fund"], post["account"]] += cents(post["amount"]) if int(post["year"]) <= year else 0
-    same(f"the office's balances of {year}", shown, office_sums(year))
     same(f"the posts through {year}", shown, {key: amount for key, amount in posted.items() if amount})
     keys = sorted(posted)
     asked = [{"call": "account", "basis": basis, "year": year, "fund": int(fund), "account": int(account)} for basis, fund, account in keys]

@@ -1,7 +1,6 @@
 #!/bin/sh
-# Tries the lists of `books` on the journals of the examples, beside the looks of a desk and the independent office of tests/office:
-# balances of a basis and fund sum to zero, each is the office's, the look `account` and the sum of the account's posts, and what is open
-# is what the looks at each number say. Among them is a town's year of 1,302 entries (examples/town/).
+# Tries the lists of `books` on the journals of the examples, beside the looks of a desk: balances of a basis and fund sum to
+# zero, each is the look `account` and the sum of the account's posts, and what is open is what the looks at each number say.
 # Then two lists of Rivertown's first day, worked by hand. BOOKS names another program than the one that rt built last.
 cd "$(dirname "$0")/.." || exit 1
 top=$(pwd)
@@ -25,7 +24,7 @@ for talk in examples/*.jsonl examples/*/*.jsonl; do
     rm -f "$scratch/fund.journal"
     cp "$chart" "$scratch/chart.toml"
     (cd "$scratch" && "$program" found > /dev/null 2>&1 && "$program" desk < "$top/$talk" > /dev/null)
-    PYTHONDONTWRITEBYTECODE=1 python3 tests/lists.py "$program" "$books" "$scratch" "$talk"
+    python3 tests/lists.py "$program" "$books" "$scratch"
     verdict "the lists of $talk" $?
 done
 

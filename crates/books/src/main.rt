@@ -16,6 +16,8 @@ books calls [FILE]          prints the entries as calls, which make the journal 
 books posts [FILE]          prints the posts of the entries, or those of --year Y, --fund F, --account A
 books balances YEAR [FILE]  prints the balance of each account through a fiscal year, on both bases
 books open [FILE]           prints what is open, and what is closed
+books statement YEAR KIND [FILE]
+                            prints a statement with the names of funds and lines (KIND: as for cityfund report)
 books chart [FILE]          prints the chart that a journal keeps
 books lines [FILE]          prints its control lines, or those of a chart, with numbers and names
 books claims GRANT [FILE] [--csv]
@@ -24,7 +26,7 @@ books claims GRANT [FILE] [--csv]
 books --help                prints this
 books --version             prints the version
 
-list, posts, balances and open print records below a row of names with --csv.
+list, posts, balances, open and statement print records below a row of names with --csv.
 Each command only reads. docs/BOOKS.md says how a run ends, and what to do then.
 ";
 

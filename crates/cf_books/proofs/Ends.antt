@@ -1,8 +1,9 @@
 -- How a run ends.
-use Rattle.std.proofs.Common.{◌≡◌, ◌<◌, ◌-◌, ◌^◌, Bool, true, false, ℕ, List, [], ◌++◌, length, Option, Some, None, Result, Ok, Err, inl, inr, refl, sym, subst, ◌∙◌, append-nil, arith}
+use Rattle.std.proofs.Common.{◌≡◌, ◌<◌, ◌-◌, ◌^◌, ◌&&◌, nat_le, Bool, true, false, if◌then◌else◌, ℕ, List, [], ◌++◌, length, Option, Some, None, Result, Ok, Err, inl, inr, refl, sym, subst, ◌∙◌, append-nil, arith}
 use Rattle.std.specs.Io.KnownBytes.{Appends, IsAtEnd}
 use Rattle.std.specs.Prelude.{Vec}
 use Rattle.std.specs.declared.alloc.Global.{Global}
+use Rattle.cf_base.specs.Limits.{last_year}
 use Rattle.cf_book.specs.Recovery.{recovered}
 use Rattle.cf_book.specs.declared.refused.BookRefused.{BookRefused}
 use Rattle.cf_book.specs.declared.refused.BookRefused.TheVariants as book_refused
@@ -23,9 +24,10 @@ use Rattle.cf_journal.specs.Frames.{frames}
 use Rattle.cf_journal.specs.declared.refused.OpenRefused.{OpenRefused}
 use Rattle.cf_journal.specs.declared.refused.OpenRefused.TheVariants as open_refused
 use Rattle.cf_model.specs.State.{OfficeState}
+use Rattle.cf_words.specs.declared.words.ReportKind.{ReportKind}
 use Rattle.cf_books.specs.declared.status.Status.{Status}
 use Rattle.cf_books.specs.declared.status.Status.TheVariants.{Done, BadWords, ChartRefused, GrantsRefused, ReadFault, WriteFault, NotFounded, Damaged, NoMemory, Cut}
-use Rattle.cf_books.specs.Answers.{AreLeft, Ends, Gave, IsBeside, answered, chart_lines_said, chart_said, document_said, end_of, entry_at, grants_said, lines_said, office_said, over_office, refusal_of, refused_entry, refused_in, refused_said, rows_said, said, said_with, under_chart, vouchers_said, whole_said}
+use Rattle.cf_books.specs.Answers.{AreLeft, Ends, Gave, IsBeside, Said, answered, chart_lines_said, chart_said, document_said, end_of, entry_at, grants_said, lines_said, nothing, office_said, over_office, refusal_of, refused_entry, refused_in, refused_said, rows_said, said, said_with, statement_said, under_chart, vouchers_said, whole_said}
 use Rattle.cf_books.specs.Whole.{Parts, whole_of}
 
 -- bytes that are fewer than could have been taken were read to the end
@@ -109,6 +111,15 @@ office_no_fault : (command : Command) (bytes : List ℕ) (r : Result OfficeState
 office_no_fault command bytes (Ok s) = tt
 office_no_fault command bytes (Err e) = refused_no_fault bytes e
 
+either_no_fault : (here : Bool) (one other : Said) → IsNoFault one.status → IsNoFault other.status → IsNoFault (if here then one else other).status
+either_no_fault true one other first second = first
+either_no_fault false one other first second = second
+
+statement_no_fault : (year : ℕ) (kind : ReportKind) (csv : Bool) (bytes : List ℕ) → IsNoFault (statement_said year kind csv bytes).status
+statement_no_fault year kind csv bytes =
+    either_no_fault (nat_le 1971 year && nat_le year last_year) (office_said (asked.Statement year kind csv) bytes (recovered bytes)) (nothing BadWords)
+    (office_no_fault (asked.Statement year kind csv) bytes (recovered bytes)) tt
+
 document_no_fault : (bytes : List ℕ) (r : Checked (List Grant)) → IsNoFault (document_said bytes r).status
 document_no_fault bytes (Ok grants) = tt
 document_no_fault bytes (Err f) = tt
@@ -135,6 +146,7 @@ no_fault asked.Check bytes = office_no_fault asked.Check bytes (recovered bytes)
 no_fault (asked.Posts filter csv) bytes = office_no_fault (asked.Posts filter csv) bytes (recovered bytes)
 no_fault (asked.Balances year csv) bytes = office_no_fault (asked.Balances year csv) bytes (recovered bytes)
 no_fault (asked.Open csv) bytes = office_no_fault (asked.Open csv) bytes (recovered bytes)
+no_fault (asked.Statement year kind csv) bytes = statement_no_fault year kind csv bytes
 no_fault asked.CheckGrants bytes = whole_no_fault asked.CheckGrants (length bytes) (whole_of bytes)
 no_fault (asked.Claims grant csv) bytes = whole_no_fault (asked.Claims grant csv) (length bytes) (whole_of bytes)
 no_fault (asked.List csv) bytes = whole_no_fault (asked.List csv) (length bytes) (whole_of bytes)
@@ -154,6 +166,7 @@ no_fault_with asked.Lines bytes journal = no_fault asked.Lines bytes
 no_fault_with (asked.Posts filter csv) bytes journal = no_fault (asked.Posts filter csv) bytes
 no_fault_with (asked.Balances year csv) bytes journal = no_fault (asked.Balances year csv) bytes
 no_fault_with (asked.Open csv) bytes journal = no_fault (asked.Open csv) bytes
+no_fault_with (asked.Statement year kind csv) bytes journal = no_fault (asked.Statement year kind csv) bytes
 
 -- ---- where memory was wanting nothing is printed
 
@@ -201,6 +214,16 @@ office_silent : (command : Command) (bytes : List ℕ) (r : Result OfficeState B
 office_silent command bytes (Ok s) e = cc
 office_silent command bytes (Err why) e = refused_silent bytes why e
 
+either_silent : (here : Bool) (one other : Said) → (one.status ≡ NoMemory → one.out ≡ []) → (other.status ≡ NoMemory → other.out ≡ [])
+    → (if here then one else other).status ≡ NoMemory → (if here then one else other).out ≡ []
+either_silent true one other first second e = first e
+either_silent false one other first second e = second e
+
+statement_silent : (year : ℕ) (kind : ReportKind) (csv : Bool) (bytes : List ℕ) → (statement_said year kind csv bytes).status ≡ NoMemory → (statement_said year kind csv bytes).out ≡ []
+statement_silent year kind csv bytes e =
+    either_silent (nat_le 1971 year && nat_le year last_year) (office_said (asked.Statement year kind csv) bytes (recovered bytes)) (nothing BadWords)
+    (office_silent (asked.Statement year kind csv) bytes (recovered bytes)) (λ why. refl) e
+
 document_silent : (bytes : List ℕ) (r : Checked (List Grant)) → (document_said bytes r).status ≡ NoMemory → (document_said bytes r).out ≡ []
 document_silent bytes (Ok grants) e = cc
 document_silent bytes (Err f) e = refl
@@ -228,6 +251,7 @@ silent asked.Check bytes = office_silent asked.Check bytes (recovered bytes)
 silent (asked.Posts filter csv) bytes = office_silent (asked.Posts filter csv) bytes (recovered bytes)
 silent (asked.Balances year csv) bytes = office_silent (asked.Balances year csv) bytes (recovered bytes)
 silent (asked.Open csv) bytes = office_silent (asked.Open csv) bytes (recovered bytes)
+silent (asked.Statement year kind csv) bytes = statement_silent year kind csv bytes
 silent asked.CheckGrants bytes = whole_silent asked.CheckGrants (length bytes) (whole_of bytes)
 silent (asked.Claims grant csv) bytes = whole_silent (asked.Claims grant csv) (length bytes) (whole_of bytes)
 silent (asked.List csv) bytes = whole_silent (asked.List csv) (length bytes) (whole_of bytes)
@@ -247,6 +271,7 @@ silent_with asked.Lines bytes journal = silent asked.Lines bytes
 silent_with (asked.Posts filter csv) bytes journal = silent (asked.Posts filter csv) bytes
 silent_with (asked.Balances year csv) bytes journal = silent (asked.Balances year csv) bytes
 silent_with (asked.Open csv) bytes journal = silent (asked.Open csv) bytes
+silent_with (asked.Statement year kind csv) bytes journal = silent (asked.Statement year kind csv) bytes
 
 -- ---- how an answer ends a run
 

@@ -1,6 +1,7 @@
 -- What each command answers: a function of the bytes of its file.
-use Rattle.std.specs.Prelude.{◌≡◌, ⊤, ℕ, zero, suc, ◌+◌, ◌-◌, Bool, true, false, List, [], ◌∷◌, length, Option, Some, None, Result, Ok, Err}
+use Rattle.std.specs.Prelude.{◌≡◌, ⊤, ℕ, zero, suc, ◌+◌, ◌-◌, ◌&&◌, nat_le, Bool, true, false, if◌then◌else◌, List, [], ◌∷◌, length, Option, Some, None, Result, Ok, Err}
 use Rattle.std.specs.Io.KnownBytes.{Appends}
+use Rattle.cf_base.specs.Limits.{last_year}
 use Rattle.cf_book.specs.DurableState.{DurableBook}
 use Rattle.cf_book.specs.Recovery.{recovered}
 use Rattle.cf_book.specs.declared.refused.BookRefused.{BookRefused}
@@ -22,8 +23,9 @@ use Rattle.cf_journal.specs.Records.{record_len}
 use Rattle.cf_journal.specs.declared.refused.OpenRefused.{OpenRefused}
 use Rattle.cf_journal.specs.declared.refused.OpenRefused.TheVariants as open_refused
 use Rattle.cf_model.specs.State.{OfficeState}
+use Rattle.cf_words.specs.declared.words.ReportKind.{ReportKind}
 use Rattle.cf_books_words.specs.declared.words.Command.{Command}
-use Rattle.cf_books_words.specs.declared.words.Command.TheVariants.{CheckChart, CheckGrants, Check, Claims, List as Listing, Calls, Chart, Lines, Posts, Balances, Open}
+use Rattle.cf_books_words.specs.declared.words.Command.TheVariants.{CheckChart, CheckGrants, Check, Claims, List as Listing, Calls, Chart, Lines, Posts, Balances, Open, Statement}
 use Rattle.cf_books_grants.specs.Documents.{document_text}
 use Rattle.cf_books_grants.specs.FaultIds.{fault_id as grant_fault_id}
 use Rattle.cf_books_grants.specs.Vouchers.{vouchers_text}
@@ -34,6 +36,7 @@ use Rattle.cf_books.specs.Calls.{call_line, calls_text}
 use Rattle.cf_books_lists.specs.Balances.{balances_of}
 use Rattle.cf_books_lists.specs.Open.{open_text}
 use Rattle.cf_books_lists.specs.Posts.{posts_of}
+use Rattle.cf_books_lists.specs.Statement.{statement_text}
 use Rattle.cf_books.specs.FaultRows.{fault_id}
 use Rattle.cf_books.specs.Lines.{lines_text}
 use Rattle.cf_books.specs.Listing.{list_text}
@@ -125,11 +128,12 @@ refused_said bytes (NotFounded len byte) = nothing (status.NotFounded len)
 refused_said bytes Disk = nothing status.NoMemory
 refused_said bytes NoMemory = nothing status.NoMemory
 
--- the posts, the balances and what is open are those of the history that the bytes recover to
+-- the posts, the balances, what is open and the statements are those of the history that the bytes recover to
 abbrev pub office_text : Command → OfficeState → List ℕ
 office_text (Posts filter csv) s = posts_of csv filter s.plan s.entries
 office_text (Balances year csv) s = balances_of csv year s.plan s.entries
 office_text (Open csv) s = open_text csv s.plan s.entries
+office_text (Statement year kind csv) s = statement_text csv year kind s.plan s.entries
 office_text _ s = journal_text s.entries
 
 -- what is told of the office of these bytes, or why there is none
@@ -142,6 +146,12 @@ office_told command s = record { out = office_text command s; status = status.Do
 
 abbrev pub office_said : Command → List ℕ → Result OfficeState BookRefused → Said
 office_said command bytes x = over_office (office_told command) bytes x
+
+-- a statement is of a fiscal year from 1971 to 2199: words with another are refused
+abbrev pub statement_said : ℕ → ReportKind → Bool → List ℕ → Said
+statement_said year kind csv bytes =
+    if nat_le 1971 year && nat_le year last_year then office_said (Statement year kind csv) bytes (recovered bytes)
+    else nothing status.BadWords
 
 -- ---- a document of grants, under the chart or over the history of a journal
 
@@ -179,6 +189,7 @@ said Check bytes = office_said Check bytes (recovered bytes)
 said (Posts filter csv) bytes = office_said (Posts filter csv) bytes (recovered bytes)
 said (Balances year csv) bytes = office_said (Balances year csv) bytes (recovered bytes)
 said (Open csv) bytes = office_said (Open csv) bytes (recovered bytes)
+said (Statement year kind csv) bytes = statement_said year kind csv bytes
 said command bytes = whole_said command (length bytes) (whole_of bytes)
 
 -- whether a command reads a journal beside its file

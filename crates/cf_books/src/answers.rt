@@ -13,7 +13,7 @@ use crate::fault_rows::fault_id;
 use crate::grants::{claims_answer, grants_answer};
 use crate::lines::lines_text;
 use crate::listing::list_text;
-use crate::lists::{balances_answer, open_answer, posts_answer};
+use crate::lists::{balances_answer, open_answer, posts_answer, statement_answer};
 use crate::office::office_answer;
 use crate::status::Status;
 use crate::summary::put_chart;
@@ -195,6 +195,9 @@ pub fn answer_of(
         Command::Posts { filter, csv } => posts_answer(Layout { alloc, csv }, filter, bytes),
         Command::Balances { year, csv } => balances_answer(Layout { alloc, csv }, year, bytes),
         Command::Open { csv } => open_answer(Layout { alloc, csv }, bytes),
+        Command::Statement { year, kind, csv } => {
+            statement_answer(Layout { alloc, csv }, year, kind, bytes)
+        }
         _ => whole_answer(alloc, command, bytes),
     }
 }

@@ -1,20 +1,25 @@
-//! The lists of a journal whose entries the office takes again: posts, balances, and what is open.
+//! The lists of a journal whose entries the office takes again: posts, balances, what is open, and statements.
 
 ghost use Rattle.std.specs.Prelude.{◌≡◌, IfOk};
 ghost use Rattle.cf_book.specs.Recovery.{recovered};
 ghost use Rattle.cf_book.specs.Watching.{all_posted};
+ghost use Rattle.cf_calls.specs.Form.{IsYear};
 ghost use Rattle.cf_books.specs.Answers as spec;
 ghost use Rattle.cf_books.specs.Answers.{Answers, OpensWith};
 ghost use Rattle.cf_books_lists.specs.Posts.{placed_in};
-ghost use Rattle.cf_books_words.specs.declared.words.Command.TheVariants.{Balances, Open, Posts};
+ghost use Rattle.cf_books_words.specs.declared.words.Command.TheVariants.{Balances, Open, Posts, Statement};
 
-use crate::answers::Answer;
+use crate::answers::{Answer, nothing};
 use crate::office::{open_book, refused_answer};
 use crate::status::Status;
+use cf_base::LAST_YEAR;
 use cf_book::{Book, BookRefused, NotOpened};
-use cf_books_lists::{Layout, PlacedPost, balances_text, open_text, open_with_posts, posts_text};
+use cf_books_lists::{
+    Layout, PlacedPost, balances_text, open_text, open_with_posts, posts_text, statement_text,
+};
 use cf_books_words::PostFilter;
 use cf_disk::MemDisk;
+use cf_words::ReportKind;
 use std::alloc::{AllocError, Global};
 
 /// An answer of this text.
@@ -80,5 +85,38 @@ pub fn open_answer(layout: Layout, bytes: &[u8]) -> Result<Answer, AllocError>
             Ok(done(open_text(layout, archive.rest())?))
         }
         Err(why) => refused_answer(layout.alloc, bytes, why),
+    }
+}
+
+/// A statement of a fiscal year from 1971 to 2199, or why the journal has none.
+fn statement_of(
+    layout: Layout,
+    year: u16,
+    kind: ReportKind,
+    bytes: &[u8],
+) -> Result<Answer, AllocError>
+    requires { IsYear year }
+    ensures { Answers result (spec.office_said (Statement year kind layout.csv) bytes.now (recovered bytes.now)) }
+{
+    let copy = Vec::from_slice(layout.alloc, bytes)?;
+    match open_book(layout.alloc, copy) {
+        Ok(book) => Ok(done(statement_text(layout, &book, year, kind)?)),
+        Err(why) => refused_answer(layout.alloc, bytes, why),
+    }
+}
+
+/// A statement of a fiscal year, or why the journal has none. Words with a year that isn't from 1971 to 2199 are refused.
+pub fn statement_answer(
+    layout: Layout,
+    year: u16,
+    kind: ReportKind,
+    bytes: &[u8],
+) -> Result<Answer, AllocError>
+    ensures { Answers result (spec.statement_said year kind layout.csv bytes.now) }
+{
+    if 1971 <= year && year <= LAST_YEAR {
+        statement_of(layout, year, kind, bytes)
+    } else {
+        Ok(nothing(layout.alloc, Status::BadWords))
     }
 }

@@ -1,11 +1,12 @@
 //! What is said on standard error.
 
-ghost use Rattle.std.specs.Prelude.{◌≡◌, ◌++◌, ◌-◌, ◌≤◌, [], slice_index_or, decimal, Some, OnOk};
+ghost use Rattle.std.specs.Prelude.{◌≡◌, ◌++◌, ◌-◌, ◌≤◌, [], slice_index_or, Some, OnOk};
 ghost use Rattle.cf_chart.specs.Faults.{word_of};
 ghost use Rattle.cf_books.specs.Notices as spec;
 
 use crate::fault_rows::table_word;
 use crate::status::{RefusedEntry, Status};
+use cf_books_lists::put_between;
 use cf_chart::{ChartFault, KeyName, TableName};
 use cf_members::parts::put_number;
 use std::alloc::AllocError;
@@ -15,15 +16,6 @@ fn put_text(out: &mut Vec<u8>, text: &str) -> Result<(), AllocError>
     ensures { OnOk result (out.new.items ≡ out.old.items ++ text.now) }
 {
     out.extend_from_slice(text.as_bytes())
-}
-
-/// Appends a text, a number and a text.
-pub fn put_between(out: &mut Vec<u8>, before: &str, n: u64, after: &str) -> Result<(), AllocError>
-    ensures { OnOk result (out.new.items ≡ out.old.items ++ (before.now ++ (decimal n ++ after.now))) }
-{
-    out.extend_from_slice(before.as_bytes())?;
-    put_number(out, n)?;
-    out.extend_from_slice(after.as_bytes())
 }
 
 /// Appends the id of a row, where it is known.

@@ -114,8 +114,8 @@ fn note_voucher(amounts: &mut BTreeMap<u32, u128>, entry: &Entry) -> Result<(), 
     ensures { OnOk result (NotesVoucher entry.now (get nat_cmp amounts.old) (get nat_cmp amounts.new)) }
 {
     match &entry.change.act {
-        Act::Voucher(invoice) => {
-            let amount = total(invoice.items.as_slice());
+        Act::Voucher(voucher) => {
+            let amount = total(voucher.items.as_slice());
             put_amount(amounts, entry.drawn.number, amount)
         }
         _ => Ok(()),

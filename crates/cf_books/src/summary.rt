@@ -3,8 +3,8 @@
 ghost use Rattle.std.specs.Prelude.{◌≡◌, ◌++◌, codes, map, OnOk};
 ghost use Rattle.cf_books.specs.Summary as spec;
 
-use crate::notices::put_between;
 use cf_base::day_text;
+use cf_books_lists::put_between;
 use cf_calls::acts::Period;
 use cf_calls::{Act, Entry};
 use cf_chart::{Chart, Fund, LaterLevel, Level};

@@ -1,3 +1,4 @@
 pub mod Seen
 pub mod Adding
 pub mod Amounts
+pub mod RowLines

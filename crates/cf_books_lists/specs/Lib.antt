@@ -4,3 +4,5 @@ pub mod Names
 pub mod Posts
 pub mod Balances
 pub mod Open
+pub mod LineNames
+pub mod Statement

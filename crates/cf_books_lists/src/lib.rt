@@ -1,17 +1,22 @@
-//! Lists for those who keep and audit a city's books: the posts of each entry, the trial balance of a fiscal year, and what is
-//! open. Each is records of comma-separated values below a row of names.
+//! Lists for those who keep and audit a city's books: the posts of each entry, the trial balance of a fiscal year, what is
+//! open, and the statements with their names. Each is records of comma-separated values below a row of names.
 #![tactic(auto)]
 
 mod accounts;
 mod balances;
+mod lines;
 mod names;
 mod open;
 mod posts;
 mod records;
 mod rows;
+mod statement;
 mod texts;
 
 pub use balances::balances_text;
+pub use lines::{later_of, part_and_years, part_name};
+pub use names::{department_name, fund_name};
 pub use open::open_text;
 pub use posts::{PlacedPost, open_with_posts, posts_text};
-pub use records::{Layout, decimal_text, put_names, put_record};
+pub use records::{Layout, decimal_text, put_between, put_names, put_record};
+pub use statement::statement_text;

@@ -84,7 +84,7 @@ fn number_of(entry: &Entry) -> u32
     }
 }
 
-fn number_text(alloc: Global, number: Option<u16>) -> Result<Vec<u8>, AllocError>
+pub(crate) fn number_text(alloc: Global, number: Option<u16>) -> Result<Vec<u8>, AllocError>
     ensures { IfOk result (λ t. t.items ≡ spec.number_text number) }
 {
     match number {
@@ -102,8 +102,8 @@ fn next_text(alloc: Global, next: Option<Day>) -> Result<Vec<u8>, AllocError>
     }
 }
 
-/// The control line of a part.
-fn line_of(chart: &Chart, line: Option<u16>) -> Option<&Line>
+/// The control line of this number.
+pub(crate) fn line_of(chart: &Chart, line: Option<u16>) -> Option<&Line>
     ensures { option_copied result ≡ spec.line_of chart.now line }
 {
     chart.line(line?)

@@ -78,3 +78,12 @@ pub fn drawn_text(alloc: Global, n: u64) -> Result<Vec<u8>, AllocError>
     }
     decimal_text(alloc, n)
 }
+
+/// Appends a text, a number and a text.
+pub fn put_between(out: &mut Vec<u8>, before: &str, n: u64, after: &str) -> Result<(), AllocError>
+    ensures { OnOk result (out.new.items ≡ out.old.items ++ (before.now ++ (decimal n ++ after.now))) }
+{
+    out.extend_from_slice(before.as_bytes())?;
+    put_number(out, n)?;
+    out.extend_from_slice(after.as_bytes())
+}

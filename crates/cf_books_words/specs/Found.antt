@@ -3,7 +3,7 @@ use Rattle.std.specs.Prelude.{ℕ, Bool, true, false, ◌||◌, if◌then◌else
 use Rattle.std.specs.Str.{bytes_eq}
 use Rattle.clap.specs.Words.{Row, Text, first_of}
 use Rattle.cf_base.specs.Limits.{last_year}
-use Rattle.cf_words.specs.Words.{◌>>=◌, is_set, number_in}
+use Rattle.cf_words.specs.Words.{◌>>=◌, is_set, number_in, report_kind_of}
 use Rattle.cf_books_words.specs.declared.words.Command.{Command}
 use Rattle.cf_books_words.specs.declared.words.Command.TheVariants as command
 use Rattle.cf_books_words.specs.declared.words.PostFilter.{PostFilter}
@@ -68,6 +68,14 @@ balances_in rows = do
   year ← number_in 1971 last_year (first_of (codes "first") rows)
   with_file (command.Balances year (is_csv rows)) (first_of (codes "second") rows) (first_of (codes "third") rows)
 
+-- a statement has the same words as for `report`, and its file behind them
+abbrev pub statement_in : List Row → Option Asked
+statement_in rows = do
+  year ← number_in 1971 last_year (first_of (codes "first") rows)
+  text ← first_of (codes "second") rows
+  kind ← report_kind_of text
+  with_file (command.Statement year kind (is_csv rows)) (first_of (codes "third") rows) None
+
 -- the request of a command's word
 abbrev pub asked_by : List Row → Text → Option Asked
 asked_by rows word =
@@ -75,7 +83,8 @@ asked_by rows word =
     else (if has_filter rows then None
     else (if bytes_eq word (codes "claims") then claims_in rows
     else (if bytes_eq word (codes "balances") then balances_in rows
-    else plain_in word rows)))
+    else (if bytes_eq word (codes "statement") then statement_in rows
+    else plain_in word rows))))
 
 abbrev pub asked_in : List Row → Option Asked
 asked_in rows = first_of (codes "command") rows >>= asked_by rows

@@ -22,4 +22,5 @@ abbrev pub IsInRange : Command → Type 0
 IsInRange (command.Claims grant csv) = IsFrom 1 9999 grant
 IsInRange (command.Posts filter csv) = IsFilterInRange filter
 IsInRange (command.Balances year csv) = IsFrom 1971 last_year year
+IsInRange (command.Statement year kind csv) = IsFrom 1971 last_year year
 IsInRange _ = ⊤

@@ -9,7 +9,7 @@ ghost use Rattle.cf_words.specs.Ranges.{IsFrom};
 
 use crate::words::{Command, PostFilter, Request};
 use cf_base::LAST_YEAR;
-use cf_words::number_from;
+use cf_words::{number_from, report_kind_named};
 use clap::ArgMatches;
 
 /// The text of an argument, where it was given one.
@@ -139,6 +139,20 @@ fn balances_found<'a>(matches: &ArgMatches<'a>) -> Option<Request<'a>>
     )
 }
 
+fn statement_found<'a>(matches: &ArgMatches<'a>) -> Option<Request<'a>>
+    ensures request { option_map asks result ≡ spec.statement_in (rows_of (found_of matches.now)) }
+    ensures range { IfSome result (λ r. IsInRange r.command) }
+{
+    let year = number_from(text_of(matches, "first"), 1971, u64::from(LAST_YEAR))?;
+    let kind = report_kind_named(text_of(matches, "second")?)?;
+    let command = Command::Statement {
+        year: year as u16,
+        kind,
+        csv: is_csv(matches),
+    };
+    with_file(command, text_of(matches, "third"), None)
+}
+
 /// Whether an option that only `posts` has was given.
 fn has_filter(matches: &ArgMatches) -> bool
     ensures { result ≡ spec.has_filter (rows_of (found_of matches.now)) }
@@ -158,6 +172,7 @@ pub fn request_found<'a>(matches: &ArgMatches<'a>) -> Option<Request<'a>>
         _ if has_filter(matches) => None,
         "claims" => claims_found(matches),
         "balances" => balances_found(matches),
+        "statement" => statement_found(matches),
         word => plain_found(word, matches),
     }
 }

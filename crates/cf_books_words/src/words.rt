@@ -11,6 +11,7 @@ ghost use Rattle.cf_books_words.specs.Words.{Gives};
 ghost use Rattle.cf_words.specs.CommandLine.{option_rule};
 
 use crate::found::request_found;
+use cf_words::ReportKind;
 use clap::error::ErrorKind;
 use clap::{Arg, ArgAction, ArgMatches, Command as Parser, Error};
 use std::alloc::{AllocError, Global};
@@ -40,7 +41,9 @@ pub enum Command {
     /// Says what a journal has, or where it is damaged.
     Check,
     /// Prints a row an entry of a journal.
-    List { csv: bool },
+    List {
+        csv: bool,
+    },
     /// Prints the entries of a journal as calls.
     Calls,
     /// Prints the chart that a journal keeps.
@@ -48,13 +51,30 @@ pub enum Command {
     /// Prints the control lines of the chart that a journal keeps.
     Lines,
     /// Prints what of each voucher of a grant, 1 to 9999, is claimed or can be.
-    Claims { grant: u16, csv: bool },
+    Claims {
+        grant: u16,
+        csv: bool,
+    },
     /// Prints the posts of a journal's entries.
-    Posts { filter: PostFilter, csv: bool },
+    Posts {
+        filter: PostFilter,
+        csv: bool,
+    },
     /// Prints the balances of the accounts through a fiscal year, 1971 to 2199.
-    Balances { year: u16, csv: bool },
+    Balances {
+        year: u16,
+        csv: bool,
+    },
     /// Prints the documents of a journal that are open.
-    Open { csv: bool },
+    Open {
+        csv: bool,
+    },
+    /// Prints a statement of a fiscal year, 1971 to 2199, with the names of its sections and control lines.
+    Statement {
+        year: u16,
+        kind: ReportKind,
+        csv: bool,
+    },
 }
 
 /// A command with the file that it reads, where one is named.

@@ -89,8 +89,8 @@ use Rattle.cf_chart.specs.contracts.index.LineKey as LineKey
 use Rattle.cf_revenue.specs.contracts.pairs.FundPair as FundPair
 use Rattle.cf_debt.specs.contracts.accounts.LeaveKey as LeaveKey
 use Rattle.cf_ledger.specs.contracts.places.Place as Place
-use Rattle.cf_office.specs.contracts.rest.Rest as rest
-use Rattle.cf_office.specs.contracts.rest.Rest.TheInside as rest_inside
+use Rattle.cf_history.specs.contracts.rest.Rest as rest
+use Rattle.cf_history.specs.contracts.rest.Rest.TheInside as rest_inside
 use Rattle.cf_book.specs.contracts.archive.Archive as archive
 use Rattle.cf_names.specs.contracts.shares.Totals as totals
 use Rattle.cf_names.specs.contracts.shares.Shares as shares

@@ -26,7 +26,7 @@ over_none : {A : Type 0} (rule : Rule A) (before : A) (sent : Option (List ℕ))
 over_none rule before sent text ended how gave ends = record { last = []; ends = ends; gave = gave }
 
 -- nothing came, or a head that is still open
-none_or_cut : (text : List ℕ) → IsOpenHead text → (text ≡ []) ⊎ IsCut text
+pub none_or_cut : (text : List ℕ) → IsOpenHead text → (text ≡ []) ⊎ IsCut text
 none_or_cut [] still = inl refl
 none_or_cut (x ∷ xs) still = inr (inl (omega arith, still))
 
@@ -39,7 +39,7 @@ none_over rule before sent text ended end.Limit n = absurd n
 none_over rule before sent text ended end.NoMemory n = absurd n
 
 -- the head came, and not its whole body
-open_body : (text : List ℕ) (heading : Heading) (n : ℕ) → BeginsWithHead text heading → heading.body ≡ Ok n → length text < heading.length + n → IsCut text
+pub open_body : (text : List ℕ) (heading : Heading) (n : ℕ) → BeginsWithHead text heading → heading.body ≡ Ok n → length text < heading.length + n → IsCut text
 open_body text heading n b states short = inr (record {
   head = b.head;
   part = drop heading.length text;

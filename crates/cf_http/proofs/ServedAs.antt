@@ -4,8 +4,10 @@ use Rattle.cf_http.specs.declared.request.Request.{Request}
 use Rattle.cf_http.specs.declared.end.LinkEnd.{LinkEnd}
 use Rattle.cf_http.specs.Asking.{Rule}
 use Rattle.cf_http.specs.Talk.{Message, Answers, missed, told, Talk, LastAnswer, no_head, refused, closing, no_link, no_room, no_memory, Last, between, cut, answered, limit, read_fault, unsent_last, unsent, request_of}
-use Rattle.cf_http.specs.Serving.{Moment, moment_of, Served}
-use Rattle.cf_http.specs.Doors.{Tells, WereServed, DoorServed}
+use Rattle.cf_http.specs.Links.{LinkRead}
+use Rattle.cf_http.specs.Serving.{Moment, moment_of, Served, ReadInTurn}
+use Rattle.cf_http.proofs.ReadLaws.{reads_weaker}
+use Rattle.cf_http.specs.Doors.{Tells, WasServed, WereServed, DoorServed}
 
 -- the second follows each step of the first
 pub record Follows {A B : Type 0} (rule : Rule A) (other : Rule B) (fits : A → B → Type 0) : Type 0 where
@@ -71,12 +73,53 @@ module _ {A B : Type 0} (rule : Rule A) (other : Rule B) (fits : A → B → Typ
         rest.2,
       )
 
+  read_as : (start : Moment A) (b : B) (read : LinkRead) → fits start.answerer b → ReadInTurn rule start read → ReadInTurn other (moment_of b start.received start.sent) read
+  read_as start b read f r =
+      let w = r.went in
+      let here = talk_as start.answerer r.middle b w.messages w.answers w.talk f in record {
+        middle = here.0;
+        rest = r.rest;
+        count = r.count;
+        went = record {
+          came = w.came;
+          messages = w.messages;
+          answers = w.answers;
+          received = w.received;
+          joins = w.joins;
+          each = w.each;
+          counted = w.counted;
+          talk = here.1;
+          sent = w.sent;
+        };
+        is_open = r.is_open;
+      }
+
+  was_served_as : {L : Type 0} (tells : Tells L) (a c : A) (b : B) (link : L) → WasServed tells rule a link c → fits a b → (d : B) × WasServed tells other b link d × fits c d
+  was_served_as tells a c b link w f =
+      let start = moment_of a (tells.received w.first) (tells.sent w.first) in
+      let here = served_as start (moment_of c (tells.received link) (tells.sent link)) b (tells.ended link) w.how w.served f in (
+        here.0,
+        record {
+          first = w.first;
+          how = w.how;
+          fresh = w.fresh;
+          served = here.1;
+          turns = reads_weaker (ReadInTurn rule start) (ReadInTurn other (moment_of b (tells.received w.first) (tells.sent w.first))) (λ read r. read_as start b read f r)
+              (tells.reads w.first) (tells.reads link) w.turns;
+          read = w.read;
+          write = w.write;
+          read_quiet = w.read_quiet;
+          write_quiet = w.write_quiet;
+        },
+        here.2,
+      )
+
   were_served_as : {L : Type 0} (tells : Tells L) (a c : A) (b : B) (links : List L) → WereServed tells rule a links c → fits a b → (d : B) × WereServed tells other b links d × fits c d
   were_served_as tells a c b [] w f = (b, refl, subst (λ x. fits x b) (sym w) f)
   were_served_as tells a c b (link ∷ links) w f =
-      let here = served_as _ _ b _ w.1.how w.1.served f in
+      let here = was_served_as tells a w.0 b link w.1 f in
       let rest = were_served_as tells w.0 c here.0 links w.2 here.2 in
-      (rest.0, (here.0, record { first = w.1.first; how = w.1.how; fresh = w.1.fresh; served = here.1; read = w.1.read; write = w.1.write; quiet = w.1.quiet }, rest.1), rest.2)
+      (rest.0, (here.0, here.1, rest.1), rest.2)
 
   pub door_served_as : {L : Type 0} (tells : Tells L) (known : Bool) (a c : A) (b : B) (finished_old finished_new : List L) (given_old given_new count : ℕ)
       → DoorServed tells rule known a c finished_old finished_new given_old given_new count → fits a b

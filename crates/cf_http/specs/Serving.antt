@@ -7,8 +7,8 @@ use Rattle.cf_http.specs.declared.end.LinkEnd.TheVariants as end
 use Rattle.cf_http.specs.Asking.{Rule}
 use Rattle.cf_heads.specs.Answers.{joined}
 use Rattle.cf_heads.specs.Heads.{IsOpenHead}
-use Rattle.cf_http.specs.Links.{SentFront}
-use Rattle.cf_http.specs.Talk.{Message, message_bytes, IsMessage, closes, Answers, Talk, IsCut, Last}
+use Rattle.cf_http.specs.Links.{LinkRead, SentFront}
+use Rattle.cf_http.specs.Talk.{Message, message_bytes, IsMessage, closes, Answers, Talk, IsCut, IsOpenText, Last}
 
 -- an answerer, and what its link tells of the bytes that came and of those that it took
 pub record Moment (A : Type 0) : Type 0 where
@@ -25,6 +25,13 @@ pub record Came (old new : Option (List ℕ)) (text_old text_new : List ℕ) : T
   pub received : Appends old new came
   pub joins : text_new ≡ text_old ++ came
 
+-- a read was asked when some bytes had come behind the text, over which it waits for more, and nothing was sent since
+pub record ReadOver (waits : List ℕ → Type 0) (received_old sent_old : Option (List ℕ)) (text : List ℕ) (read : LinkRead) : Type 0 where
+  pub came : List ℕ
+  pub received : Appends received_old read.received came
+  pub sent : read.sent ≡ sent_old
+  pub is_open : waits (text ++ came)
+
 -- so many requests came and were answered, each leaving the link open
 pub record Went {A : Type 0} (rule : Rule A) (old : Moment A) (text_old : List ℕ) (new : Moment A) (text_new : List ℕ) (count : ℕ) : Type 0 where
   pub came : List ℕ
@@ -36,6 +43,15 @@ pub record Went {A : Type 0} (rule : Rule A) (old : Moment A) (text_old : List �
   pub counted : length messages ≡ count
   pub talk : Talk rule old.answerer messages answers new.answerer
   pub sent : Appends old.sent new.sent (joined answers)
+
+-- A read was asked in its turn: each request that had come whole was answered, each answer was sent whole, and
+-- nothing else was. What had come behind these requests has no whole request at its front.
+pub record ReadInTurn {A : Type 0} (rule : Rule A) (start : Moment A) (read : LinkRead) : Type 0 where
+  pub middle : A
+  pub rest : List ℕ
+  pub count : ℕ
+  pub went : Went rule start [] (moment_of middle read.received read.sent) rest count
+  pub is_open : IsOpenText rest
 
 -- all of the last answer was sent, or a front of it where a write failed
 abbrev pub Gave : LinkEnd → Option (List ℕ) → Option (List ℕ) → List ℕ → Type 0

@@ -65,6 +65,10 @@ pub record IsOpenBody (text : List ℕ) : Type 0 where
 abbrev pub IsCut : List ℕ → Type 0
 IsCut text = ((0 < length text) × IsOpenHead text) ⊎ IsOpenBody text
 
+-- the text has no whole request at its front: it is nothing, or breaks off inside a head or a body
+abbrev pub IsOpenText : List ℕ → Type 0
+IsOpenText text = (text ≡ []) ⊎ IsCut text
+
 -- the head at the front of the text is refused
 pub record IsRefused (text : List ℕ) (head : RequestHead) (why : Refusal) : Type 0 where
   pub is_head : IsHead head
@@ -90,7 +94,7 @@ pub data Last {A : Type 0} (rule : Rule A) (before : A) (text : List ℕ) (ended
   answered : (how : LinkEnd) (answer : List ℕ) (after : A) → LastAnswer rule before text how answer after → Last rule before text ended how answer after
   limit : Last rule before text ended end.Limit [] before
   -- what came before the fault is nothing, or breaks off inside a request
-  read_fault : (text ≡ []) ⊎ IsCut text → Last rule before text ended end.ReadFault [] before
+  read_fault : IsOpenText text → Last rule before text ended end.ReadFault [] before
   -- a front of the answer was sent
   unsent_last : (how : LinkEnd) (answer : List ℕ) (after : A) → LastAnswer rule before text how answer after → Last rule before text ended end.WriteFault answer after
   unsent : (m : Message) (answer : List ℕ) (after : A) → BeginsWith text m → closes m ≡ false → Answers rule before m answer after

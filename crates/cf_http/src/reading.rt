@@ -1,9 +1,10 @@
 //! The next request is read from a link.
 
-ghost use Rattle.std.specs.Prelude.{◌≡◌, ◌≢◌, ◌<◌, ◌≤◌, Bool, true, None, Some, IfSome, vec_len};
+ghost use Rattle.std.specs.Prelude.{◌≡◌, ◌≢◌, ◌<◌, ◌≤◌, Bool, true, None, Some, IfSome, vec_len, length};
 ghost use Rattle.cf_base.specs.Causes.{Rose};
 ghost use Rattle.cf_heads.specs.Heads.{IsOpenHead};
-ghost use Rattle.cf_http.specs.Serving.{Came, IsBodyStop, NoneCame};
+ghost use Rattle.cf_http.specs.Links.{ReadsEach};
+ghost use Rattle.cf_http.specs.Serving.{Came, ReadOver, IsBodyStop, NoneCame};
 ghost use Rattle.cf_http.specs.Steps.{IsNext};
 
 use crate::end::LinkEnd;
@@ -36,10 +37,12 @@ fn stop(inbox: &Inbox) -> LinkEnd
 pub fn next_head<L: Link>(link: &mut L, routes: &Routes, inbox: &mut Inbox) -> Next
     ensures came { Came (L.received link.old) (L.received link.new) inbox.old.bytes.items inbox.new.bytes.items }
     ensures sent { L.sent link.new ≡ L.sent link.old }
+    ensures reads { ReadsEach (ReadOver IsOpenHead (L.received link.old) (L.sent link.old) inbox.old.bytes.items) (L.reads link.old) (L.reads link.new) }
     ensures next { IsNext inbox.new.bytes.items (L.ended link.new) result }
-    ensures later { L.faults link.old ≤ L.faults link.new }
-    ensures fault { result ≡ Next.Stop LinkEnd.ReadFault → Rose (L.faults link.old) (L.faults link.new) }
-    ensures quiet { result ≢ Next.Stop LinkEnd.ReadFault → L.faults link.new ≡ L.faults link.old }
+    ensures later { L.read_faults link.old ≤ L.read_faults link.new }
+    ensures fault { result ≡ Next.Stop LinkEnd.ReadFault → Rose (L.read_faults link.old) (L.read_faults link.new) }
+    ensures quiet { result ≢ Next.Stop LinkEnd.ReadFault → L.read_faults link.new ≡ L.read_faults link.old }
+    ensures writing { L.write_faults link.new ≡ L.write_faults link.old }
 {
     loop {
         match read_head(routes, inbox.bytes.as_slice()) {
@@ -60,11 +63,13 @@ pub fn next_body<L: Link>(link: &mut L, inbox: &mut Inbox, need: usize) -> Optio
     requires { need ≤ 278528 }
     ensures came { Came (L.received link.old) (L.received link.new) inbox.old.bytes.items inbox.new.bytes.items }
     ensures sent { L.sent link.new ≡ L.sent link.old }
+    ensures reads { ReadsEach (ReadOver (λ text. length text < need) (L.received link.old) (L.sent link.old) inbox.old.bytes.items) (L.reads link.old) (L.reads link.new) }
     ensures whole { result ≡ None → need ≤ vec_len inbox.new.bytes }
     ensures none { IfSome result (IsBodyStop need inbox.new.bytes.items (L.ended link.new)) }
-    ensures later { L.faults link.old ≤ L.faults link.new }
-    ensures fault { result ≡ Some LinkEnd.ReadFault → Rose (L.faults link.old) (L.faults link.new) }
-    ensures quiet { result ≢ Some LinkEnd.ReadFault → L.faults link.new ≡ L.faults link.old }
+    ensures later { L.read_faults link.old ≤ L.read_faults link.new }
+    ensures fault { result ≡ Some LinkEnd.ReadFault → Rose (L.read_faults link.old) (L.read_faults link.new) }
+    ensures quiet { result ≢ Some LinkEnd.ReadFault → L.read_faults link.new ≡ L.read_faults link.old }
+    ensures writing { L.write_faults link.new ≡ L.write_faults link.old }
 {
     while inbox.bytes.len() < need {
         match inbox.fill(link) {

@@ -19,8 +19,10 @@ pub fn send_all<L: Link>(link: &mut L, bytes: &[u8]) -> Result<(), Failed>
     ensures err { OnErr result (SentFront (L.sent link.old) (L.sent link.new) bytes.now) }
     ensures received { L.received link.new ≡ L.received link.old }
     ensures ended { L.ended link.new ≡ L.ended link.old }
-    ensures cause { HasCause (L.faults link.old) (L.faults link.new) result }
-    ensures quiet { OnOk result (L.faults link.new ≡ L.faults link.old) }
+    ensures reads { L.reads link.new ≡ L.reads link.old }
+    ensures reading { L.read_faults link.new ≡ L.read_faults link.old }
+    ensures cause { HasCause (L.write_faults link.old) (L.write_faults link.new) result }
+    ensures quiet { OnOk result (L.write_faults link.new ≡ L.write_faults link.old) }
 {
     let mut rest = bytes;
     while !rest.is_empty() {
@@ -59,9 +61,11 @@ pub fn send_answer<L: Link>(
     ensures err { OnErr result (SentFront (L.sent link.old) (L.sent link.new) (answer_bytes told.code told.allow told.closes told.is_head body.now)) }
     ensures received { L.received link.new ≡ L.received link.old }
     ensures ended { L.ended link.new ≡ L.ended link.old }
+    ensures reads { L.reads link.new ≡ L.reads link.old }
+    ensures reading { L.read_faults link.new ≡ L.read_faults link.old }
     ensures capacity { vec_capacity lines.old ≤ vec_capacity lines.new }
-    ensures cause { HasCause (L.faults link.old) (L.faults link.new) result }
-    ensures quiet { OnOk result (L.faults link.new ≡ L.faults link.old) }
+    ensures cause { HasCause (L.write_faults link.old) (L.write_faults link.new) result }
+    ensures quiet { OnOk result (L.write_faults link.new ≡ L.write_faults link.old) }
 {
     write_lines(lines, told.code, body.len(), told.allow, told.closes);
     match send_all(link, lines.as_slice()) {
@@ -80,9 +84,11 @@ pub fn send_no_memory<L: Link>(link: &mut L) -> LinkEnd
     ensures how { (result ≡ LinkEnd.NoMemory) ⊎ (result ≡ LinkEnd.WriteFault) }
     ensures received { L.received link.new ≡ L.received link.old }
     ensures ended { L.ended link.new ≡ L.ended link.old }
-    ensures later { L.faults link.old ≤ L.faults link.new }
-    ensures fault { result ≡ LinkEnd.WriteFault → Rose (L.faults link.old) (L.faults link.new) }
-    ensures quiet { result ≢ LinkEnd.WriteFault → L.faults link.new ≡ L.faults link.old }
+    ensures reads { L.reads link.new ≡ L.reads link.old }
+    ensures reading { L.read_faults link.new ≡ L.read_faults link.old }
+    ensures later { L.write_faults link.old ≤ L.write_faults link.new }
+    ensures fault { result ≡ LinkEnd.WriteFault → Rose (L.write_faults link.old) (L.write_faults link.new) }
+    ensures quiet { result ≢ LinkEnd.WriteFault → L.write_faults link.new ≡ L.write_faults link.old }
 {
     match send_all(link, no_memory()) {
         Ok(()) => LinkEnd::NoMemory,
@@ -102,10 +108,12 @@ pub fn send_refusal<L: Link>(
     ensures how { (result ≡ LinkEnd.Closed) ⊎ (result ≡ LinkEnd.WriteFault) }
     ensures received { L.received link.new ≡ L.received link.old }
     ensures ended { L.ended link.new ≡ L.ended link.old }
+    ensures reads { L.reads link.new ≡ L.reads link.old }
+    ensures reading { L.read_faults link.new ≡ L.read_faults link.old }
     ensures capacity { vec_capacity lines.old ≤ vec_capacity lines.new }
-    ensures later { L.faults link.old ≤ L.faults link.new }
-    ensures fault { result ≡ LinkEnd.WriteFault → Rose (L.faults link.old) (L.faults link.new) }
-    ensures quiet { result ≢ LinkEnd.WriteFault → L.faults link.new ≡ L.faults link.old }
+    ensures later { L.write_faults link.old ≤ L.write_faults link.new }
+    ensures fault { result ≡ LinkEnd.WriteFault → Rose (L.write_faults link.old) (L.write_faults link.new) }
+    ensures quiet { result ≢ LinkEnd.WriteFault → L.write_faults link.new ≡ L.write_faults link.old }
 {
     let told = Told {
         code: why.code(),

@@ -5,7 +5,9 @@ ghost use Rattle.cf_base.specs.Causes.{Rose};
 ghost use Rattle.cf_heads.specs.Answers.{miss_answer};
 ghost use Rattle.cf_heads.specs.Heads.{BeginsWithHead, IsNoHead};
 ghost use Rattle.cf_heads.specs.Routes.{IsRouteInForm};
-ghost use Rattle.cf_http.specs.Serving.{moment_of, EndsOver, Replied, Went, Stops, IsAfterAnswer};
+ghost use Rattle.cf_http.specs.Links.{ReadsEach};
+ghost use Rattle.cf_http.specs.Serving.{moment_of, EndsOver, ReadOver, Replied, Went, Stops, IsAfterAnswer};
+ghost use Rattle.cf_http.specs.Talk.{IsOpenText};
 ghost use Rattle.cf_http.specs.Turns.{Said, Told as SaysTold, IsFinished};
 
 use crate::answer::Answer;
@@ -69,10 +71,12 @@ fn reply_missed<L: Link>(
     requires { 256 ≤ vec_capacity lines.old }
     ensures said { Said (L.sent link.old) (L.sent link.new) (miss_answer heading.now.is_head heading.now.closes miss) heading.now.closes result }
     ensures received { L.received link.new ≡ L.received link.old }
+    ensures reads { L.reads link.new ≡ L.reads link.old }
+    ensures reading { L.read_faults link.new ≡ L.read_faults link.old }
     ensures capacity { vec_capacity lines.old ≤ vec_capacity lines.new }
-    ensures later { L.faults link.old ≤ L.faults link.new }
-    ensures fault { result ≡ Some LinkEnd.WriteFault → Rose (L.faults link.old) (L.faults link.new) }
-    ensures quiet { result ≢ Some LinkEnd.WriteFault → L.faults link.new ≡ L.faults link.old }
+    ensures later { L.write_faults link.old ≤ L.write_faults link.new }
+    ensures fault { result ≡ Some LinkEnd.WriteFault → Rose (L.write_faults link.old) (L.write_faults link.new) }
+    ensures quiet { result ≢ Some LinkEnd.WriteFault → L.write_faults link.new ≡ L.write_faults link.old }
 {
     let told = Told {
         code: miss.code(),
@@ -114,9 +118,11 @@ fn reply_told<L: Link, A: Answer>(
     ensures said { SaysTold A.answers answer.old (L.sent link.old) (L.sent link.new) route (take stated (drop heading.now.length workspace.old.inbox.bytes.items)) heading.now.closes answer.new result }
     ensures inbox { workspace.new.inbox.bytes.items ≡ workspace.old.inbox.bytes.items }
     ensures received { L.received link.new ≡ L.received link.old }
-    ensures later { L.faults link.old ≤ L.faults link.new }
-    ensures fault { result ≡ Some LinkEnd.WriteFault → Rose (L.faults link.old) (L.faults link.new) }
-    ensures quiet { result ≢ Some LinkEnd.WriteFault → L.faults link.new ≡ L.faults link.old }
+    ensures reads { L.reads link.new ≡ L.reads link.old }
+    ensures reading { L.read_faults link.new ≡ L.read_faults link.old }
+    ensures later { L.write_faults link.old ≤ L.write_faults link.new }
+    ensures fault { result ≡ Some LinkEnd.WriteFault → Rose (L.write_faults link.old) (L.write_faults link.new) }
+    ensures quiet { result ≢ Some LinkEnd.WriteFault → L.write_faults link.new ≡ L.write_faults link.old }
 {
     let Ok(body) = body_in(alloc, workspace.inbox.bytes.as_slice(), heading, stated) else {
         return Some(send_no_memory(link));
@@ -161,9 +167,11 @@ fn reply<L: Link, A: Answer>(
     ensures open { result ≡ None → Replied A.answers answer.old (L.sent link.old) workspace.old.inbox.bytes.items answer.new (L.sent link.new) workspace.new.inbox.bytes.items }
     ensures over { IfSome result (EndsOver A.answers answer.old (L.sent link.old) workspace.old.inbox.bytes.items answer.new (L.sent link.new) (L.ended link.new)) }
     ensures received { L.received link.new ≡ L.received link.old }
-    ensures later { L.faults link.old ≤ L.faults link.new }
-    ensures write { result ≡ Some LinkEnd.WriteFault → Rose (L.faults link.old) (L.faults link.new) }
-    ensures quiet { result ≢ Some LinkEnd.WriteFault → L.faults link.new ≡ L.faults link.old }
+    ensures reads { L.reads link.new ≡ L.reads link.old }
+    ensures reading { L.read_faults link.new ≡ L.read_faults link.old }
+    ensures later { L.write_faults link.old ≤ L.write_faults link.new }
+    ensures write { result ≡ Some LinkEnd.WriteFault → Rose (L.write_faults link.old) (L.write_faults link.new) }
+    ensures quiet { result ≢ Some LinkEnd.WriteFault → L.write_faults link.new ≡ L.write_faults link.old }
     ensures kind { IfSome result IsAfterAnswer }
 {
     let count = heading.length + stated;
@@ -186,9 +194,11 @@ fn refuse_text<L: Link, A: Answer>(link: &mut L, answer: &A, workspace: &mut Wor
     requires { IsNoHead workspace.old.inbox.bytes.items }
     ensures over { EndsOver A.answers answer.now (L.sent link.old) workspace.old.inbox.bytes.items answer.now (L.sent link.new) (L.ended link.new) result }
     ensures received { L.received link.new ≡ L.received link.old }
-    ensures later { L.faults link.old ≤ L.faults link.new }
-    ensures write { result ≡ LinkEnd.WriteFault → Rose (L.faults link.old) (L.faults link.new) }
-    ensures quiet { result ≢ LinkEnd.WriteFault → L.faults link.new ≡ L.faults link.old }
+    ensures reads { L.reads link.new ≡ L.reads link.old }
+    ensures reading { L.read_faults link.new ≡ L.read_faults link.old }
+    ensures later { L.write_faults link.old ≤ L.write_faults link.new }
+    ensures write { result ≡ LinkEnd.WriteFault → Rose (L.write_faults link.old) (L.write_faults link.new) }
+    ensures quiet { result ≢ LinkEnd.WriteFault → L.write_faults link.new ≡ L.write_faults link.old }
     ensures kind { IsAfterAnswer result }
 {
     send_refusal(link, &mut workspace.lines, false, Refusal::Head)
@@ -206,9 +216,11 @@ fn refuse_head<L: Link, A: Answer>(
     requires refused { heading.now.body ≡ Err why }
     ensures over { EndsOver A.answers answer.now (L.sent link.old) workspace.old.inbox.bytes.items answer.now (L.sent link.new) (L.ended link.new) result }
     ensures received { L.received link.new ≡ L.received link.old }
-    ensures later { L.faults link.old ≤ L.faults link.new }
-    ensures write { result ≡ LinkEnd.WriteFault → Rose (L.faults link.old) (L.faults link.new) }
-    ensures quiet { result ≢ LinkEnd.WriteFault → L.faults link.new ≡ L.faults link.old }
+    ensures reads { L.reads link.new ≡ L.reads link.old }
+    ensures reading { L.read_faults link.new ≡ L.read_faults link.old }
+    ensures later { L.write_faults link.old ≤ L.write_faults link.new }
+    ensures write { result ≡ LinkEnd.WriteFault → Rose (L.write_faults link.old) (L.write_faults link.new) }
+    ensures quiet { result ≢ LinkEnd.WriteFault → L.write_faults link.new ≡ L.write_faults link.old }
     ensures kind { IsAfterAnswer result }
 {
     send_refusal(link, &mut workspace.lines, heading.is_head, why)
@@ -227,10 +239,13 @@ pub fn serve_next<L: Link, A: Answer>(
     ensures over { IfSome result (Stops A.answers
         (moment_of answer.old (L.received link.old) (L.sent link.old)) workspace.old.inbox.bytes.items
         (moment_of answer.new (L.received link.new) (L.sent link.new)) (L.ended link.new)) }
-    ensures later { L.faults link.old ≤ L.faults link.new }
-    ensures read { result ≡ Some LinkEnd.ReadFault → Rose (L.faults link.old) (L.faults link.new) }
-    ensures write { result ≡ Some LinkEnd.WriteFault → Rose (L.faults link.old) (L.faults link.new) }
-    ensures quiet { result ≢ Some LinkEnd.ReadFault → result ≢ Some LinkEnd.WriteFault → L.faults link.new ≡ L.faults link.old }
+    ensures reads { ReadsEach (ReadOver IsOpenText (L.received link.old) (L.sent link.old) workspace.old.inbox.bytes.items) (L.reads link.old) (L.reads link.new) }
+    ensures read_later { L.read_faults link.old ≤ L.read_faults link.new }
+    ensures write_later { L.write_faults link.old ≤ L.write_faults link.new }
+    ensures read { result ≡ Some LinkEnd.ReadFault → Rose (L.read_faults link.old) (L.read_faults link.new) }
+    ensures write { result ≡ Some LinkEnd.WriteFault → Rose (L.write_faults link.old) (L.write_faults link.new) }
+    ensures read_quiet { result ≢ Some LinkEnd.ReadFault → L.read_faults link.new ≡ L.read_faults link.old }
+    ensures write_quiet { result ≢ Some LinkEnd.WriteFault → L.write_faults link.new ≡ L.write_faults link.old }
     ensures limit { result ≢ Some LinkEnd.Limit }
 {
     let heading = match next_head(link, &workspace.routes, &mut workspace.inbox) {

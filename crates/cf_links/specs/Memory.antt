@@ -1,6 +1,8 @@
 -- What a link in memory tells.
-use Rattle.std.specs.Prelude.{◌≡◌, ℕ, List, Bool, take}
+use Rattle.std.specs.Prelude.{ℕ, List, Bool, Some, take, map}
+use Rattle.cf_http.specs.Links.{LinkRead, read_at}
 use Rattle.cf_links.specs.declared.memory.MemLink.{MemLink}
+use Rattle.cf_links.specs.declared.memory.Passed.{Passed}
 
 -- all bytes that it gives
 abbrev pub bytes_of : MemLink → List ℕ
@@ -15,9 +17,12 @@ sent_of l = l.sent.items
 abbrev pub ended_of : MemLink → Bool
 ended_of l = l.ended
 
--- only its counts may differ
-pub record SameBytes (old new : MemLink) : Type 0 where
-  pub bytes : new.bytes.items ≡ old.bytes.items
-  pub place : new.place ≡ old.place
-  pub sent : new.sent.items ≡ old.sent.items
-  pub ended : new.ended ≡ old.ended
+abbrev pub passed_of : MemLink → List Passed
+passed_of l = l.reads.items
+
+-- a read, by what had passed when it was asked
+abbrev pub read_by : List ℕ → List ℕ → Passed → LinkRead
+read_by bytes sent passed = read_at (Some (take passed.came bytes)) (Some (take passed.sent sent))
+
+abbrev pub reads_of : MemLink → List LinkRead
+reads_of l = map (read_by l.bytes.items l.sent.items) l.reads.items

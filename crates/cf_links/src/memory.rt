@@ -1,14 +1,21 @@
 //! Links and doors in memory.
 
-ghost use Rattle.std.specs.Prelude.{◌≡◌, ◌≤◌, ◌<◌, ◌+◌, ◌^◌, Some, [], false, take, length, ltb, IfOk, vec_len, vec_capacity};
-ghost use Rattle.cf_base.specs.Causes.{Rose};
+ghost use Rattle.std.specs.Prelude.{◌≡◌, ◌≤◌, ◌<◌, ◌+◌, ◌^◌, Some, [], false, take, length, ltb, All, IfOk, vec_len, vec_capacity};
 
+use crate::fault::fault;
 use cf_base::Failed;
 use cf_http::{Door, Link};
 use std::alloc::{AllocError, Global};
 
-/// A link over bytes in memory. It can be told how many bytes a read gives at most, which reads and writes
-/// fail, and how many bytes it takes. A growth that memory refuses is a fault.
+/// How many bytes had come on a link, and how many it had taken, when a read was asked.
+#[derive(Clone, Copy)]
+pub struct Passed {
+    pub came: usize,
+    pub sent: usize,
+}
+
+/// A link over bytes in memory, with a record of its reads. It can be told how many bytes a read gives at most, which
+/// reads and writes fail, and how many bytes it takes. A growth that memory refuses is a fault.
 #[derive(Drop)]
 pub struct MemLink {
     bytes: Vec<u8>,
@@ -17,14 +24,16 @@ pub struct MemLink {
     sent: Vec<u8>,
     piece: usize,
     limit: usize,
-    reads: u64,
+    reads: Vec<Passed>,
     fail_at: u64,
-    faults: u64,
+    read_faults: u64,
+    write_faults: u64,
     ghost within: { place ≤ vec_len bytes },
+    ghost passed: { All (λ passed. passed.sent ≤ length sent.items) reads.items },
 }
 
 impl MemLink {
-    ghost use Rattle.cf_links.specs.Memory.{bytes_of, received_of, sent_of, ended_of, SameBytes};
+    ghost use Rattle.cf_links.specs.Memory.{bytes_of, received_of, sent_of, ended_of, passed_of};
 
     /// A link on which these bytes come, in pieces of at most `piece` bytes, and whose calls succeed.
     pub fn new(alloc: Global, bytes: Vec<u8>, piece: usize) -> Self
@@ -32,6 +41,7 @@ impl MemLink {
         ensures received { received_of result ≡ [] }
         ensures sent { sent_of result ≡ [] }
         ensures ended { ended_of result ≡ false }
+        ensures reads { passed_of result ≡ [] }
     {
         MemLink::failing(alloc, bytes, piece, u64::MAX, usize::MAX)
     }
@@ -42,6 +52,7 @@ impl MemLink {
         ensures received { received_of result ≡ [] }
         ensures sent { sent_of result ≡ [] }
         ensures ended { ended_of result ≡ false }
+        ensures reads { passed_of result ≡ [] }
     {
         MemLink {
             bytes,
@@ -50,9 +61,10 @@ impl MemLink {
             sent: Vec::new(alloc),
             piece,
             limit,
-            reads: 0,
+            reads: Vec::new(alloc),
             fail_at,
-            faults: 0,
+            read_faults: 0,
+            write_faults: 0,
         }
     }
 
@@ -70,13 +82,11 @@ impl MemLink {
         self.place
     }
 
-    fn fault(&mut self) -> Failed
-        ensures same { SameBytes self.old self.new }
-        ensures later { self.old.faults ≤ self.new.faults }
-        ensures rose { Rose self.old.faults self.new.faults }
+    /// What had passed when each of its reads was asked, the oldest first. A read that memory refused isn't there.
+    pub fn reads(&self) -> &[Passed]
+        ensures { result.now ≡ passed_of self.now }
     {
-        self.faults = self.faults.saturating_add(1);
-        Failed
+        self.reads.as_slice()
     }
 }
 
@@ -92,7 +102,7 @@ fn front(piece: &[u8], most: usize) -> &[u8]
 }
 
 impl Link for MemLink {
-    ghost use Rattle.cf_links.specs.Memory.{received_of, sent_of, ended_of};
+    ghost use Rattle.cf_links.specs.Memory.{received_of, sent_of, ended_of, reads_of};
 
     ghost received = { λ l. Some (received_of l) };
 
@@ -100,13 +110,23 @@ impl Link for MemLink {
 
     ghost ended = { ended_of };
 
-    ghost faults = { λ l. l.faults };
+    ghost reads = { λ l. Some (reads_of l) };
+
+    ghost read_faults = { λ l. l.read_faults };
+
+    ghost write_faults = { λ l. l.write_faults };
 
     fn read(&mut self, buf: &mut [u8]) -> Result<usize, Failed> {
-        let number = self.reads;
-        self.reads = self.reads.saturating_add(1);
+        let number = self.reads.len() as u64;
+        let passed = Passed {
+            came: self.place,
+            sent: self.sent().len(),
+        };
+        let Ok(()) = self.reads.push(passed) else {
+            return Err(fault(&mut self.read_faults));
+        };
         if number == self.fail_at {
-            return Err(self.fault());
+            return Err(fault(&mut self.read_faults));
         }
         let most = buf.len().min(self.piece.max(1));
         let rest = &self.bytes[self.place..];
@@ -120,11 +140,11 @@ impl Link for MemLink {
     fn write(&mut self, piece: &[u8]) -> Result<usize, Failed> {
         let part = front(piece, self.limit.saturating_sub(self.sent.len()));
         if part.is_empty() && !piece.is_empty() {
-            return Err(self.fault());
+            return Err(fault(&mut self.write_faults));
         }
         match self.sent.extend_from_slice(part) {
             Ok(()) => Ok(part.len()),
-            Err(_) => Err(self.fault()),
+            Err(_) => Err(fault(&mut self.write_faults)),
         }
     }
 }

@@ -3,6 +3,7 @@
 ghost use Rattle.std.specs.Prelude.{◌≡◌, ◌≤◌, ◌+◌, None, [], true, false, OnOk, OnErr};
 ghost use Rattle.cf_base.specs.Causes.{Rose, HasCause};
 
+use crate::fault::fault;
 use cf_base::Failed;
 use cf_http::{Door, Link};
 use std::io::{self, Read, Write};
@@ -26,19 +27,11 @@ const MOST_TRIES: u32 = 16;
 pub struct TcpLink {
     stream: TcpStream,
     ended: bool,
-    faults: u64,
+    read_faults: u64,
+    write_faults: u64,
 }
 
 impl TcpLink {
-    fn fault(&mut self) -> Failed
-        ensures ended { self.new.ended ≡ self.old.ended }
-        ensures later { self.old.faults ≤ self.new.faults }
-        ensures rose { Rose self.old.faults self.new.faults }
-    {
-        self.faults = self.faults.saturating_add(1);
-        Failed
-    }
-
     /// Tells the peer that nothing more comes, and from then on waits a shorter time for its bytes.
     fn end_writing(&self) -> io::Result<()> {
         self.stream.shutdown(Shutdown::Write)?;
@@ -50,7 +43,8 @@ impl TcpLink {
     /// peer could lose the last answer: so the end is told first, and a bounded rest is read. A link that failed is
     /// closed at once.
     fn close(mut self) {
-        if self.ended || self.faults > 0 || self.end_writing().is_err() {
+        let is_failed = self.read_faults > 0 || self.write_faults > 0;
+        if self.ended || is_failed || self.end_writing().is_err() {
             return;
         }
         let mut rest = [0u8; 4096];
@@ -70,7 +64,11 @@ impl Link for TcpLink {
 
     ghost ended = { λ l. l.ended };
 
-    ghost faults = { λ l. l.faults };
+    ghost reads = { λ _. None };
+
+    ghost read_faults = { λ l. l.read_faults };
+
+    ghost write_faults = { λ l. l.write_faults };
 
     fn read(&mut self, buf: &mut [u8]) -> Result<usize, Failed> {
         match self.stream.read(buf) {
@@ -78,14 +76,14 @@ impl Link for TcpLink {
                 self.ended = self.ended || (count == 0 && !buf.is_empty());
                 Ok(count)
             }
-            Err(_) => Err(self.fault()),
+            Err(_) => Err(fault(&mut self.read_faults)),
         }
     }
 
     fn write(&mut self, piece: &[u8]) -> Result<usize, Failed> {
         match self.stream.write(piece) {
             Ok(count) if count > 0 || piece.is_empty() => Ok(count),
-            _ => Err(self.fault()),
+            _ => Err(fault(&mut self.write_faults)),
         }
     }
 }
@@ -186,7 +184,8 @@ impl<R: Net<Listener = TcpListener, Stream = TcpStream>> Door for TcpDoor<'_, R>
                 Ok(Some(TcpLink {
                     stream,
                     ended: false,
-                    faults: 0,
+                    read_faults: 0,
+                    write_faults: 0,
                 }))
             }
             _ => {

@@ -26,11 +26,7 @@ pub fn class_rows(alloc: Global, history: &History, year: u16) -> Result<Vec<Row
 
 /// The rows of the components of net position through a fiscal year from 1971 to 2199 (GASB Statement 34), in cents. They are read
 /// off running numbers: it takes no longer with more entries. It fails exactly for want of memory.
-pub fn component_rows(
-    alloc: Global,
-    history: &History,
-    year: u16,
-) -> Result<Vec<Row>, AllocError>
+pub fn component_rows(alloc: Global, history: &History, year: u16) -> Result<Vec<Row>, AllocError>
     requires year { IsYear year }
     requires lent { (line : ℕ) → has_line history.now.lines line ≡ true }
     ensures { IfOk result (λ rows. rows.items ≡ spec.component_rows history.now.plan history.now.entries year) }

@@ -8,8 +8,8 @@ ghost use Rattle.cf_model.specs.Report as spec;
 use crate::books::Books;
 use cf_base::Kind;
 use cf_calls::{Label, List, Row, Shown};
-use cf_recon::{change_rows, recon_rows};
 use cf_history::History;
+use cf_recon::{change_rows, recon_rows};
 use cf_statements::{
     balance_sheet, comparison, net_position, operating_statement, statement_of_activities, title,
 };

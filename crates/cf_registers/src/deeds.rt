@@ -18,9 +18,10 @@ use cf_calls::Act;
 use cf_calls::acts::{BillAmount, FundMove, FundMoveKind, NewBill, Period};
 use cf_calls::items::{AccountItem, SourceAmount, VoucherItem};
 use cf_chart::Chart;
-use cf_orders::{Orders, document_year, year_of_day};
+use cf_orders::Orders;
 use cf_post::deed::{self, Collection, Deed, FundAmount, FundsAmount, Spent, SpentItem};
 use cf_revenue::Revenue;
+use cf_rows::{document_year, year_of_day};
 use std::alloc::{AllocError, Global};
 
 /// The function that a department works for.
@@ -175,14 +176,14 @@ fn move_funds(year: u16, moved: &FundMove) -> Deed
     }
 }
 
-fn bill(chart: &Chart, levy: &NewBill) -> Deed
-    ensures { result ≡ Deed.Bill (record { levy_year = levy.now.levy_year; fund = charted.fund_of chart.now levy.now.source; source = levy.now.source; amount = levy.now.amount }) }
+fn enter_bill(chart: &Chart, bill: &NewBill) -> Deed
+    ensures { result ≡ Deed.Bill (record { levy_year = bill.now.levy_year; fund = charted.fund_of chart.now bill.now.source; source = bill.now.source; amount = bill.now.amount }) }
 {
     Deed::Bill(deed::NewBill {
-        levy_year: levy.levy_year,
-        fund: fund_of(chart, levy.source),
-        source: levy.source,
-        amount: levy.amount,
+        levy_year: bill.levy_year,
+        fund: fund_of(chart, bill.source),
+        source: bill.source,
+        amount: bill.amount,
     })
 }
 
@@ -264,16 +265,16 @@ pub fn deeds(
     let orders = registers.orders();
     let revenue = registers.revenue();
     match act {
-        Act::Voucher(invoice) => {
+        Act::Voucher(voucher) => {
             let year = document_year(chart, on, act);
-            spend_each(alloc, chart, year, invoice.items.as_slice())
+            spend_each(alloc, chart, year, voucher.items.as_slice())
         }
         Act::VoidVoucher(number) => unspend_each(alloc, chart, orders, *number),
         Act::Pay(payment) => {
             let year = year_of_day(chart, on);
             pay_each(alloc, orders, year, payment.vouchers.as_slice())
         }
-        Act::Bill(levy) => one(alloc, bill(chart, levy)),
+        Act::Bill(bill) => one(alloc, enter_bill(chart, bill)),
         Act::Collect(part) => collect(alloc, chart, revenue, on, part),
         Act::WriteOff(part) => write_off(alloc, chart, revenue, on, part),
         Act::Receive(receipt) => one(alloc, receive(chart, year_of_day(chart, on), receipt)),

@@ -16,8 +16,8 @@ use cf_base::Day;
 use cf_calls::acts::{AssetAct, BondIssue, DebtPayment, Disposal, Donation, LeaveAct, NewLease};
 use cf_chart::Chart;
 use cf_debt::Debt;
-use cf_orders::year_of_day;
 use cf_post::deed::{self, Deed, DuePayment, FunctionAmount, FundAmount, MaturedLeave};
+use cf_rows::year_of_day;
 use std::alloc::{AllocError, Global};
 
 /// A capital asset is given to a department's function.

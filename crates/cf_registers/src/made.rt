@@ -76,10 +76,10 @@ fn made_by(chart: &Chart, registers: &Registers, on: Day, drawn: Drawn, act: &Ac
     match act {
         Act::Requisition(_) => Made::Requisition { number },
         Act::Order(_) => Made::Order { number },
-        Act::Voucher(invoice) => Made::Voucher {
+        Act::Voucher(voucher) => Made::Voucher {
             number,
             first_asset: drawn.second,
-            assets: capital_items(chart, invoice.items.as_slice()),
+            assets: capital_items(chart, voucher.items.as_slice()),
         },
         Act::Bill(_) => Made::Bill { number },
         Act::Collect(part) => made_year(chart, registers.revenue(), on, part.bill),

@@ -125,7 +125,7 @@ fn add_move(changes: &mut MergedChanges, chart: &Chart, moved: &LineMove)
     );
 }
 
-/// The same, where there is a move.
+/// Adds what a move changes of its account's line, where there is one.
 fn add_if(changes: &mut MergedChanges, chart: &Chart, moved: Option<LineMove>)
     requires room { length changes.old.items < 64 }
     requires apart { is_distinct same_place changes.old.items ≡ true }

@@ -17,11 +17,11 @@ ghost use Rattle.cf_rules.specs.Least.{is_before as spec_is_before, lesser as sp
 ghost use Rattle.cf_registers.specs.Lines.{LendsTouched};
 ghost use Rattle.cf_registers.specs.Moved.{act_moves, asks_of, is_inside, AreSmallSums, IsCleared};
 
-use cf_history::History;
 use cf_base::Day;
 use cf_budget::{LineChange, Row, line_refusal};
 use cf_calls::acts::{Amendment, LineTransfer};
 use cf_calls::{Act, Change, Refusal};
+use cf_history::History;
 use cf_registers::merged_moves;
 
 /// A line and fiscal year of which too much is asked, with its refusal.

@@ -5,8 +5,8 @@ ghost use Rattle.cf_calls.specs.declared.reply.Body.TheVariants as bodies;
 ghost use Rattle.cf_calls.specs.declared.reply.Posted.TheVariants as posted;
 ghost use Rattle.cf_model.specs.Results as results;
 
-use cf_history::History;
 use cf_calls::{Body, Posted, Refusal, Reply};
+use cf_history::History;
 
 /// The reply to a change that repeats the call at a place.
 pub fn repeat_reply(history: &History, was: u64) -> Posted

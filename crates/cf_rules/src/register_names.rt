@@ -20,9 +20,9 @@ use cf_calls::items::AccountItem;
 use cf_calls::{Act, NameKind, Refusal};
 use cf_chart::{Chart, ObjectKind};
 use cf_debt::Debt;
-use cf_orders::year_of_day;
 use cf_registers::{Registers, is_capital};
 use cf_revenue::Revenue;
+use cf_rows::year_of_day;
 
 /// Refuses a department that isn't in the chart.
 pub fn dept_fault(chart: &Chart, dept: u16) -> Option<Refusal>

@@ -14,14 +14,14 @@ ghost use Rattle.cf_model.specs.Rules.{first_refusal};
 ghost use Rattle.cf_rules.specs.Least.{closed_where};
 ghost use Rattle.cf_chart.specs.Plan.{object_at, desk_at, is_capital_kind};
 
-use cf_history::History;
 use cf_base::{Day, LAST_YEAR, MOST_CENTS, MOST_ENTRIES, Month, fiscal_year, month_of};
 use cf_calls::acts::{AssetAct, LeaveAct, Period};
 use cf_calls::items::{AccountItem, Charge, LineAmount, SourceAmount, VoucherItem};
 use cf_calls::{Act, Refusal, Role, has_role, role_of};
 use cf_chart::{Chart, ObjectKind};
-use cf_orders::{document_year, year_of_day};
+use cf_history::History;
 use cf_revenue::Revenue;
+use cf_rows::{document_year, year_of_day};
 
 /// The first of two refusals.
 pub fn or(first: Option<Refusal>, second: Option<Refusal>) -> Option<Refusal>

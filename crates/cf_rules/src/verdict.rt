@@ -14,7 +14,6 @@ ghost use Rattle.cf_registers.specs.RegistersState.{register_rules};
 
 use crate::cash::cash_rule;
 use crate::exceeds::exceed_rule;
-use cf_history::History;
 use crate::names::name_rule;
 use crate::register_names::register_name_rule;
 use crate::rules::{
@@ -23,6 +22,7 @@ use crate::rules::{
 };
 use crate::windows::window_rule;
 use cf_calls::{Change, Refusal, Verdict};
+use cf_history::History;
 
 /// The rules before a repeat: an unknown desk, and a caller that has seen more than the history has.
 fn first_rules(history: &History, change: &Change) -> Option<Refusal>

@@ -6,11 +6,11 @@ ghost use Rattle.cf_model.proofs.MonthNumbers.{IsNamed};
 ghost use Rattle.cf_model.specs.Calendar.{is_month_closed};
 ghost use Rattle.cf_model.specs.Rules as spec;
 
-use cf_history::History;
 use cf_base::{Day, Month, month_at, window_end, year_end};
 use cf_calls::acts::Period;
 use cf_calls::{Act, Refusal};
 use cf_chart::Chart;
+use cf_history::History;
 use cf_registers::{month_number, start_month};
 
 /// The month that holds the last day of a fiscal year's longest availability period.

@@ -40,7 +40,7 @@ impl<'a, N: City, D: Disk + Drop, H: Wait, R: Door + Drop> Model for Desk<'a, N,
 impl<'a, N: City, D: Disk + Drop, H: Wait, R: Door + Drop> Desk<'a, N, D, H, R> {
     /// Serves so many links of the door, one after another: fewer where none is left to come, or the door fails.
     pub fn keep(&mut self, alloc: Global, links: u32)
-        ensures { DeskKept (record { received = R.Link.received; sent = R.Link.sent; ended = R.Link.ended; faults = R.Link.faults })
+        ensures { DeskKept (record { received = R.Link.received; sent = R.Link.sent; ended = R.Link.ended; reads = R.Link.reads; read_faults = R.Link.read_faults; write_faults = R.Link.write_faults })
             R.tells N.plan links self.old self.new }
     {
         let how = serve_door(alloc, &mut self.door, links, &mut self.clerk);
@@ -59,7 +59,7 @@ pub fn keep_all<
 where
     R::Link: Send,
     requires { length desks.old.items < 2 ^ 32 }
-    ensures kept { EachKept (record { received = R.Link.received; sent = R.Link.sent; ended = R.Link.ended; faults = R.Link.faults })
+    ensures kept { EachKept (record { received = R.Link.received; sent = R.Link.sent; ended = R.Link.ended; reads = R.Link.reads; read_faults = R.Link.read_faults; write_faults = R.Link.write_faults })
         R.tells N.plan links desks.old.items desks.new.items }
     ensures many { length desks.new.items ≡ length desks.old.items }
 {

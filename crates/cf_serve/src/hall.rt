@@ -62,7 +62,7 @@ where
     ensures many { length doors.new.items ≡ length doors.old.items }
     ensures untouched { result.end ≡ ServeEnd.NoMemory → doors.new.items ≡ doors.old.items }
     ensures ends { Serves (record { tells = D.tells; is_image = D.is_image; moment = D.moment; was_image = D.was_image; faults = D.faults })
-        (record { received = R.Link.received; sent = R.Link.sent; ended = R.Link.ended; faults = R.Link.faults })
+        (record { received = R.Link.received; sent = R.Link.sent; ended = R.Link.ended; reads = R.Link.reads; read_faults = R.Link.read_faults; write_faults = R.Link.write_faults })
         R.tells links book result.disk (map (door_state R.finished R.given R.coming R.faults) doors.old.items)
         (map (door_state R.finished R.given R.coming R.faults) doors.new.items) result.links result.end }
 {

@@ -177,7 +177,7 @@ where
     requires passes_room { length doors.items ≤ vec_capacity passes.old }
     requires desks_room { length doors.items ≤ vec_capacity desks }
     ensures many { (length back.new.items ≡ length doors.items) × (length passes.new.items ≡ length doors.items) }
-    ensures ran { DesksRan (record { received = R.Link.received; sent = R.Link.sent; ended = R.Link.ended; faults = R.Link.faults })
+    ensures ran { DesksRan (record { received = R.Link.received; sent = R.Link.sent; ended = R.Link.ended; reads = R.Link.reads; read_faults = R.Link.read_faults; write_faults = R.Link.write_faults })
         R.tells N.plan N.first links (map (door_state R.finished R.given R.coming R.faults) doors.items)
         (map (door_state R.finished R.given R.coming R.faults) back.new.items) passes.new.items result.links result.failed }
 {

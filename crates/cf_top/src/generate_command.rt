@@ -12,7 +12,7 @@ use cf_base::Sink;
 use cf_calls::shown::ReconShown;
 use cf_calls::{Label, List, Row};
 use cf_generator::generate;
-use cf_office::BookOffice;
+use cf_office::{BookOffice, History};
 use cf_runs::{Status, print};
 use cf_text::{put_count, put_row};
 use cf_words::{Command, WordsRefused, read_words};
@@ -40,12 +40,18 @@ fn total_lines(alloc: Global, count: u64, recon: &ReconShown) -> Result<Vec<u8>,
     Ok(out)
 }
 
+/// The lines of a history, at the end of the fiscal year of all drawn calls.
+fn history_lines(alloc: Global, history: &History) -> Result<Vec<u8>, AllocError>
+    ensures { IfOk result (λ text. text.items ≡ spec.office_lines history.now.plan history.now.entries) }
+{
+    total_lines(alloc, history.len(), &history.recon(2026))
+}
+
 /// The lines of an office, at the end of the fiscal year of all drawn calls.
 fn office_lines(alloc: Global, office: &BookOffice) -> Result<Vec<u8>, AllocError>
     ensures { IfOk result (λ text. text.items ≡ spec.office_lines office.now.plan office.now.entries) }
 {
-    let history = office.history();
-    total_lines(alloc, history.len(), &history.recon(2026))
+    history_lines(alloc, &office.history())
 }
 
 /// The lines of the run of so many drawn calls.

@@ -177,7 +177,7 @@ where
     R::Link: Send,
     requires few { length doors.old.items ≤ 16 }
     ensures keeps { KeepsDoors (device D.tells D.content D.is_image D.moment D.was_image D.faults)
-        (door_kind R.Link.received R.Link.sent R.Link.ended R.Link.faults R.tells R.finished R.given R.coming R.faults)
+        (door_kind R.Link.received R.Link.sent R.Link.ended R.Link.reads R.Link.read_faults R.Link.write_faults R.tells R.finished R.given R.coming R.faults)
         links disk result.1 doors.old.items doors.new.items result.0 }
     ensures len { length doors.new.items ≡ length doors.old.items }
     ensures disk { result.0 ≡ kept.Unopened refused.Disk → Rose (D.faults disk) (D.faults result.1) }
@@ -211,7 +211,7 @@ where
     requires enough { count ≤ length doors.old.items }
     requires few { count ≤ 16 }
     ensures keeps { KeepsDoors (device D.tells D.content D.is_image D.moment D.was_image D.faults)
-        (door_kind R.Link.received R.Link.sent R.Link.ended R.Link.faults R.tells R.finished R.given R.coming R.faults)
+        (door_kind R.Link.received R.Link.sent R.Link.ended R.Link.reads R.Link.read_faults R.Link.write_faults R.tells R.finished R.given R.coming R.faults)
         links disk result.1 (take count doors.old.items) (take count doors.new.items) result.0 }
     ensures others { drop count doors.new.items ≡ drop count doors.old.items }
     ensures disk { result.0 ≡ kept.Unopened refused.Disk → Rose (D.faults disk) (D.faults result.1) }
@@ -245,7 +245,7 @@ where
     R::Link: Send,
     requires few { count ≤ 16 }
     ensures ends { ServeEnds (device D.tells D.content D.is_image D.moment D.was_image D.faults)
-        (door_kind R.Link.received R.Link.sent R.Link.ended R.Link.faults R.tells R.finished R.given R.coming R.faults)
+        (door_kind R.Link.received R.Link.sent R.Link.ended R.Link.reads R.Link.read_faults R.Link.write_faults R.tells R.finished R.given R.coming R.faults)
         count links disk result.disk doors.old.items doors.new.items (O.held out.old) (O.held out.new) result.status }
     ensures write { result.status ≡ Status.WriteFault → Rose (O.faults out.old) (O.faults out.new) }
     ensures disk { result.status ≡ Status.DiskFault → Rose (D.faults disk) (D.faults result.disk) }
@@ -287,7 +287,7 @@ where
     R::Link: Send,
     ensures ends { (port count links : ℕ) → command_of (map string_bytes words.now) ≡ Some (Command.Serve port count links)
         → ServeEnds (device D.tells D.content D.is_image D.moment D.was_image D.faults)
-        (door_kind R.Link.received R.Link.sent R.Link.ended R.Link.faults R.tells R.finished R.given R.coming R.faults)
+        (door_kind R.Link.received R.Link.sent R.Link.ended R.Link.reads R.Link.read_faults R.Link.write_faults R.tells R.finished R.given R.coming R.faults)
         count links disk result.disk doors.old.items doors.new.items (O.held out.old) (O.held out.new) result.status }
     ensures short { (port count links : ℕ) → command_of (map string_bytes words.now) ≡ Some (Command.Serve port count links)
         → result.status ≡ Status.BadWords → length doors.old.items < count }

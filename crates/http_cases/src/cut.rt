@@ -13,7 +13,7 @@ pub struct CutLink {
 
 impl Link for CutLink {
     ghost use Rattle.std.specs.Prelude.{Some};
-    ghost use Rattle.cf_links.specs.Memory.{received_of, sent_of, ended_of};
+    ghost use Rattle.cf_links.specs.Memory.{received_of, sent_of, ended_of, reads_of};
 
     ghost received = { λ l. Some (received_of l.link) };
 
@@ -21,7 +21,11 @@ impl Link for CutLink {
 
     ghost ended = { λ l. ended_of l.link };
 
-    ghost faults = { λ l. l.link.faults };
+    ghost reads = { λ l. Some (reads_of l.link) };
+
+    ghost read_faults = { λ l. l.link.read_faults };
+
+    ghost write_faults = { λ l. l.link.write_faults };
 
     fn read(&mut self, buf: &mut [u8]) -> Result<usize, Failed> {
         let most = buf.len().min(self.most.max(1));

@@ -3,7 +3,6 @@
 
 mod clerk;
 mod cut;
-mod noted;
 mod peers;
 mod script;
 mod stage;

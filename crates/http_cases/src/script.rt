@@ -16,11 +16,10 @@
 //! | `door LINKS N` | serves so many links of the door, whose call N of `next` fails, from 1 |
 
 use crate::clerk::Verdict;
-use crate::noted::Passed;
 use crate::peers::see_peers;
 use crate::stage::{Played, Stage};
 use cf_http::{DoorEnd, LinkEnd};
-use cf_links::MemLink;
+use cf_links::{MemLink, Passed};
 use std::alloc::{AllocError, Global};
 use std::io;
 

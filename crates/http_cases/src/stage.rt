@@ -2,9 +2,8 @@
 
 use crate::clerk::{Clerk, FixedAnswer, Verdict};
 use crate::cut::CutLink;
-use crate::noted::{NotedLink, Passed};
 use cf_http::{DoorEnd, LinkEnd, serve_door, serve_link};
-use cf_links::{Coming, MemDoor, MemLink};
+use cf_links::{Coming, MemDoor, MemLink, Passed};
 use std::alloc::{AllocError, Global};
 use std::mem;
 
@@ -86,12 +85,9 @@ impl Stage {
 
     /// Serves a link that gives the text in pieces of at most so many bytes: what had passed before each of its reads.
     pub fn serve_noted(&self, piece: usize) -> Result<Vec<Passed>, AllocError> {
-        let mut link = NotedLink {
-            link: self.link(piece)?,
-            notes: Vec::new(self.alloc),
-        };
+        let mut link = self.link(piece)?;
         serve_link(self.alloc, &mut link, &mut self.clerk());
-        Ok(link.notes)
+        Vec::from_slice(self.alloc, link.reads())
     }
 
     /// Serves the text whole, each request by one answer: how the link ended, and how many bytes it took.

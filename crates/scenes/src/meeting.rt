@@ -31,7 +31,7 @@ pub struct WaitingLink<'a> {
     /// Whether it took bytes since it was read last.
     is_answered: bool,
     ended: bool,
-    faults: u64,
+    write_faults: u64,
 }
 
 /// Puts a request into a buffer, and says how many bytes it has there.
@@ -51,7 +51,11 @@ impl Link for WaitingLink<'_> {
 
     ghost ended = { λ l. l.ended };
 
-    ghost faults = { λ l. l.faults };
+    ghost reads = { λ _. None };
+
+    ghost read_faults = { λ _. 0 };
+
+    ghost write_faults = { λ l. l.write_faults };
 
     fn read(&mut self, buf: &mut [u8]) -> Result<usize, Failed> {
         if self.is_answered {
@@ -76,7 +80,7 @@ impl Link for WaitingLink<'_> {
         match self.sent.extend_from_slice(piece) {
             Ok(()) => Ok(piece.len()),
             Err(_) => {
-                self.faults = self.faults.saturating_add(1);
+                self.write_faults = self.write_faults.saturating_add(1);
                 Err(Failed)
             }
         }
@@ -119,7 +123,7 @@ impl<'a> Door for WaitingDoor<'a> {
             sent: Vec::new(self.alloc),
             is_answered: false,
             ended: false,
-            faults: 0,
+            write_faults: 0,
         }))
     }
 

@@ -14,5 +14,5 @@ returns-in-Voucher c =
     ap (made.Voucher c.args.drawn.number c.args.drawn.second)
     (c.capital_items.ensures
     ∙ ap (λ xs. length (filter (λ i. is_capital (object_at c.args.chart.now i.account.object)) xs)) c.as_slice.ensures
-    ∙ sym (bought_length c.args.chart.now c.args.drawn.number c.args.on (document_year c.args.chart.now c.args.on (act.Voucher c.in-Voucher.invoice)) c.args.drawn.second c.in-Voucher.invoice.items))
+    ∙ sym (bought_length c.args.chart.now c.args.drawn.number c.args.on (document_year c.args.chart.now c.args.on (act.Voucher c.in-Voucher.voucher)) c.args.drawn.second c.in-Voucher.voucher.items))
     ∙ ap (results.made_by c.args.chart.now c.args.registers.now.registers c.args.on c.args.drawn) (sym c.in-Voucher.is)

@@ -8,7 +8,7 @@ use Rattle.cf_serve.proofs.hall.serve_hall.Goals as goal
 pub returns-clause-ends : goal.returns-clause-ends
 returns-clause-ends g c =
     let device : DiskTells g.row.D.Denot = record { tells = g.D.Disk.tells; is_image = g.D.Disk.is_image; moment = g.D.Disk.moment; was_image = g.D.Disk.was_image; faults = g.D.Disk.faults } in
-    let tells : Tells g.row.R-Link.Denot = record { received = g.R.Link.Link.received; sent = g.R.Link.Link.sent; ended = g.R.Link.Link.ended; faults = g.R.Link.Link.faults } in
+    let tells : Tells g.row.R-Link.Denot = record { received = g.R.Link.Link.received; sent = g.R.Link.Link.sent; ended = g.R.Link.Link.ended; reads = g.R.Link.Link.reads; read_faults = g.R.Link.Link.read_faults; write_faults = g.R.Link.Link.write_faults } in
     let same : c.replace-all.result.items ≡ c.args.doors.now.items = search rules in
     hall_served device tells g.R.Door.tells c.args.links c.args.book c.close-closed.result.disk g.N.City.plan g.N.City.first g.N.City.doubt g.N.City.begun g.N.City.risen c.open-hall.result.kept c.enter_all.new.self.kept
     c.close-closed.result.length _ _ _ c.serve_doors-kept.new.passes.items c.serve_doors-kept.result.links c.serve_doors-kept.result.failed c.end_by.result

@@ -5,8 +5,8 @@ use Rattle.cf_book.specs.Snapshots.{doubt_of}
 use Rattle.cf_book.proofs.Recovering.{still_near, taken_adds}
 use Rattle.cf_book.proofs.archive.Archive.admit.Goals as goal
 
-pub new-lent-requires : goal.new-lent-requires
-new-lent-requires g c = rw (← c.self.view_is) at c.requires.tables
+pub new-history-requires : goal.new-history-requires
+new-history-requires g c = rw (← c.self.view_is) at c.requires.tables
 
 pub returns-in-Some-clause-refused : goal.returns-in-Some-clause-refused
 returns-in-Some-clause-refused g c =

@@ -10,8 +10,8 @@ use Rattle.cf_book.proofs.Recovering.{still_near}
 use Rattle.cf_book.proofs.Replies.{repeat_answers, refusal_answers}
 use Rattle.cf_book.proofs.archive.Archive.settle_change.Goals as goal
 
-pub new-lent-requires : goal.new-lent-requires
-new-lent-requires g c = rw (← c.self.view_is) at c.requires.tables
+pub new-history-requires : goal.new-history-requires
+new-history-requires g c = rw (← c.self.view_is) at c.requires.tables
 
 pub returns-in-Repeat-clause-reply : goal.returns-in-Repeat-clause-reply
 returns-in-Repeat-clause-reply g c =

@@ -1,6 +1,11 @@
-use Rattle.std.proofs.Common.{◌≡◌, ◌++◌, ◌+◌, ◌-◌, ◌≤◌, ℕ, List, take, drop, length, arith, sym, ◌∙◌, ap, subst, length-drop, length-take}
+use Rattle.std.proofs.Common.{◌≡◌, [], ◌∷◌, ◌++◌, ◌+◌, ◌-◌, ◌≤◌, ℕ, List, Some, map, refl, take, drop, length, arith, sym, ◌∙◌, ap, subst, length-drop, length-take}
 use Rattle.std.proofs.lemmas.List.{take-append-drop, take-take, drop-take, length-take-le, take_all}
 use Rattle.std.proofs.Math.Seq.{take-append_seam}
+use Rattle.std.proofs.lemmas.List.Elements.{All-cons, All-nil}
+use Rattle.cf_http.specs.Links.{LinkRead, read_at}
+use Rattle.cf_links.specs.Memory.{read_by, received_of, sent_of}
+use Rattle.cf_links.specs.declared.memory.Passed.{Passed}
+use Rattle.cf_links.proofs.ReadLaws.{reads_add}
 use Rattle.cf_links.proofs.memory.MemLinkLink.read.Goals as goal
 
 -- so many bytes more
@@ -25,3 +30,16 @@ returns-clause-bytes c =
     (rw c.deref.ensures.value (take_all (length l.bytes.items - l.place) (drop l.place l.bytes.items) (let e = length-drop l.place l.bytes.items in omega (arith, e))))
     c.copy_from_slice.ensures.after
     (let a = length-take (length c.deref.result.now - l.place) (drop l.place c.deref.result.now) in let e = length-drop l.place c.deref.result.now in omega (arith, a, e, c.min-count.ensures))
+
+abbrev passed_at : ℕ → ℕ → Passed
+passed_at came sent = record { came = came; sent = sent }
+
+pub returns-then-number-self-clause-reads : goal.returns-then-number-self-clause-reads
+returns-then-number-self-clause-reads c =
+    let l = c.args.self.now in
+    let read = read_at (Some (received_of l)) (Some (sent_of l)) in (
+      read ∷ [],
+      ap (map (read_by l.bytes.items l.sent.items)) (c.in-Ok.ensures.items ∙ ap (λ (n : ℕ). l.reads.items ++ passed_at l.place n ∷ []) (ap length c.sent.ensures))
+          ∙ reads_add l.bytes.items l.sent.items l.place l.reads.items,
+      All-cons (λ (r : LinkRead). r ≡ read) read [] refl (All-nil (λ (r : LinkRead). r ≡ read)),
+    )

@@ -6,7 +6,7 @@ use Rattle.cf_serve.proofs.desk.Desk.keep.Goals as goal
 
 pub returns : goal.returns
 returns g c =
-    let tells : Tells g.row.R-Link.Denot = record { received = g.R.Link.Link.received; sent = g.R.Link.Link.sent; ended = g.R.Link.Link.ended; faults = g.R.Link.Link.faults } in
+    let tells : Tells g.row.R-Link.Denot = record { received = g.R.Link.Link.received; sent = g.R.Link.Link.sent; ended = g.R.Link.Link.ended; reads = g.R.Link.Link.reads; read_faults = g.R.Link.Link.read_faults; write_faults = g.R.Link.Link.write_faults } in
     let old : DeskState g.row.R-Link.Denot = record {
       pass = c.self.inside.clerk;
       finished = g.R.Door.finished c.self.inside.door;
