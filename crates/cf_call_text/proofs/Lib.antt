@@ -6,3 +6,4 @@ pub mod CallsBack
 pub mod CallsShort
 pub mod RoundTrip
 pub mod Objects
+pub mod ItemTexts

@@ -6,15 +6,11 @@ ghost use Rattle.cf_base.specs.Causes.{HasCause};
 
 use cf_base::{Failed, Source};
 
-/// The bytes of a read, and of the answers that gather.
-pub(crate) const CHUNK: usize = 65_536;
+/// The most bytes of one read, and how many of answers gather before they are written.
+pub const CHUNK: usize = 65_536;
 
 /// Reads at most `most` bytes, and at most a chunk.
-pub(crate) fn read_chunk<S: Source>(
-    source: &mut S,
-    chunk: &mut [u8],
-    most: u64,
-) -> Result<usize, Failed>
+pub fn read_chunk<S: Source>(source: &mut S, chunk: &mut [u8], most: u64) -> Result<usize, Failed>
     requires some { 0 < most }
     requires room { 0 < length chunk.old }
     ensures within { IfOk result (λ n. n ≤ length chunk.new) }

@@ -6,29 +6,13 @@ use Rattle.cf_base.specs.declared.calendar.Day.{Day}
 use Rattle.cf_base.specs.Limits.{last_year}
 use Rattle.cf_calls.specs.declared.acts.Act.{Act}
 use Rattle.cf_calls.specs.declared.acts.Act.TheVariants.{Adopt, Amend, Transfer, Requisition, Withdraw, Order, ChangeOrder, CancelOrder, Voucher, VoidVoucher, Pay, Bill, Collect, Receive, WriteOff, Asset, Issue, PayDue, Leave, Interfund, Close, Lease}
-use Rattle.cf_calls.specs.declared.acts.Adoption.{Adoption}
-use Rattle.cf_calls.specs.declared.acts.Amendment.{Amendment}
-use Rattle.cf_calls.specs.declared.acts.LineTransfer.{LineTransfer}
-use Rattle.cf_calls.specs.declared.acts.NewRequisition.{NewRequisition}
-use Rattle.cf_calls.specs.declared.acts.NewOrder.{NewOrder}
-use Rattle.cf_calls.specs.declared.acts.OrderChange.{OrderChange}
-use Rattle.cf_calls.specs.declared.acts.NewVoucher.{NewVoucher}
-use Rattle.cf_calls.specs.declared.acts.Payment.{Payment}
-use Rattle.cf_calls.specs.declared.acts.NewBill.{NewBill}
 use Rattle.cf_calls.specs.declared.acts.BillAmount.{BillAmount}
-use Rattle.cf_calls.specs.declared.acts.AssetAct.{AssetAct}
 use Rattle.cf_calls.specs.declared.acts.AssetAct.TheVariants.{Donate, Dispose}
 use Rattle.cf_calls.specs.declared.acts.BondIssue.{BondIssue}
-use Rattle.cf_calls.specs.declared.acts.DebtPayment.{DebtPayment}
-use Rattle.cf_calls.specs.declared.acts.LeaveAct.{LeaveAct}
 use Rattle.cf_calls.specs.declared.acts.LeaveAct.TheVariants.{Earn, Use, Mature}
 use Rattle.cf_calls.specs.declared.acts.LeaveAmount.{LeaveAmount}
 use Rattle.cf_calls.specs.declared.acts.LeaveMaturity.{LeaveMaturity}
-use Rattle.cf_calls.specs.declared.acts.FundMove.{FundMove}
-use Rattle.cf_calls.specs.declared.acts.NewLease.{NewLease}
-use Rattle.cf_calls.specs.declared.acts.Period.{Period}
 use Rattle.cf_calls.specs.declared.acts.Period.TheVariants as period
-use Rattle.cf_calls.specs.declared.items.SourceAmount.{SourceAmount}
 use Rattle.cf_calls.specs.Form.{is_period, month_number}
 use Rattle.cf_members.specs.declared.fault.FormFault.{FormFault}
 use Rattle.cf_calls.specs.declared.kind.ActKind.{ActKind}
@@ -45,23 +29,23 @@ use Rattle.cf_members.specs.Kinds.{as_n16, as_n32, as_count, as_year, as_by, as_
 use Rattle.cf_json.specs.Items.{as_line_amounts, as_source_amounts, as_account_items, as_voucher_items, as_vouchers, as_principals}
 use Rattle.cf_json.specs.Words.{asset_words, leave_words, move_words, period_words}
 
-abbrev pub adoption_of : Data → Result Adoption FormFault
+abbrev pub adoption_of : Data → Result Act FormFault
 adoption_of d = do
   fund ← field as_n16 (codes "fund") d
   year ← field as_year (codes "year") d
   lines ← field as_line_amounts (codes "lines") d
   estimates ← field as_source_amounts (codes "estimates") d
-  Ok (record { fund = fund; year = year; lines = lines; estimates = estimates })
+  Ok (Adopt (record { fund = fund; year = year; lines = lines; estimates = estimates }))
 
-abbrev pub amendment_of : Data → Result Amendment FormFault
+abbrev pub amendment_of : Data → Result Act FormFault
 amendment_of d = do
   fund ← field as_n16 (codes "fund") d
   year ← field as_year (codes "year") d
   line ← field as_n16 (codes "line") d
   by ← field as_by (codes "by") d
-  Ok (record { fund = fund; year = year; line = line; by = by })
+  Ok (Amend (record { fund = fund; year = year; line = line; by = by }))
 
-abbrev pub transfer_of : Data → Result LineTransfer FormFault
+abbrev pub transfer_of : Data → Result Act FormFault
 transfer_of d = do
   fund ← field as_n16 (codes "fund") d
   year ← field as_year (codes "year") d
@@ -69,22 +53,22 @@ transfer_of d = do
   to ← field as_n16 (codes "to") d
   _ ← must (not (from == to)) (codes "to")
   amount ← field as_count (codes "amount") d
-  Ok (record { fund = fund; year = year; from = from; to = to; amount = amount })
+  Ok (Transfer (record { fund = fund; year = year; from = from; to = to; amount = amount }))
 
-abbrev pub new_requisition_of : Data → Result NewRequisition FormFault
+abbrev pub new_requisition_of : Data → Result Act FormFault
 new_requisition_of d = do
   items ← field as_account_items (codes "items") d
-  Ok (record { items = items })
+  Ok (Requisition (record { items = items }))
 
-abbrev pub new_order_of : Data → Result NewOrder FormFault
+abbrev pub new_order_of : Data → Result Act FormFault
 new_order_of d = do
   vendor ← field as_n32 (codes "vendor") d
   requisition ← optional as_n32 (codes "requisition") d
   items ← field as_account_items (codes "items") d
-  Ok (record { vendor = vendor; requisition = requisition; items = items })
+  Ok (Order (record { vendor = vendor; requisition = requisition; items = items }))
 
 -- items of an order count from 1
-abbrev pub order_change_of : Data → Result OrderChange FormFault
+abbrev pub order_change_of : Data → Result Act FormFault
 order_change_of d = do
   order ← field as_n32 (codes "order") d
   item ← field as_n16 (codes "item") d
@@ -93,28 +77,28 @@ order_change_of d = do
   dept ← field as_n16 (codes "dept") d
   object ← field as_n16 (codes "object") d
   by ← field as_by (codes "by") d
-  Ok (record { order = order; item = item; fund = fund; dept = dept; object = object; by = by })
+  Ok (ChangeOrder (record { order = order; item = item; fund = fund; dept = dept; object = object; by = by }))
 
 -- an absent `back` is false
-abbrev pub new_voucher_of : Data → Result NewVoucher FormFault
+abbrev pub new_voucher_of : Data → Result Act FormFault
 new_voucher_of d = do
   vendor ← field as_n32 (codes "vendor") d
   back ← optional as_bool (codes "back") d
   items ← field as_voucher_items (codes "items") d
-  Ok (record { vendor = vendor; back = unwrap_or back false; items = items })
+  Ok (Voucher (record { vendor = vendor; back = unwrap_or back false; items = items }))
 
-abbrev pub payment_of : Data → Result Payment FormFault
+abbrev pub payment_of : Data → Result Act FormFault
 payment_of d = do
   vouchers ← field as_vouchers (codes "vouchers") d
-  Ok (record { vouchers = vouchers })
+  Ok (Pay (record { vouchers = vouchers }))
 
-abbrev pub new_bill_of : Data → Result NewBill FormFault
+abbrev pub new_bill_of : Data → Result Act FormFault
 new_bill_of d = do
   source ← field as_n16 (codes "source") d
   levy_year ← field as_year (codes "levy_year") d
   payer ← field as_n32 (codes "payer") d
   amount ← field as_count (codes "amount") d
-  Ok (record { source = source; levy_year = levy_year; payer = payer; amount = amount })
+  Ok (Bill (record { source = source; levy_year = levy_year; payer = payer; amount = amount }))
 
 abbrev pub bill_amount_of : Data → Result BillAmount FormFault
 bill_amount_of d = do
@@ -122,31 +106,31 @@ bill_amount_of d = do
   amount ← field as_count (codes "amount") d
   Ok (record { bill = bill; amount = amount })
 
-abbrev pub receipt_of : Data → Result SourceAmount FormFault
+abbrev pub receipt_of : Data → Result Act FormFault
 receipt_of d = do
   source ← field as_n16 (codes "source") d
   amount ← field as_count (codes "amount") d
-  Ok (record { source = source; amount = amount })
+  Ok (Receive (record { source = source; amount = amount }))
 
-abbrev pub donation_of : Data → Result AssetAct FormFault
+abbrev pub donation_of : Data → Result Act FormFault
 donation_of d = do
   dept ← field as_n16 (codes "dept") d
   object ← field as_n16 (codes "object") d
   amount ← field as_count (codes "amount") d
-  Ok (Donate (record { dept = dept; object = object; amount = amount }))
+  Ok (Asset (Donate (record { dept = dept; object = object; amount = amount })))
 
-abbrev pub disposal_of : Data → Result AssetAct FormFault
+abbrev pub disposal_of : Data → Result Act FormFault
 disposal_of d = do
   asset ← field as_n32 (codes "asset") d
   fund ← field as_n16 (codes "fund") d
   proceeds ← field as_count (codes "proceeds") d
-  Ok (Dispose (record { asset = asset; fund = fund; proceeds = proceeds }))
+  Ok (Asset (Dispose (record { asset = asset; fund = fund; proceeds = proceeds })))
 
-abbrev pub asset_act_by : AssetWord → Data → Result AssetAct FormFault
+abbrev pub asset_act_by : AssetWord → Data → Result Act FormFault
 asset_act_by asset.Donate d = donation_of d
 asset_act_by asset.Dispose d = disposal_of d
 
-abbrev pub asset_act_of : Data → Result AssetAct FormFault
+abbrev pub asset_act_of : Data → Result Act FormFault
 asset_act_of d = field (as_word asset_words) (codes "what") d >>= (λ what. asset_act_by what d)
 
 -- an amount's rate and payments: the principals come to the amount, and the last payment is due by the end of 2199
@@ -162,15 +146,16 @@ schedule_of on fund amount d = do
   Ok (record { fund = fund; amount = amount; rate_bp = rate_bp; every = every; principals = principals })
 
 -- the day of the month is at most 28
-abbrev pub issue_of : Day → Data → Result BondIssue FormFault
+abbrev pub issue_of : Day → Data → Result Act FormFault
 issue_of on d = do
   _ ← must (nat_le on.day 28) (codes "on")
   fund ← field as_n16 (codes "fund") d
   amount ← field as_count (codes "amount") d
-  schedule_of on fund amount d
+  issue ← schedule_of on fund amount d
+  Ok (Issue issue)
 
 -- the same, and the term is above 12 months (GASB Statement 87: a shorter lease is no lease liability)
-abbrev pub lease_of : Day → Data → Result NewLease FormFault
+abbrev pub lease_of : Day → Data → Result Act FormFault
 lease_of on d = do
   _ ← must (nat_le on.day 28) (codes "on")
   vendor ← field as_n32 (codes "vendor") d
@@ -180,16 +165,16 @@ lease_of on d = do
   amount ← field as_count (codes "amount") d
   s ← schedule_of on fund amount d
   _ ← must (nat_lt 12 (s.every * length s.principals)) (codes "principals")
-  Ok (record { vendor = vendor; account = record { fund = s.fund; dept = dept; object = object; amount = s.amount }; rate_bp = s.rate_bp; every = s.every; principals = s.principals })
+  Ok (Lease (record { vendor = vendor; account = record { fund = s.fund; dept = dept; object = object; amount = s.amount }; rate_bp = s.rate_bp; every = s.every; principals = s.principals }))
 
-abbrev pub debt_payment_of : Data → Result DebtPayment FormFault
+abbrev pub debt_payment_of : Data → Result Act FormFault
 debt_payment_of d = do
   bond ← field as_n32 (codes "bond") d
   fund ← field as_n16 (codes "fund") d
   dept ← field as_n16 (codes "dept") d
   principal ← field as_n16 (codes "principal") d
   interest ← field as_n16 (codes "interest") d
-  Ok (record { bond = bond; fund = fund; dept = dept; principal = principal; interest = interest })
+  Ok (PayDue (record { bond = bond; fund = fund; dept = dept; principal = principal; interest = interest }))
 
 abbrev pub leave_amount_of : Data → Result LeaveAmount FormFault
 leave_amount_of d = do
@@ -206,54 +191,54 @@ maturity_of d = do
   amount ← field as_count (codes "amount") d
   Ok (record { fund = fund; dept = dept; object = object; amount = amount })
 
-abbrev pub leave_act_by : LeaveWord → Data → Result LeaveAct FormFault
-leave_act_by leave.Earn d = leave_amount_of d >>= (λ a. Ok (Earn a))
-leave_act_by leave.Use d = leave_amount_of d >>= (λ a. Ok (Use a))
-leave_act_by leave.Mature d = maturity_of d >>= (λ m. Ok (Mature m))
+abbrev pub leave_act_by : LeaveWord → Data → Result Act FormFault
+leave_act_by leave.Earn d = leave_amount_of d >>= (λ a. Ok (Leave (Earn a)))
+leave_act_by leave.Use d = leave_amount_of d >>= (λ a. Ok (Leave (Use a)))
+leave_act_by leave.Mature d = maturity_of d >>= (λ m. Ok (Leave (Mature m)))
 
-abbrev pub leave_act_of : Data → Result LeaveAct FormFault
+abbrev pub leave_act_of : Data → Result Act FormFault
 leave_act_of d = field (as_word leave_words) (codes "what") d >>= (λ what. leave_act_by what d)
 
-abbrev pub fund_move_of : Data → Result FundMove FormFault
+abbrev pub fund_move_of : Data → Result Act FormFault
 fund_move_of d = do
   what ← field (as_word move_words) (codes "what") d
   from ← field as_n16 (codes "from") d
   to ← field as_n16 (codes "to") d
   _ ← must (not (from == to)) (codes "to")
   amount ← field as_count (codes "amount") d
-  Ok (record { what = what; from = from; to = to; amount = amount })
+  Ok (Interfund (record { what = what; from = from; to = to; amount = amount }))
 
-abbrev pub period_by : PeriodWord → Data → Result Period FormFault
-period_by closed.Month d = field as_month (codes "month") d >>= (λ m. Ok (period.Month m))
-period_by closed.Year d = field as_year (codes "year") d >>= (λ y. Ok (period.Year y))
+abbrev pub period_by : PeriodWord → Data → Result Act FormFault
+period_by closed.Month d = field as_month (codes "month") d >>= (λ m. Ok (Close (period.Month m)))
+period_by closed.Year d = field as_year (codes "year") d >>= (λ y. Ok (Close (period.Year y)))
 
-abbrev pub period_of : Data → Result Period FormFault
+abbrev pub period_of : Data → Result Act FormFault
 period_of d = field (as_word period_words) (codes "what") d >>= (λ what. period_by what d)
 
 -- the act of a changing call on a day
 abbrev pub act_of : ActKind → Day → Data → Result Act FormFault
-act_of word.Adopt on d = adoption_of d >>= (λ a. Ok (Adopt a))
-act_of word.Amend on d = amendment_of d >>= (λ a. Ok (Amend a))
-act_of word.Transfer on d = transfer_of d >>= (λ t. Ok (Transfer t))
-act_of word.Requisition on d = new_requisition_of d >>= (λ r. Ok (Requisition r))
+act_of word.Adopt on d = adoption_of d
+act_of word.Amend on d = amendment_of d
+act_of word.Transfer on d = transfer_of d
+act_of word.Requisition on d = new_requisition_of d
 act_of word.Withdraw on d = field as_n32 (codes "requisition") d >>= (λ n. Ok (Withdraw n))
-act_of word.Order on d = new_order_of d >>= (λ p. Ok (Order p))
-act_of word.ChangeOrder on d = order_change_of d >>= (λ c. Ok (ChangeOrder c))
+act_of word.Order on d = new_order_of d
+act_of word.ChangeOrder on d = order_change_of d
 act_of word.CancelOrder on d = field as_n32 (codes "order") d >>= (λ n. Ok (CancelOrder n))
-act_of word.Voucher on d = new_voucher_of d >>= (λ i. Ok (Voucher i))
+act_of word.Voucher on d = new_voucher_of d
 act_of word.VoidVoucher on d = field as_n32 (codes "voucher") d >>= (λ n. Ok (VoidVoucher n))
-act_of word.Pay on d = payment_of d >>= (λ p. Ok (Pay p))
-act_of word.Bill on d = new_bill_of d >>= (λ l. Ok (Bill l))
+act_of word.Pay on d = payment_of d
+act_of word.Bill on d = new_bill_of d
 act_of word.Collect on d = bill_amount_of d >>= (λ b. Ok (Collect b))
-act_of word.Receive on d = receipt_of d >>= (λ r. Ok (Receive r))
+act_of word.Receive on d = receipt_of d
 act_of word.WriteOff on d = bill_amount_of d >>= (λ b. Ok (WriteOff b))
-act_of word.Asset on d = asset_act_of d >>= (λ a. Ok (Asset a))
-act_of word.Issue on d = issue_of on d >>= (λ i. Ok (Issue i))
-act_of word.PayDue on d = debt_payment_of d >>= (λ p. Ok (PayDue p))
-act_of word.Leave on d = leave_act_of d >>= (λ l. Ok (Leave l))
-act_of word.Interfund on d = fund_move_of d >>= (λ m. Ok (Interfund m))
-act_of word.Close on d = period_of d >>= (λ p. Ok (Close p))
-act_of word.Lease on d = lease_of on d >>= (λ l. Ok (Lease l))
+act_of word.Asset on d = asset_act_of d
+act_of word.Issue on d = issue_of on d
+act_of word.PayDue on d = debt_payment_of d
+act_of word.Leave on d = leave_act_of d
+act_of word.Interfund on d = fund_move_of d
+act_of word.Close on d = period_of d
+act_of word.Lease on d = lease_of on d
 
 -- the fields of an act, beside those that every changing call has
 abbrev pub own_names : Act → List (List ℕ)

@@ -1,9 +1,9 @@
 //! The readers of the changing calls: the fields of each in order, with the rules of form where they speak.
 
-ghost use Rattle.std.specs.Prelude.{◌≡◌, ◌≢◌, ◌≤◌, ◌+◌, ◌*◌, true, nat_le, nat_lt, sum, length, map, IfOk};
+ghost use Rattle.std.specs.Prelude.{◌≡◌, ◌≤◌, ◌+◌, ◌*◌, nat_le, nat_lt, sum, length, map, IfOk};
 ghost use Rattle.cf_base.specs.Limits.{last_year};
 ghost use Rattle.serde_json.specs.View.{view};
-ghost use Rattle.cf_calls.specs.Form.{IsAdoptionForm, IsCount, IsYear, IsIssueForm, IsLeaseForm, IsVoucherForm, IsPeriodForm, IsActInForm, is_by, is_distinct, is_period, month_number, same_number};
+ghost use Rattle.cf_calls.specs.Form.{IsIssueForm, IsActInForm, is_period, month_number};
 ghost use Rattle.cf_members.specs.Faults.{Gives};
 ghost use Rattle.cf_json.specs.Acts as spec;
 
@@ -24,41 +24,41 @@ use cf_members::lists::list;
 use serde_json::Value;
 use std::alloc::Global;
 
-fn adoption(alloc: Global, value: &Value) -> Result<Adoption, CallRefused>
+fn adoption(alloc: Global, value: &Value) -> Result<Act, CallRefused>
     ensures answer { Gives result (spec.adoption_of (view value.now)) }
-    ensures form { IfOk result IsAdoptionForm }
+    ensures form { (on : Day) → IfOk result (IsActInForm on) }
 {
     let fund = need::<N16>(alloc, value, "fund")?;
     let year = need::<Year>(alloc, value, "year")?;
     let lines = list::<LineItem>(alloc, value, "lines", 0, 4096)?;
     let estimates = list::<SourceItem>(alloc, value, "estimates", 0, 256)?;
-    Ok(Adoption {
+    Ok(Act::Adopt(Adoption {
         fund,
         year,
         lines,
         estimates,
-    })
+    }))
 }
 
-fn amendment(alloc: Global, value: &Value) -> Result<Amendment, CallRefused>
+fn amendment(alloc: Global, value: &Value) -> Result<Act, CallRefused>
     ensures answer { Gives result (spec.amendment_of (view value.now)) }
-    ensures form { IfOk result (λ a. IsYear a.year × (is_by a.by ≡ true)) }
+    ensures form { (on : Day) → IfOk result (IsActInForm on) }
 {
     let fund = need::<N16>(alloc, value, "fund")?;
     let year = need::<Year>(alloc, value, "year")?;
     let line = need::<N16>(alloc, value, "line")?;
     let by = need::<By>(alloc, value, "by")?;
-    Ok(Amendment {
+    Ok(Act::Amend(Amendment {
         fund,
         year,
         line,
         by,
-    })
+    }))
 }
 
-fn transfer(alloc: Global, value: &Value) -> Result<LineTransfer, CallRefused>
+fn transfer(alloc: Global, value: &Value) -> Result<Act, CallRefused>
     ensures answer { Gives result (spec.transfer_of (view value.now)) }
-    ensures form { IfOk result (λ t. IsYear t.year × (t.from ≢ t.to)) }
+    ensures form { (on : Day) → IfOk result (IsActInForm on) }
 {
     let fund = need::<N16>(alloc, value, "fund")?;
     let year = need::<Year>(alloc, value, "year")?;
@@ -66,40 +66,40 @@ fn transfer(alloc: Global, value: &Value) -> Result<LineTransfer, CallRefused>
     let to = need::<N16>(alloc, value, "to")?;
     must(alloc, from != to, "to")?;
     let amount = need::<Count>(alloc, value, "amount")?;
-    Ok(LineTransfer {
+    Ok(Act::Transfer(LineTransfer {
         fund,
         year,
         from,
         to,
         amount,
-    })
+    }))
 }
 
-fn new_requisition(alloc: Global, value: &Value) -> Result<NewRequisition, CallRefused>
+fn new_requisition(alloc: Global, value: &Value) -> Result<Act, CallRefused>
     ensures answer { Gives result (spec.new_requisition_of (view value.now)) }
-    ensures form { IfOk result (λ r. IsCount 1 32 (length r.items)) }
+    ensures form { (on : Day) → IfOk result (IsActInForm on) }
 {
     let items = list::<PlainItem>(alloc, value, "items", 1, 32)?;
-    Ok(NewRequisition { items })
+    Ok(Act::Requisition(NewRequisition { items }))
 }
 
-fn new_order(alloc: Global, value: &Value) -> Result<NewOrder, CallRefused>
+fn new_order(alloc: Global, value: &Value) -> Result<Act, CallRefused>
     ensures answer { Gives result (spec.new_order_of (view value.now)) }
-    ensures form { IfOk result (λ p. IsCount 1 32 (length p.items)) }
+    ensures form { (on : Day) → IfOk result (IsActInForm on) }
 {
     let vendor = need::<N32>(alloc, value, "vendor")?;
     let requisition = may::<N32>(alloc, value, "requisition")?;
     let items = list::<PlainItem>(alloc, value, "items", 1, 32)?;
-    Ok(NewOrder {
+    Ok(Act::Order(NewOrder {
         vendor,
         requisition,
         items,
-    })
+    }))
 }
 
-fn order_change(alloc: Global, value: &Value) -> Result<OrderChange, CallRefused>
+fn order_change(alloc: Global, value: &Value) -> Result<Act, CallRefused>
     ensures answer { Gives result (spec.order_change_of (view value.now)) }
-    ensures form { IfOk result (λ c. (1 ≤ c.item) × (is_by c.by ≡ true)) }
+    ensures form { (on : Day) → IfOk result (IsActInForm on) }
 {
     let order = need::<N32>(alloc, value, "order")?;
     let item = need::<N16>(alloc, value, "item")?;
@@ -108,52 +108,52 @@ fn order_change(alloc: Global, value: &Value) -> Result<OrderChange, CallRefused
     let dept = need::<N16>(alloc, value, "dept")?;
     let object = need::<N16>(alloc, value, "object")?;
     let by = need::<By>(alloc, value, "by")?;
-    Ok(OrderChange {
+    Ok(Act::ChangeOrder(OrderChange {
         order,
         item,
         fund,
         dept,
         object,
         by,
-    })
+    }))
 }
 
-fn new_voucher(alloc: Global, value: &Value) -> Result<NewVoucher, CallRefused>
+fn new_voucher(alloc: Global, value: &Value) -> Result<Act, CallRefused>
     ensures answer { Gives result (spec.new_voucher_of (view value.now)) }
-    ensures form { IfOk result (λ i. IsVoucherForm i.items) }
+    ensures form { (on : Day) → IfOk result (IsActInForm on) }
 {
     let vendor = need::<N32>(alloc, value, "vendor")?;
     let back = may::<Flag>(alloc, value, "back")?.unwrap_or(false);
     let items = list::<ChargedItem>(alloc, value, "items", 1, 32)?;
-    Ok(NewVoucher {
+    Ok(Act::Voucher(NewVoucher {
         vendor,
         back,
         items,
-    })
+    }))
 }
 
-fn payment(alloc: Global, value: &Value) -> Result<Payment, CallRefused>
+fn payment(alloc: Global, value: &Value) -> Result<Act, CallRefused>
     ensures answer { Gives result (spec.payment_of (view value.now)) }
-    ensures form { IfOk result (λ p. IsCount 1 64 (length p.vouchers) × (is_distinct same_number p.vouchers ≡ true)) }
+    ensures form { (on : Day) → IfOk result (IsActInForm on) }
 {
     let vouchers = list::<VoucherNumber>(alloc, value, "vouchers", 1, 64)?;
-    Ok(Payment { vouchers })
+    Ok(Act::Pay(Payment { vouchers }))
 }
 
-fn new_bill(alloc: Global, value: &Value) -> Result<NewBill, CallRefused>
+fn new_bill(alloc: Global, value: &Value) -> Result<Act, CallRefused>
     ensures answer { Gives result (spec.new_bill_of (view value.now)) }
-    ensures form { IfOk result (λ l. IsYear l.levy_year) }
+    ensures form { (on : Day) → IfOk result (IsActInForm on) }
 {
     let source = need::<N16>(alloc, value, "source")?;
     let levy_year = need::<Year>(alloc, value, "levy_year")?;
     let payer = need::<N32>(alloc, value, "payer")?;
     let amount = need::<Count>(alloc, value, "amount")?;
-    Ok(NewBill {
+    Ok(Act::Bill(NewBill {
         source,
         levy_year,
         payer,
         amount,
-    })
+    }))
 }
 
 fn bill_amount(alloc: Global, value: &Value) -> Result<BillAmount, CallRefused>
@@ -164,42 +164,46 @@ fn bill_amount(alloc: Global, value: &Value) -> Result<BillAmount, CallRefused>
     Ok(BillAmount { bill, amount })
 }
 
-fn receipt(alloc: Global, value: &Value) -> Result<SourceAmount, CallRefused>
-    ensures { Gives result (spec.receipt_of (view value.now)) }
+fn receipt(alloc: Global, value: &Value) -> Result<Act, CallRefused>
+    ensures answer { Gives result (spec.receipt_of (view value.now)) }
+    ensures form { (on : Day) → IfOk result (IsActInForm on) }
 {
     let source = need::<N16>(alloc, value, "source")?;
     let amount = need::<Count>(alloc, value, "amount")?;
-    Ok(SourceAmount { source, amount })
+    Ok(Act::Receive(SourceAmount { source, amount }))
 }
 
-fn donation(alloc: Global, value: &Value) -> Result<AssetAct, CallRefused>
-    ensures { Gives result (spec.donation_of (view value.now)) }
+fn donation(alloc: Global, value: &Value) -> Result<Act, CallRefused>
+    ensures answer { Gives result (spec.donation_of (view value.now)) }
+    ensures form { (on : Day) → IfOk result (IsActInForm on) }
 {
     let dept = need::<N16>(alloc, value, "dept")?;
     let object = need::<N16>(alloc, value, "object")?;
     let amount = need::<Count>(alloc, value, "amount")?;
-    Ok(AssetAct::Donate(Donation {
+    Ok(Act::Asset(AssetAct::Donate(Donation {
         dept,
         object,
         amount,
-    }))
+    })))
 }
 
-fn disposal(alloc: Global, value: &Value) -> Result<AssetAct, CallRefused>
-    ensures { Gives result (spec.disposal_of (view value.now)) }
+fn disposal(alloc: Global, value: &Value) -> Result<Act, CallRefused>
+    ensures answer { Gives result (spec.disposal_of (view value.now)) }
+    ensures form { (on : Day) → IfOk result (IsActInForm on) }
 {
     let asset = need::<N32>(alloc, value, "asset")?;
     let fund = need::<N16>(alloc, value, "fund")?;
     let proceeds = need::<Count>(alloc, value, "proceeds")?;
-    Ok(AssetAct::Dispose(Disposal {
+    Ok(Act::Asset(AssetAct::Dispose(Disposal {
         asset,
         fund,
         proceeds,
-    }))
+    })))
 }
 
-fn asset_act(alloc: Global, value: &Value) -> Result<AssetAct, CallRefused>
-    ensures { Gives result (spec.asset_act_of (view value.now)) }
+fn asset_act(alloc: Global, value: &Value) -> Result<Act, CallRefused>
+    ensures answer { Gives result (spec.asset_act_of (view value.now)) }
+    ensures form { (on : Day) → IfOk result (IsActInForm on) }
 {
     match need::<AssetWord>(alloc, value, "what")? {
         AssetWord::Donate => donation(alloc, value),
@@ -268,14 +272,14 @@ fn schedule(
     })
 }
 
-fn issue(alloc: Global, on: Day, value: &Value) -> Result<BondIssue, CallRefused>
+fn issue(alloc: Global, on: Day, value: &Value) -> Result<Act, CallRefused>
     ensures answer { Gives result (spec.issue_of on (view value.now)) }
-    ensures form { IfOk result (IsIssueForm on) }
+    ensures form { IfOk result (IsActInForm on) }
 {
     must(alloc, on.day <= 28, "on")?;
     let fund = need::<N16>(alloc, value, "fund")?;
     let amount = need::<Count>(alloc, value, "amount")?;
-    schedule(alloc, on, fund, amount, value)
+    Ok(Act::Issue(schedule(alloc, on, fund, amount, value)?))
 }
 
 /// Whether so many payments, `every` months apart, are for more than a year.
@@ -286,9 +290,9 @@ fn is_above_a_year(every: u16, payments: usize) -> bool
     u32::from(every) * (payments as u32) > 12
 }
 
-fn lease(alloc: Global, on: Day, value: &Value) -> Result<NewLease, CallRefused>
+fn lease(alloc: Global, on: Day, value: &Value) -> Result<Act, CallRefused>
     ensures answer { Gives result (spec.lease_of on (view value.now)) }
-    ensures form { IfOk result (IsLeaseForm on) }
+    ensures form { IfOk result (IsActInForm on) }
 {
     must(alloc, on.day <= 28, "on")?;
     let vendor = need::<N32>(alloc, value, "vendor")?;
@@ -314,30 +318,31 @@ fn lease(alloc: Global, on: Day, value: &Value) -> Result<NewLease, CallRefused>
         object,
         amount,
     };
-    Ok(NewLease {
+    Ok(Act::Lease(NewLease {
         vendor,
         account,
         rate_bp,
         every,
         principals,
-    })
+    }))
 }
 
-fn debt_payment(alloc: Global, value: &Value) -> Result<DebtPayment, CallRefused>
-    ensures { Gives result (spec.debt_payment_of (view value.now)) }
+fn debt_payment(alloc: Global, value: &Value) -> Result<Act, CallRefused>
+    ensures answer { Gives result (spec.debt_payment_of (view value.now)) }
+    ensures form { (on : Day) → IfOk result (IsActInForm on) }
 {
     let bond = need::<N32>(alloc, value, "bond")?;
     let fund = need::<N16>(alloc, value, "fund")?;
     let dept = need::<N16>(alloc, value, "dept")?;
     let principal = need::<N16>(alloc, value, "principal")?;
     let interest = need::<N16>(alloc, value, "interest")?;
-    Ok(DebtPayment {
+    Ok(Act::PayDue(DebtPayment {
         bond,
         fund,
         dept,
         principal,
         interest,
-    })
+    }))
 }
 
 fn leave_amount(alloc: Global, value: &Value) -> Result<LeaveAmount, CallRefused>
@@ -364,40 +369,43 @@ fn maturity(alloc: Global, value: &Value) -> Result<LeaveMaturity, CallRefused>
     })
 }
 
-fn leave_act(alloc: Global, value: &Value) -> Result<LeaveAct, CallRefused>
-    ensures { Gives result (spec.leave_act_of (view value.now)) }
+fn leave_act(alloc: Global, value: &Value) -> Result<Act, CallRefused>
+    ensures answer { Gives result (spec.leave_act_of (view value.now)) }
+    ensures form { (on : Day) → IfOk result (IsActInForm on) }
 {
     match need::<LeaveWord>(alloc, value, "what")? {
-        LeaveWord::Earn => Ok(LeaveAct::Earn(leave_amount(alloc, value)?)),
-        LeaveWord::Use => Ok(LeaveAct::Use(leave_amount(alloc, value)?)),
-        LeaveWord::Mature => Ok(LeaveAct::Mature(maturity(alloc, value)?)),
+        LeaveWord::Earn => Ok(Act::Leave(LeaveAct::Earn(leave_amount(alloc, value)?))),
+        LeaveWord::Use => Ok(Act::Leave(LeaveAct::Use(leave_amount(alloc, value)?))),
+        LeaveWord::Mature => Ok(Act::Leave(LeaveAct::Mature(maturity(alloc, value)?))),
     }
 }
 
-fn fund_move(alloc: Global, value: &Value) -> Result<FundMove, CallRefused>
+fn fund_move(alloc: Global, value: &Value) -> Result<Act, CallRefused>
     ensures answer { Gives result (spec.fund_move_of (view value.now)) }
-    ensures form { IfOk result (λ m. m.from ≢ m.to) }
+    ensures form { (on : Day) → IfOk result (IsActInForm on) }
 {
     let what = need::<MoveWord>(alloc, value, "what")?;
     let from = need::<N16>(alloc, value, "from")?;
     let to = need::<N16>(alloc, value, "to")?;
     must(alloc, from != to, "to")?;
     let amount = need::<Count>(alloc, value, "amount")?;
-    Ok(FundMove {
+    Ok(Act::Interfund(FundMove {
         what,
         from,
         to,
         amount,
-    })
+    }))
 }
 
-fn period(alloc: Global, value: &Value) -> Result<Period, CallRefused>
+fn period(alloc: Global, value: &Value) -> Result<Act, CallRefused>
     ensures answer { Gives result (spec.period_of (view value.now)) }
-    ensures form { IfOk result IsPeriodForm }
+    ensures form { (on : Day) → IfOk result (IsActInForm on) }
 {
     match need::<PeriodWord>(alloc, value, "what")? {
-        PeriodWord::Month => Ok(Period::Month(need::<MonthText>(alloc, value, "month")?)),
-        PeriodWord::Year => Ok(Period::Year(need::<Year>(alloc, value, "year")?)),
+        PeriodWord::Month => Ok(Act::Close(Period::Month(need::<MonthText>(
+            alloc, value, "month",
+        )?))),
+        PeriodWord::Year => Ok(Act::Close(Period::Year(need::<Year>(alloc, value, "year")?))),
     }
 }
 
@@ -407,28 +415,28 @@ pub fn act_of(alloc: Global, word: ActKind, on: Day, value: &Value) -> Result<Ac
     ensures form { IfOk result (IsActInForm on) }
 {
     match word {
-        ActKind::Adopt => Ok(Act::Adopt(adoption(alloc, value)?)),
-        ActKind::Amend => Ok(Act::Amend(amendment(alloc, value)?)),
-        ActKind::Transfer => Ok(Act::Transfer(transfer(alloc, value)?)),
-        ActKind::Requisition => Ok(Act::Requisition(new_requisition(alloc, value)?)),
+        ActKind::Adopt => adoption(alloc, value),
+        ActKind::Amend => amendment(alloc, value),
+        ActKind::Transfer => transfer(alloc, value),
+        ActKind::Requisition => new_requisition(alloc, value),
         ActKind::Withdraw => Ok(Act::Withdraw(need::<N32>(alloc, value, "requisition")?)),
-        ActKind::Order => Ok(Act::Order(new_order(alloc, value)?)),
-        ActKind::ChangeOrder => Ok(Act::ChangeOrder(order_change(alloc, value)?)),
+        ActKind::Order => new_order(alloc, value),
+        ActKind::ChangeOrder => order_change(alloc, value),
         ActKind::CancelOrder => Ok(Act::CancelOrder(need::<N32>(alloc, value, "order")?)),
-        ActKind::Voucher => Ok(Act::Voucher(new_voucher(alloc, value)?)),
+        ActKind::Voucher => new_voucher(alloc, value),
         ActKind::VoidVoucher => Ok(Act::VoidVoucher(need::<N32>(alloc, value, "voucher")?)),
-        ActKind::Pay => Ok(Act::Pay(payment(alloc, value)?)),
-        ActKind::Bill => Ok(Act::Bill(new_bill(alloc, value)?)),
+        ActKind::Pay => payment(alloc, value),
+        ActKind::Bill => new_bill(alloc, value),
         ActKind::Collect => Ok(Act::Collect(bill_amount(alloc, value)?)),
-        ActKind::Receive => Ok(Act::Receive(receipt(alloc, value)?)),
+        ActKind::Receive => receipt(alloc, value),
         ActKind::WriteOff => Ok(Act::WriteOff(bill_amount(alloc, value)?)),
-        ActKind::Asset => Ok(Act::Asset(asset_act(alloc, value)?)),
-        ActKind::Issue => Ok(Act::Issue(issue(alloc, on, value)?)),
-        ActKind::PayDue => Ok(Act::PayDue(debt_payment(alloc, value)?)),
-        ActKind::Leave => Ok(Act::Leave(leave_act(alloc, value)?)),
-        ActKind::Interfund => Ok(Act::Interfund(fund_move(alloc, value)?)),
-        ActKind::Close => Ok(Act::Close(period(alloc, value)?)),
-        ActKind::Lease => Ok(Act::Lease(lease(alloc, on, value)?)),
+        ActKind::Asset => asset_act(alloc, value),
+        ActKind::Issue => issue(alloc, on, value),
+        ActKind::PayDue => debt_payment(alloc, value),
+        ActKind::Leave => leave_act(alloc, value),
+        ActKind::Interfund => fund_move(alloc, value),
+        ActKind::Close => period(alloc, value),
+        ActKind::Lease => lease(alloc, on, value),
     }
 }
 

@@ -1,8 +1,9 @@
 //! What stands in the lists of a call.
 
-ghost use Rattle.std.specs.Prelude.{◌≡◌, true, Some, None, refl};
+ghost use Rattle.std.specs.Prelude.{◌≡◌, true, Some, None, IfSome, refl};
 ghost use Rattle.serde_json.specs.View.{view};
-ghost use Rattle.cf_calls.specs.Form.{same_line, same_source, same_number, same_order_item, is_charge_form};
+ghost use Rattle.cf_base.specs.Money.{is_amount};
+ghost use Rattle.cf_calls.specs.Form.{same_line, same_source, same_number, same_order_item, is_liquidation_form, is_charge_form};
 ghost use Rattle.cf_members.specs.Kinds.{as_n32, as_count};
 ghost use Rattle.cf_distinct.specs.Charges.{charged_item, same_charged};
 ghost use Rattle.cf_json.specs.Items as spec;
@@ -26,7 +27,8 @@ fn part<K: FieldKind>(value: &Value, name: &str) -> Option<K::Out>
 
 /// A field of an item that may be absent.
 fn maybe_part<K: FieldKind>(value: &Value, name: &str) -> Option<Option<K::Out>>
-    ensures { result ≡ spec.maybe_part K.kind name.now (view value.now) }
+    ensures answer { result ≡ spec.maybe_part K.kind name.now (view value.now) }
+    ensures form { IfSome result (λ o. IfSome o K.fits) }
 {
     match value.get(name) {
         Some(found) => match K::read(found) {
@@ -147,7 +149,9 @@ impl Item for PlainItem {
 
 /// How much of an order item is liquidated: at most one of the two is given.
 fn liquidation(recorded: Option<u64>, is_final: bool) -> Option<Liquidation>
-    ensures { result ≡ spec.liquidation_of recorded is_final }
+    requires { IfSome recorded (λ r. is_amount r ≡ true) }
+    ensures answer { result ≡ spec.liquidation_of recorded is_final }
+    ensures form { IfSome result (λ l. is_liquidation_form l ≡ true) }
 {
     match recorded {
         None => Some(if is_final {
@@ -170,7 +174,9 @@ fn charge_of(
     recorded: Option<u64>,
     is_final: bool,
 ) -> Option<Charge>
-    ensures { result ≡ spec.charge_of order item recorded is_final }
+    requires { IfSome recorded (λ r. is_amount r ≡ true) }
+    ensures answer { result ≡ spec.charge_of order item recorded is_final }
+    ensures form { IfSome result (λ c. is_charge_form c ≡ true) }
 {
     match (order, item) {
         (None, None) => (recorded.is_none() && !is_final).then_some(Charge::Direct),
@@ -183,7 +189,8 @@ fn charge_of(
 }
 
 fn charge(value: &Value) -> Option<Charge>
-    ensures { result ≡ spec.as_charge (view value.now) }
+    ensures answer { result ≡ spec.as_charge (view value.now) }
+    ensures form { IfSome result (λ c. is_charge_form c ≡ true) }
 {
     let order = maybe_part::<N32>(value, "order")?;
     let item = maybe_part::<N16>(value, "item")?;
