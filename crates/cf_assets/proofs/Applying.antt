@@ -25,6 +25,7 @@ use Rattle.cf_model.specs.Documents.{is_number}
 use Rattle.cf_model.specs.RegisterRules.{voided_asset, disposed_asset, asset_refusal}
 use Rattle.cf_model.specs.Registers.{Registers, no_registers}
 use Rattle.cf_model.specs.Rules.{Amount, amount, bad_amount, first_refusal, refuse_if, or_else}
+use Rattle.cf_rows.specs.Limits.{most_cents}
 
 -- registers with these assets
 with_assets : Register → Registers
@@ -66,21 +67,21 @@ close_step plan closed on a p drawn assets is = sym (ap (λ b. map (asset_step p
 
 -- ---- amounts
 
-in_range : (n : ℕ) → bad_amount (amount n) ≡ None → n ≤ 10000000000000
-in_range n e = most n (refused (nat_le 1 n && nat_le n 10000000000000) e)
+in_range : (n : ℕ) → bad_amount (amount n) ≡ None → n ≤ most_cents
+in_range n e = most n (refused (nat_le 1 n && nat_le n most_cents) e)
   where
     refused : (b : Bool) → refuse_if (not b) (refusal.AmountRange n) ≡ None → b ≡ true
     refused true e = refl
     refused false e = cc
 
-    most : (n : ℕ) → (nat_le 1 n && nat_le n 10000000000000) ≡ true → n ≤ 10000000000000
+    most : (n : ℕ) → (nat_le 1 n && nat_le n most_cents) ≡ true → n ≤ most_cents
     most n e = grind (arith, common_steps)
 
 first_two : (r other : Option Refusal) → or_else r other ≡ None → (r ≡ None) × (other ≡ None)
 first_two None other e = (refl, e)
 first_two (Some r) other e = cc
 
-pub amount_most : (n : ℕ) (rest : List Amount) → first_refusal bad_amount (amount n ∷ rest) ≡ None → n ≤ 10000000000000
+pub amount_most : (n : ℕ) (rest : List Amount) → first_refusal bad_amount (amount n ∷ rest) ≡ None → n ≤ most_cents
 amount_most n rest e = in_range n ((first_two (bad_amount (amount n)) (first_refusal bad_amount rest) e).0)
 
 pub items_most : (items : List VoucherItem) → first_refusal bad_amount (map (λ i. amount i.account.amount) items) ≡ None → AreMost items

@@ -4,6 +4,7 @@ use Rattle.std.proofs.lemmas.List.Sums.{sum_by-cons}
 use Rattle.cf_rows.specs.Years.{AreYears, cell_of, with_cell}
 use Rattle.cf_rows.proofs.Cells.{year_is, years_same, years_set}
 use Rattle.cf_model.specs.Assets.{Asset}
+use Rattle.cf_rows.specs.Limits.{most_cents}
 
 -- ---- sums
 
@@ -17,7 +18,7 @@ sum_set f [] k y d l = absurd (omega arith)
 sum_set f (x ∷ xs) zero y d l = omega (arith, sum_by-cons f x xs, sum_by-cons f y xs)
 sum_set f (x ∷ xs) (suc k) y d l = omega (arith, sum_by-cons f x xs, sum_by-cons f x (set xs k y), sum_set f xs k y d (omega arith))
 
-pub sum_small : {A : Type 0} (f : A → ℕ) (xs : List A) → ((k : ℕ) (d : A) → k < length xs → f (get_or xs k d) ≤ 10000000000000) → sum_by f xs ≤ length xs * 10000000000000
+pub sum_small : {A : Type 0} (f : A → ℕ) (xs : List A) → ((k : ℕ) (d : A) → k < length xs → f (get_or xs k d) ≤ most_cents) → sum_by f xs ≤ length xs * most_cents
 sum_small f [] all = omega arith
 sum_small f (x ∷ xs) all = omega (arith, sum_by-cons f x xs, all zero x (omega arith), sum_small f xs (λ k d l. all (suc k) d (omega arith)))
 

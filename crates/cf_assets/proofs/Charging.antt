@@ -7,9 +7,10 @@ use Rattle.cf_assets.specs.Rows.{view_asset, AreSmall}
 use Rattle.cf_model.specs.Assets.{Asset, Stage, held, void, disposed, counted, depreciated, depreciation, charge}
 use Rattle.cf_model.proofs.CloseBounds.{depreciated_most}
 use Rattle.cf_model.proofs.Depreciated.{depreciated_le, not_depreciated}
+use Rattle.cf_rows.specs.Limits.{most_cents}
 
-pub fits : (cost life months : ℕ) → cost ≤ 10000000000000 → life < 65536 → cost * min months life < 18446744073709551616
-fits cost life months l m = omega (arith, mul-le cost (min months life) 10000000000000 65535 l (omega arith))
+pub fits : (cost life months : ℕ) → cost ≤ most_cents → life < 65536 → cost * min months life < 18446744073709551616
+fits cost life months l m = omega (arith, mul-le cost (min months life) most_cents 65535 l (omega arith))
 
 pub land : (cost life months : ℕ) → life ≡ 0 → 0 ≡ depreciated cost life months
 land cost zero months e = omega arith
@@ -54,7 +55,7 @@ total_next closed (a ∷ assets) =
       never_falls closed (closed + 1) a (omega arith),
     )
 
-pub total_most : (months : ℕ) (rows : List AssetRow) → AreSmall rows → sum_by (depreciation months) (map view_asset rows) ≤ length rows * 10000000000000
+pub total_most : (months : ℕ) (rows : List AssetRow) → AreSmall rows → sum_by (depreciation months) (map view_asset rows) ≤ length rows * most_cents
 total_most months [] small = omega arith
 total_most months (r ∷ rows) small =
     omega (

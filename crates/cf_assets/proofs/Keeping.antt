@@ -18,6 +18,7 @@ use Rattle.cf_rows.proofs.Cells.{years_same}
 use Rattle.cf_assets.proofs.Charging.{not_yet, never_falls, total_next, total_first, total_most}
 use Rattle.cf_model.specs.Assets.{Asset, held, counted, depreciated, depreciation, charge, Origin, purchase, gift, lease, voucher_of, is_given}
 use Rattle.cf_model.specs.Changes.{is_void, is_disposed_in}
+use Rattle.cf_rows.specs.Limits.{most_cents, most_items, most_total}
 
 pub less_or_not : (a b : ℕ) → (a < b) ⊎ (b ≤ a)
 less_or_not a b = grind arith
@@ -69,7 +70,7 @@ view_set rows k r = map-set view_asset rows k r
 pub view_at : (rows : List AssetRow) (k : ℕ) (d : AssetRow) (e : Asset) → k < length rows → get_or (map view_asset rows) k e ≡ view_asset (get_or rows k d)
 view_at rows k d e l = get_or-map view_asset rows k d e l
 
-pub costs : (closed : ℕ) (rows : List AssetRow) → AreRows closed rows → (k : ℕ) (d : Asset) → k < length (map view_asset rows) → (get_or (map view_asset rows) k d).cost ≤ 10000000000000
+pub costs : (closed : ℕ) (rows : List AssetRow) → AreRows closed rows → (k : ℕ) (d : Asset) → k < length (map view_asset rows) → (get_or (map view_asset rows) k d).cost ≤ most_cents
 costs closed rows all k d l =
     let m : k < length rows = rw (length-map rows view_asset) at l in
     let is : get_or (map view_asset rows) k d ≡ view_asset (get_or rows k no_row) = view_at rows k no_row d m in
@@ -97,7 +98,7 @@ book_most closed year a = by_test (is_disposed_in year a.stage)
     by_test false = omega arith
 
 -- what all assets add to a year is small
-pub year_most : (f : ℕ → Asset → ℕ) → ((year : ℕ) (a : Asset) → f year a ≤ a.cost) → (closed : ℕ) (rows : List AssetRow) → AreRows closed rows → length rows ≤ 48000000 → (year : ℕ) → sum_by (f year) (map view_asset rows) ≤ 480000000000000000000
+pub year_most : (f : ℕ → Asset → ℕ) → ((year : ℕ) (a : Asset) → f year a ≤ a.cost) → (closed : ℕ) (rows : List AssetRow) → AreRows closed rows → length rows ≤ most_items → (year : ℕ) → sum_by (f year) (map view_asset rows) ≤ most_total
 year_most f most closed rows are few year =
     omega (
       arith,
@@ -367,7 +368,7 @@ close_accumulated assets accumulated before charged are was is n l = by_place (l
         ∙ ap (λ m. sum_by (depreciation (m + 1)) assets) at
 
 -- what all assets are depreciated by after the month fits
-pub close_fits : (rows : List AssetRow) (accumulated : List ℕ) (before charged : ℕ) → length rows ≤ 48000000 → AreRows (length accumulated) rows → AreAccumulated (map view_asset rows) accumulated → before ≡ accumulated_at accumulated (length accumulated) →
+pub close_fits : (rows : List AssetRow) (accumulated : List ℕ) (before charged : ℕ) → length rows ≤ most_items → AreRows (length accumulated) rows → AreAccumulated (map view_asset rows) accumulated → before ≡ accumulated_at accumulated (length accumulated) →
     charged ≡ sum_by (charge (length accumulated)) (map view_asset rows) → before + charged < 340282366920938463463374607431768211456
 close_fits rows accumulated before charged few are is was so =
     omega (

@@ -26,6 +26,7 @@ use Rattle.cf_model.specs.Rules.{first_refusal, refuse_if}
 use Rattle.cf_model.proofs.First.{or_else_none, refuse_none}
 use Rattle.cf_model.proofs.Lawful.{passed}
 use Rattle.cf_model.proofs.Totals.{all_so}
+use Rattle.cf_rows.specs.Limits.{most_cents}
 
 -- ---- sums that a step leaves, or that new assets leave
 
@@ -259,12 +260,12 @@ pub amortized_least : (months : ℕ) (assets : List Asset) → sum_by (amortizat
 amortized_least months [] = omega arith
 amortized_least months (a ∷ assets) = omega (arith, sum_by-cons (amortization months) a assets, sum_by-cons (depreciation months) a assets, amortization_most months a, amortized_least months assets)
 
-pub amortized_most : (months : ℕ) (assets : List Asset) → AreCheap assets → sum_by (amortization months) assets ≤ length assets * 10000000000000
+pub amortized_most : (months : ℕ) (assets : List Asset) → AreCheap assets → sum_by (amortization months) assets ≤ length assets * most_cents
 amortized_most months [] cheap = omega arith
 amortized_most months (a ∷ assets) cheap =
     omega (arith, sum_by-cons (amortization months) a assets, amortization_most months a, depreciation_most months a, cheap zero a (omega arith), amortized_most months assets (λ k d l. cheap (suc k) d (omega arith)))
 
-pub let_most : (year : ℕ) (assets : List Asset) → AreCheap assets → sum_by (let_in year) assets ≤ length assets * 10000000000000
+pub let_most : (year : ℕ) (assets : List Asset) → AreCheap assets → sum_by (let_in year) assets ≤ length assets * most_cents
 let_most year [] cheap = omega arith
 let_most year (a ∷ assets) cheap =
     omega (arith, sum_by-cons (let_in year) a assets, part (is_leased a.origin && (a.year == year)), cheap zero a (omega arith), let_most year assets (λ k d l. cheap (suc k) d (omega arith)))

@@ -4,6 +4,7 @@ use Rattle.cf_base.specs.Limits.{last_fiscal_year}
 use Rattle.cf_assets.specs.declared.rows.AssetRow.{AssetRow}
 use Rattle.cf_assets.specs.declared.rows.StageNow.TheVariants.{Held}
 use Rattle.cf_model.specs.Assets.{Asset, Stage, held, depreciation, voucher_of}
+use Rattle.cf_rows.specs.Limits.{most_cents}
 
 pub record Inventory : Type 0 where
   pub assets : List Asset
@@ -19,7 +20,7 @@ AreNumbered assets = (k : ℕ) (d : Asset) → k < length assets → (slice_inde
 
 -- no cost is above the largest amount
 abbrev pub AreCheap : List Asset → Type 0
-AreCheap assets = (k : ℕ) (d : Asset) → k < length assets → (slice_index_or assets k d).cost ≤ 10000000000000
+AreCheap assets = (k : ℕ) (d : Asset) → k < length assets → (slice_index_or assets k d).cost ≤ most_cents
 
 -- each is of a fiscal year that is kept
 abbrev pub AreKept : List Asset → Type 0
@@ -37,7 +38,7 @@ StagesOne at stage old new = (d : Asset) → new ≡ slice_set old at (staged st
 pub record IsNew (r : AssetRow) (i : Inventory) : Type 0 where
   pub number : r.number ≡ length i.assets + 1
   pub held : r.stage ≡ Held
-  pub cost : r.cost ≤ 10000000000000
+  pub cost : r.cost ≤ most_cents
   pub from : 1970 ≤ r.year
   pub to : r.year ≤ last_fiscal_year
   pub early : i.closed ≤ r.service

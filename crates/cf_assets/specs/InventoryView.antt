@@ -9,6 +9,7 @@ use Rattle.cf_assets.specs.Serving.{ServeAll}
 use Rattle.cf_model.specs.Assets.{Asset, depreciation}
 use Rattle.cf_assets.specs.Years.{bought_in, given_in, book_in}
 use Rattle.cf_rows.specs.Years.{AreYears}
+use Rattle.cf_rows.specs.Limits.{most_items}
 
 abbrev pub inventory_of : Inside → Inventory
 inventory_of a = record {
@@ -23,7 +24,7 @@ abbrev pub AreAccumulated : List Asset → List ℕ → Type 0
 AreAccumulated assets accumulated = (n : ℕ) → n < length accumulated → slice_index_or accumulated n 0 ≡ sum_by (depreciation (n + 1)) assets
 
 pub record IsSound (a : Inside) : Type 0 where
-  pub few : length a.rows.items ≤ 48000000
+  pub few : length a.rows.items ≤ most_items
   pub months : length a.accumulated.items ≤ most_entries
   pub rows : AreRows (length a.accumulated.items) a.rows.items
   pub serving : ServeAll (length a.accumulated.items) a.rows.items a.serving.items

@@ -7,6 +7,7 @@ use Rattle.cf_assets.specs.declared.rows.Acquired.TheVariants.{Bought, Given, Le
 use Rattle.cf_assets.specs.declared.rows.StageNow.{StageNow}
 use Rattle.cf_assets.specs.declared.rows.StageNow.TheVariants.{Held, Void, Disposed}
 use Rattle.cf_model.specs.Assets.{Asset, Origin, purchase, gift, lease, Stage, held, void, disposed}
+use Rattle.cf_rows.specs.Limits.{most_cents}
 
 abbrev pub view_stage : StageNow → Stage
 view_stage Held = held
@@ -39,7 +40,7 @@ IsStage closed _ = Unit {0}
 -- a row stands where its number says
 pub record IsRow (closed k : ℕ) (r : AssetRow) : Type 0 where
   pub number : r.number ≡ k + 1
-  pub cost : r.cost ≤ 10000000000000
+  pub cost : r.cost ≤ most_cents
   pub from : 1970 ≤ r.year
   pub to : r.year ≤ last_fiscal_year
   pub stage : IsStage closed r.stage
@@ -49,7 +50,7 @@ AreRows closed rows = (k : ℕ) (d : AssetRow) → k < length rows → IsRow clo
 
 -- no cost is above the largest amount
 abbrev pub AreSmall : List AssetRow → Type 0
-AreSmall rows = (k : ℕ) (d : AssetRow) → k < length rows → (slice_index_or rows k d).cost ≤ 10000000000000
+AreSmall rows = (k : ℕ) (d : AssetRow) → k < length rows → (slice_index_or rows k d).cost ≤ most_cents
 
 -- a row of nothing
 abbrev pub no_row : AssetRow

@@ -8,10 +8,11 @@ use Rattle.cf_model.specs.Assets.{Asset, void, disposed, voucher_of}
 use Rattle.cf_model.specs.Documents.{is_number}
 use Rattle.cf_model.specs.Months.{number_of_day}
 use Rattle.cf_model.specs.RegisterRules.{voided_asset}
+use Rattle.cf_rows.specs.Limits.{most_cents}
 
 -- no amount is above the largest one
 abbrev pub AreMost : List VoucherItem → Type 0
-AreMost items = (k : ℕ) (d : VoucherItem) → k < length items → (slice_index_or items k d).account.amount ≤ 10000000000000
+AreMost items = (k : ℕ) (d : VoucherItem) → k < length items → (slice_index_or items k d).account.amount ≤ most_cents
 
 -- an asset serves from the month of its day
 abbrev pub IsTitled : Plan → Title → Type 0

@@ -9,6 +9,7 @@ ghost use Rattle.cf_model.specs.AssetsShown as shown;
 ghost use Rattle.cf_assets.specs.Charges.{AreCharges, of_kind};
 ghost use Rattle.cf_assets.specs.Register.{asset_draws};
 ghost use Rattle.cf_model.specs.RegisterRules.{asset_at};
+ghost use Rattle.cf_rows.specs.Limits.{most_items, most_total};
 
 use crate::charges::{MOST_FUNCTIONS, depreciation_of};
 use crate::inventory::Inventory;
@@ -86,7 +87,7 @@ impl Assets {
     /// The number of the next asset, from 1.
     pub fn next_asset(&self) -> u32
         ensures value { result ≡ length self.now.assets + 1 }
-        ensures most { result ≤ 48000001 }
+        ensures most { result ≤ most_items + 1 }
     {
         self.inventory.count() + 1
     }
@@ -155,7 +156,7 @@ impl Assets {
     /// table: the depreciation of what the city owns, or the amortization of what it leases.
     pub fn month_charges(&self, chart: &Chart, is_lease: bool) -> [u128; MOST_FUNCTIONS]
         ensures charges { AreCharges self.now.closed (of_kind is_lease self.now.assets) chart.now.functions result }
-        ensures most { (k : ℕ) → slice_index_or result k 0 ≤ 480000000000000000000 }
+        ensures most { (k : ℕ) → slice_index_or result k 0 ≤ most_total }
     {
         self.inventory.month_charges(chart.functions(), is_lease)
     }

@@ -14,6 +14,7 @@ ghost use Rattle.cf_model.specs.Assets.{depreciation};
 ghost use Rattle.cf_model.specs.Months.{closed_to};
 ghost use Rattle.cf_model.specs.Sums.{int_sum};
 ghost use Rattle.cf_model.proofs.Depreciated.{IsSoundAsset};
+ghost use Rattle.cf_rows.specs.Limits.{most_in_years, most_total};
 
 use crate::assets::Assets;
 use crate::inventory::accumulated_after;
@@ -61,7 +62,7 @@ impl Assets {
     fn depreciated_to(&self, months: u32) -> u128
         requires { months ≤ self.now.closed }
         ensures value { result ≡ sum_by (depreciation months) (spec.owned self.now.assets) }
-        ensures most { result ≤ 480000000000000000000 }
+        ensures most { result ≤ most_total }
     {
         self.inventory.accumulated_to(months) - self.amortized_to(months)
     }
@@ -71,7 +72,7 @@ impl Assets {
         requires { months ≤ self.now.closed }
         ensures value { result ≡ sum_by (depreciation months) (spec.leased self.now.assets) }
         ensures least { result ≤ sum_by (depreciation months) self.now.assets }
-        ensures most { result ≤ 480000000000000000000 }
+        ensures most { result ≤ most_total }
     {
         let _all = self.inventory.accumulated_to(months);
         accumulated_after(&self.amortized, months)
@@ -81,7 +82,7 @@ impl Assets {
     fn leased_through(&self, year: u16) -> u128
         requires { year ≤ last_fiscal_year }
         ensures value { result ≡ sum_to (λ y. sum_by (let_in y) self.now.assets) (year - 1969) }
-        ensures most { result ≤ 110880000000000000000000 }
+        ensures most { result ≤ most_in_years }
         ensures first { AreKept self.now.assets }
     {
         let _cost = self.inventory.acquired_through(year);
@@ -94,7 +95,7 @@ impl Assets {
         requires from { 1970 ≤ year }
         requires to { year ≤ last_fiscal_year }
         ensures value { result ≡ sum_by (let_in year) self.now.assets }
-        ensures most { result ≤ 480000000000000000000 }
+        ensures most { result ≤ most_total }
     {
         let _count = self.inventory.count();
         amount_in(&self.leased, year)

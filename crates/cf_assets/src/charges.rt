@@ -10,6 +10,7 @@ ghost use Rattle.cf_assets.specs.Charges.{charge_in, of_kind};
 ghost use Rattle.cf_assets.specs.Rows.{view_asset, AreRows};
 ghost use Rattle.cf_assets.specs.Serving.{ServeAll};
 ghost use Rattle.cf_assets.specs.Charges.{AreCharges, HasNot, StandsAt};
+ghost use Rattle.cf_rows.specs.Limits.{most_cents, most_items, most_total};
 
 use crate::rows::{Acquired, AssetRow, StageNow};
 use cf_chart::Function;
@@ -21,7 +22,7 @@ pub const MOST_FUNCTIONS: usize = 64;
 /// those of its life (own rule). Land, whose life is 0, has none.
 #[tactic(auto, using(crate::proofs::Charging::fits, crate::proofs::Charging::land))]
 pub fn depreciated(cost: u64, life: u16, months: u32) -> u64
-    requires { cost ≤ 10000000000000 }
+    requires { cost ≤ most_cents }
     ensures { result ≡ spec.depreciated cost life months }
 {
     if life == 0 {
@@ -33,7 +34,7 @@ pub fn depreciated(cost: u64, life: u16, months: u32) -> u64
 
 /// The accumulated depreciation of an asset over the first so many months, which are closed.
 pub fn depreciation_of(row: &AssetRow, months: u32) -> u64
-    requires { row.now.cost ≤ 10000000000000 }
+    requires { row.now.cost ≤ most_cents }
     ensures { result ≡ depreciation months (view_asset row.now) }
 {
     let counted = match row.stage {
@@ -50,10 +51,10 @@ pub fn depreciation_of(row: &AssetRow, months: u32) -> u64
 
 /// What the close of the next month charges for an asset.
 pub fn charge_of(row: &AssetRow, closed: u32) -> u64
-    requires cost { row.now.cost ≤ 10000000000000 }
+    requires cost { row.now.cost ≤ most_cents }
     requires few { closed ≤ most_entries }
     ensures value { result ≡ charge closed (view_asset row.now) }
-    ensures small { result ≤ 10000000000000 }
+    ensures small { result ≤ most_cents }
 {
     depreciation_of(row, closed + 1) - depreciation_of(row, closed)
 }
@@ -70,10 +71,10 @@ pub fn is_leased(row: &AssetRow) -> bool
 
 /// What the close of the next month charges for an asset that is leased, or for one that isn't; nothing for another.
 fn charge_if(row: &AssetRow, closed: u32, is_lease: bool) -> u64
-    requires cost { row.now.cost ≤ 10000000000000 }
+    requires cost { row.now.cost ≤ most_cents }
     requires few { closed ≤ most_entries }
     ensures value { result ≡ charge_in is_lease closed (view_asset row.now) }
-    ensures small { result ≤ 10000000000000 }
+    ensures small { result ≤ most_cents }
 {
     let is_kind = if is_lease {
         is_leased(row)
@@ -87,10 +88,10 @@ fn charge_if(row: &AssetRow, closed: u32, is_lease: bool) -> u64
 pub fn leased_charge(rows: &[AssetRow], serving: &[u32], closed: u32) -> u128
     requires rows { AreRows closed rows.now }
     requires serving { ServeAll closed rows.now serving.now }
-    requires count { length rows.now ≤ 48000000 }
+    requires count { length rows.now ≤ most_items }
     requires few { closed ≤ most_entries }
     ensures value { result ≡ sum_by (charge_in true closed) (map view_asset rows.now) }
-    ensures most { result ≤ 480000000000000000000 }
+    ensures most { result ≤ most_total }
 {
     let mut total = 0;
     for at in serving {
@@ -103,7 +104,7 @@ pub fn leased_charge(rows: &[AssetRow], serving: &[u32], closed: u32) -> u128
 pub fn total_charge(rows: &[AssetRow], serving: &[u32], closed: u32) -> u128
     requires rows { AreRows closed rows.now }
     requires serving { ServeAll closed rows.now serving.now }
-    requires count { length rows.now ≤ 48000000 }
+    requires count { length rows.now ≤ most_items }
     requires few { closed ≤ most_entries }
     ensures { result ≡ sum_by (charge closed) (map view_asset rows.now) }
 {
@@ -166,12 +167,12 @@ pub fn function_charges(
 ) -> [u128; MOST_FUNCTIONS]
     requires rows { AreRows closed rows.now }
     requires serving { ServeAll closed rows.now serving.now }
-    requires count { length rows.now ≤ 48000000 }
+    requires count { length rows.now ≤ most_items }
     requires months { closed ≤ most_entries }
     requires few { length functions.now ≤ 64 }
     requires rising { is_rising (λ f. f.id) functions.now ≡ true }
     ensures charges { AreCharges closed (of_kind is_lease (map view_asset rows.now)) functions.now result }
-    ensures most { (k : ℕ) → slice_index_or result k 0 ≤ 480000000000000000000 }
+    ensures most { (k : ℕ) → slice_index_or result k 0 ≤ most_total }
 {
     let mut sums = no_sums();
     for at in serving {

@@ -12,6 +12,7 @@ ghost use Rattle.cf_assets.specs.declared.rows.Acquired.TheVariants.{Given, Leas
 ghost use Rattle.cf_assets.specs.Inventory as spec;
 ghost use Rattle.cf_model.specs.Assets.{Asset, held, void, disposed, depreciation, voucher_of};
 ghost use Rattle.cf_model.specs.RegisterRules.{asset_at};
+ghost use Rattle.cf_rows.specs.Limits.{most_cents, most_items, most_total};
 
 use crate::charges::{
     MOST_FUNCTIONS, depreciation_of, function_charges, leased_charge, total_charge,
@@ -70,7 +71,7 @@ impl Inventory {
     /// How many assets there are.
     pub fn count(&self) -> u32
         ensures value { result ≡ length self.now.assets }
-        ensures most { result ≤ 48000000 }
+        ensures most { result ≤ most_items }
         ensures numbered { AreNumbered self.now.assets }
         ensures cheap { AreCheap self.now.assets }
     {
@@ -98,7 +99,7 @@ impl Inventory {
     pub fn find(&self, number: u32) -> Option<AssetRow>
         ensures value { option_map view_asset result ≡ asset_at number self.now.assets }
         ensures alone { filter (λ a. a.number == number) self.now.assets ≡ option_to_list (asset_at number self.now.assets) }
-        ensures small { IfSome result (λ r. r.cost ≤ 10000000000000) }
+        ensures small { IfSome result (λ r. r.cost ≤ most_cents) }
     {
         if number == 0 || number as usize > self.rows.len() {
             return None;
@@ -130,7 +131,7 @@ impl Inventory {
         requires voucher { is_some (voucher_of (view_origin row.acquired)) ≡ true }
         requires new { spec.IsNew row self.old }
         requires room { 1 ≤ self.old.room }
-        requires few { length self.old.assets < 48000000 }
+        requires few { length self.old.assets < most_items }
         ensures assets { self.new.assets ≡ self.old.assets ++ view_asset row ∷ [] }
         ensures closed { self.new.closed ≡ self.old.closed }
         ensures room { self.old.room ≤ self.new.room + 1 }
@@ -146,7 +147,7 @@ impl Inventory {
         requires gift { row.acquired ≡ Given }
         requires new { spec.IsNew row self.old }
         requires room { 1 ≤ self.old.room }
-        requires few { length self.old.assets < 48000000 }
+        requires few { length self.old.assets < most_items }
         ensures assets { self.new.assets ≡ self.old.assets ++ view_asset row ∷ [] }
         ensures closed { self.new.closed ≡ self.old.closed }
     {
@@ -161,7 +162,7 @@ impl Inventory {
         requires lease { row.acquired ≡ Leased }
         requires new { spec.IsNew row self.old }
         requires room { 1 ≤ self.old.room }
-        requires few { length self.old.assets < 48000000 }
+        requires few { length self.old.assets < most_items }
         ensures assets { self.new.assets ≡ self.old.assets ++ view_asset row ∷ [] }
         ensures closed { self.new.closed ≡ self.old.closed }
     {
@@ -215,7 +216,7 @@ impl Inventory {
     /// What the close of the next month charges for all leased assets, in cents.
     pub fn leased_charge(&self) -> u128
         ensures value { result ≡ sum_by (charge_in true self.now.closed) self.now.assets }
-        ensures most { result ≤ 480000000000000000000 }
+        ensures most { result ≤ most_total }
     {
         let closed = self.accumulated.len() as u32;
         leased_charge(&self.rows, &self.serving, closed)
@@ -227,7 +228,7 @@ impl Inventory {
         requires few { length functions.now ≤ 64 }
         requires rising { is_rising (λ f. f.id) functions.now ≡ true }
         ensures charges { AreCharges self.now.closed (of_kind is_lease self.now.assets) functions.now result }
-        ensures most { (k : ℕ) → slice_index_or result k 0 ≤ 480000000000000000000 }
+        ensures most { (k : ℕ) → slice_index_or result k 0 ≤ most_total }
     {
         let closed = self.accumulated.len() as u32;
         function_charges(&self.rows, &self.serving, closed, functions, is_lease)

@@ -11,6 +11,7 @@ ghost use Rattle.cf_model.specs.Registers.{Registers};
 ghost use Rattle.cf_model.specs.RegisterRules as spec;
 ghost use Rattle.cf_model.specs.RegisterRules.{asset_refusal};
 ghost use Rattle.cf_model.specs.Rules.{first_refusal};
+ghost use Rattle.cf_rows.specs.Limits.{most_cents};
 
 use crate::assets::Assets;
 use crate::charges::{depreciation_of, is_leased};
@@ -70,7 +71,7 @@ fn first_fault(inventory: &Inventory, vouchers: &Vec<Extent>, voucher: u32) -> O
 
 /// Nothing was charged for an asset that is voided, and it isn't disposed of.
 fn voided_asset(row: &AssetRow, closed: u32) -> Option<Refusal>
-    requires { row.now.cost ≤ 10000000000000 }
+    requires { row.now.cost ≤ most_cents }
     ensures { result ≡ spec.voided_asset closed (view_asset row.now) }
 {
     if depreciation_of(row, closed) > 0 {

@@ -21,6 +21,7 @@ ghost use Rattle.cf_model.specs.RegisterRules as rules;
 ghost use Rattle.cf_model.specs.Rules.{first_refusal};
 ghost use Rattle.cf_base.specs.declared.calendar.Day.{Day};
 ghost use Rattle.cf_chart.specs.Plan.{object_at};
+ghost use Rattle.cf_rows.specs.Limits.{most_cents, most_items};
 
 use crate::assets::Assets;
 use crate::inventory::{Inventory, accumulated_after};
@@ -107,7 +108,7 @@ impl Assets {
     pub(crate) fn accept_gift(&mut self, chart: &Chart, on: Day, gift: &Donation, number: u32)
         requires room { 1 ≤ self.old.room.assets }
         requires day { is_day on ≡ true }
-        requires amount { gift.now.amount ≤ 10000000000000 }
+        requires amount { gift.now.amount ≤ most_cents }
         requires number { number ≡ length self.old.assets + 1 }
         requires early { self.old.closed ≤ number_of_day chart.now on }
         requires few { self.old.acts < most_entries }
@@ -133,7 +134,7 @@ impl Assets {
         requires room { 1 ≤ self.old.room.assets }
         requires day { is_day on ≡ true }
         requires form { IsLeaseForm on lease.now }
-        requires amount { lease.now.account.amount ≤ 10000000000000 }
+        requires amount { lease.now.account.amount ≤ most_cents }
         requires number { number ≡ length self.old.assets + 1 }
         requires early { self.old.closed ≤ number_of_day chart.now on }
         requires few { self.old.acts < most_entries }
@@ -271,7 +272,7 @@ fn buy_all(inventory: &mut Inventory, chart: &Chart, title: Title, items: &[Vouc
     requires early { inventory.old.closed ≤ title.service }
     requires amounts { AreMost items.now }
     requires room { length items.now ≤ inventory.old.room }
-    requires few { length inventory.old.assets + length items.now ≤ 48000000 }
+    requires few { length inventory.old.assets + length items.now ≤ most_items }
     ensures assets { (n : ℕ) → title.acquired ≡ Bought n → inventory.new.assets ≡ inventory.old.assets ++ bought chart.now n title.on title.year (length inventory.old.assets + 1) items.now }
     ensures closed { inventory.new.closed ≡ inventory.old.closed }
     ensures most { length inventory.new.assets ≤ length inventory.old.assets + length items.now }

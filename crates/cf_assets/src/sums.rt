@@ -1,11 +1,12 @@
 //! The sums of assets by fiscal year and by closed month.
 
-ghost use Rattle.std.specs.Prelude.{◌≡◌, ◌≤◌, ◌+◌, ◌-◌, sum_by};
+ghost use Rattle.std.specs.Prelude.{◌≡◌, ◌≤◌, ◌*◌, ◌+◌, ◌-◌, sum_by};
 ghost use Rattle.cf_base.specs.Limits.{last_fiscal_year};
 ghost use Rattle.cf_assets.specs.Inventory.{AreKept};
 ghost use Rattle.cf_assets.specs.Years.{bought_in, given_in, book_in};
 ghost use Rattle.cf_rows.specs.Years.{sum_to};
 ghost use Rattle.cf_model.specs.Assets.{depreciation};
+ghost use Rattle.cf_rows.specs.Limits.{most_in_years, most_total};
 
 use crate::inventory::{Inventory, accumulated_after};
 use cf_rows::{amount_in, total_through};
@@ -24,7 +25,7 @@ impl Inventory {
     pub fn accumulated_to(&self, months: u32) -> u128
         requires { months ≤ self.now.closed }
         ensures value { result ≡ sum_by (depreciation months) self.now.assets }
-        ensures most { result ≤ 480000000000000000000 }
+        ensures most { result ≤ most_total }
     {
         accumulated_after(&self.accumulated, months)
     }
@@ -36,9 +37,9 @@ impl Inventory {
         ensures bought { result.bought ≡ sum_by (bought_in year) self.now.assets }
         ensures given { result.given ≡ sum_by (given_in year) self.now.assets }
         ensures gone { result.gone ≡ sum_by (book_in self.now.closed year) self.now.assets }
-        ensures most_bought { result.bought ≤ 480000000000000000000 }
-        ensures most_given { result.given ≤ 480000000000000000000 }
-        ensures most_gone { result.gone ≤ 480000000000000000000 }
+        ensures most_bought { result.bought ≤ most_total }
+        ensures most_given { result.given ≤ most_total }
+        ensures most_gone { result.gone ≤ most_total }
     {
         YearSums {
             bought: amount_in(&self.outlay, year),
@@ -51,7 +52,7 @@ impl Inventory {
     pub fn acquired_through(&self, year: u16) -> u128
         requires { year ≤ last_fiscal_year }
         ensures value { result ≡ sum_to (λ y. sum_by (bought_in y) self.now.assets) (year - 1969) + sum_to (λ y. sum_by (given_in y) self.now.assets) (year - 1969) }
-        ensures most { result ≤ 221760000000000000000000 }
+        ensures most { result ≤ 2 * most_in_years }
         ensures first { AreKept self.now.assets }
     {
         total_through(&self.outlay, year) + total_through(&self.donated, year)
@@ -61,7 +62,7 @@ impl Inventory {
     pub fn gone_through(&self, year: u16) -> u128
         requires { year ≤ last_fiscal_year }
         ensures value { result ≡ sum_to (λ y. sum_by (book_in self.now.closed y) self.now.assets) (year - 1969) }
-        ensures most { result ≤ 110880000000000000000000 }
+        ensures most { result ≤ most_in_years }
     {
         total_through(&self.disposals, year)
     }

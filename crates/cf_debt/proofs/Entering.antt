@@ -20,6 +20,7 @@ use Rattle.cf_model.specs.Bonds.{Bond, Due, coupon, dues, dues_from}
 use Rattle.cf_model.specs.Calendar.{year_of_day}
 use Rattle.cf_model.specs.Months.{number_of_day}
 use Rattle.cf_model.proofs.Debt.{early_dues}
+use Rattle.cf_rows.specs.Limits.{most_cents}
 
 months_between : (n : ℕ) → is_period n ≡ true → IsCount 1 12 n
 months_between n e = record { from = grind (arith, common_steps); to = grind (arith, common_steps) }
@@ -32,7 +33,7 @@ new_payments r principals = dues_from r.terms.every r.month r.amount principals
 pub record IsNew (closed : ℕ) (all : List Due) (count : ℕ) (r : BondRow) (principals : List ℕ) : Type 0 where
   pub number : r.number ≡ count + 1
   pub year : 1970 ≤ r.year
-  pub amount : r.amount ≤ 10000000000000
+  pub amount : r.amount ≤ most_cents
   pub rate : r.terms.rate_bp ≤ 10000
   pub every : IsCount 1 12 r.terms.every
   pub day : IsCount 1 28 r.terms.day
@@ -45,7 +46,7 @@ pub record IsNew (closed : ℕ) (all : List Due) (count : ℕ) (r : BondRow) (pr
   pub within : r.last ≤ 2759
   pub early : closed ≤ r.month
 
-pub new_row : (plan : Plan) (on : Day) (number : ℕ) (is_lease : Bool) (i : BondIssue) (closed : ℕ) (all : List Due) (count : ℕ) → is_day on ≡ true → IsIssueForm on i → number ≡ count + 1 → i.amount ≤ 10000000000000 →
+pub new_row : (plan : Plan) (on : Day) (number : ℕ) (is_lease : Bool) (i : BondIssue) (closed : ℕ) (all : List Due) (count : ℕ) → is_day on ≡ true → IsIssueForm on i → number ≡ count + 1 → i.amount ≤ most_cents →
     1970 ≤ (bond_row plan on number is_lease i (length all)).year → (bond_row plan on number is_lease i (length all)).last ≤ 2759 → closed ≤ number_of_day plan on → IsNew closed all count (bond_row plan on number is_lease i (length all)) i.principals
 new_row plan on number is_lease i closed all count day form is amount year within early =
     record {

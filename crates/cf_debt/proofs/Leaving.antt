@@ -3,9 +3,9 @@ use Rattle.std.proofs.Common.{◌≡◌, ◌⊎◌, inl, inr, ℕ, ◌+◌, ◌-
 use Rattle.std.proofs.lemmas.Bool.Decides.{eqb_tells}
 use Rattle.std.proofs.lemmas.Int.{ints}
 use Rattle.cf_debt.specs.declared.rows.LeaveRow.{LeaveRow}
-use Rattle.cf_debt.specs.Accounts.{Accounts, PutsAmount, left_in}
 use Rattle.cf_debt.specs.RegisterView.{AreLeave, AreLeft}
 use Rattle.cf_debt.specs.Rows.{view_leave}
+use Rattle.cf_rows.specs.Pairs.{Pairs, PutsAmount, amount_at}
 use Rattle.cf_rows.specs.Years.{sum_through}
 use Rattle.cf_debt.proofs.RunningSums.{Rise, rise_through}
 use Rattle.cf_model.specs.Leave.{LeaveChange, leave_left, leave_through}
@@ -29,8 +29,8 @@ both_same a b d c e = by_tests (a == d) (b == c) (eqb_tells a d) (eqb_tells b c)
     by_tests p q (inr h) k e = cc
 
 -- the leave of the change's department is what it was with the change, and that of the others is what it was
-pub left_kept : (leave : List LeaveChange) (x : LeaveChange) (old new : Accounts) (amount : ℕ) → AreLeft leave old → PutsAmount old new x.fund x.dept amount →
-    pos amount ≡ pos (left_in old x.fund x.dept) +ℤ x.by → AreLeft (leave ++ x ∷ []) new
+pub left_kept : (leave : List LeaveChange) (x : LeaveChange) (old new : Pairs ℕ) (amount : ℕ) → AreLeft leave old → PutsAmount old new x.fund x.dept amount →
+    pos amount ≡ pos (amount_at old x.fund x.dept) +ℤ x.by → AreLeft (leave ++ x ∷ []) new
 left_kept leave x old new amount was puts is fund dept =
     ap pos (puts fund dept) ∙ by_test ((x.fund == fund) && (x.dept == dept)) refl ∙ sym (left_push fund dept leave x)
   where
@@ -41,11 +41,11 @@ left_kept leave x old new amount was puts is fund dept =
     none a b e = omega (arith, ints, e)
 
     by_test : (b : Bool) → ((x.fund == fund) && (x.dept == dept)) ≡ b →
-        pos (if b then amount else left_in old fund dept) ≡ leave_left fund dept leave +ℤ ((if b then x.by else pos 0) +ℤ pos 0)
+        pos (if b then amount else amount_at old fund dept) ≡ leave_left fund dept leave +ℤ ((if b then x.by else pos 0) +ℤ pos 0)
     by_test true e =
         let same = both_same x.fund x.dept fund dept e in
-        more (pos amount) (leave_left fund dept leave) x.by (is ∙ (λ i. pos (left_in old (same.0 i) (same.1 i)) +ℤ x.by) ∙ ap (λ z. z +ℤ x.by) (was fund dept))
-    by_test false e = none (pos (left_in old fund dept)) (leave_left fund dept leave) (was fund dept)
+        more (pos amount) (leave_left fund dept leave) x.by (is ∙ (λ i. pos (amount_at old (same.0 i) (same.1 i)) +ℤ x.by) ∙ ap (λ z. z +ℤ x.by) (was fund dept))
+    by_test false e = none (pos (amount_at old fund dept)) (leave_left fund dept leave) (was fund dept)
 
 -- the sums by fiscal year
 pub years_earned : (leave : List LeaveChange) (x : LeaveChange) (amount : ℕ) (old new taken : List ℕ) → 1970 ≤ x.year → x.by ≡ pos amount → AreLeave leave old taken → Rise old new (x.year - 1970) amount →
@@ -71,14 +71,14 @@ years_taken leave x amount earned old new from is was rise year =
     by_test false e t l by h k = omega (arith, ints, h)
 
 -- what is left in cents
-pub left_is : (fund dept : ℕ) (leave : List LeaveChange) (table : Accounts) → AreLeft leave table → left_in table fund dept ≡ unsigned_abs (leave_left fund dept leave)
+pub left_is : (fund dept : ℕ) (leave : List LeaveChange) (table : Pairs ℕ) → AreLeft leave table → amount_at table fund dept ≡ unsigned_abs (leave_left fund dept leave)
 left_is fund dept leave table are = ap unsigned_abs (are fund dept)
 
 -- so small: each change is at most so many cents
-pub put_small : (old new : Accounts) (fund dept amount most : ℕ) → PutsAmount old new fund dept amount → amount ≤ most → ((d c : ℕ) → left_in old d c ≤ most) → (d c : ℕ) → left_in new d c ≤ most
+pub put_small : (old new : Pairs ℕ) (fund dept amount most : ℕ) → PutsAmount old new fund dept amount → amount ≤ most → ((d c : ℕ) → amount_at old d c ≤ most) → (d c : ℕ) → amount_at new d c ≤ most
 put_small old new fund dept amount most puts l all d c = by_test ((fund == d) && (dept == c)) (puts d c)
   where
-    by_test : (b : Bool) → left_in new d c ≡ (if b then amount else left_in old d c) → left_in new d c ≤ most
+    by_test : (b : Bool) → amount_at new d c ≡ (if b then amount else amount_at old d c) → amount_at new d c ≤ most
     by_test true e = omega (arith, e, l)
     by_test false e = omega (arith, e, all d c)
 

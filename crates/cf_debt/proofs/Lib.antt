@@ -1,4 +1,3 @@
-pub mod AccountFacts
 pub mod Earning
 pub mod Entering
 pub mod Finding

@@ -8,6 +8,7 @@ use Rattle.cf_debt.specs.declared.rows.Payment.{Payment}
 use Rattle.cf_debt.specs.Rows.{IsBond, IsSmallDue, schedule, view_bond, view_payment, view_payments}
 use Rattle.cf_debt.proofs.Lists.{map-push}
 use Rattle.cf_model.specs.Bonds.{Bond, Due, dues, dues_from, next_due}
+use Rattle.cf_rows.specs.Limits.{most_cents}
 
 pub length_dues : (every from owed : ℕ) (principals : List ℕ) → length (dues_from every from owed principals) ≡ length principals
 length_dues every from owed [] = refl
@@ -26,7 +27,7 @@ due_month every from owed (suc k) (p ∷ principals) d l = due_month every (from
     next : (a b c : ℕ) → (b + a) + a * (c + 1) ≡ b + a * (suc c + 1)
     next a b c = omega arith
 
-pub small_dues : (every from owed : ℕ) (principals : List ℕ) → owed ≤ 10000000000000 → sum principals ≤ 10000000000000 → from + every * length principals ≤ 2759 →
+pub small_dues : (every from owed : ℕ) (principals : List ℕ) → owed ≤ most_cents → sum principals ≤ most_cents → from + every * length principals ≤ 2759 →
     (k : ℕ) (d : Due) → k < length principals → IsSmallDue (get_or (dues_from every from owed principals) k d)
 small_dues every from owed [] most total last k d l = absurd (omega arith)
 small_dues every from owed (p ∷ principals) most total last zero d l =

@@ -1,4 +1,3 @@
-pub mod Accounts
 pub mod Charges
 pub mod DebtNow
 pub mod Register

@@ -1,6 +1,5 @@
 -- What contracts see of the register.
-use Rattle.std.specs.Prelude.{◌≡◌, ℕ, ◌+◌, ◌<◌, ◌≤◌, Bool, true, ◌==◌, ◌&&◌, List, [], length, Option, Some, None, is_some}
-use Rattle.std.specs.List.{list_any}
+use Rattle.std.specs.Prelude.{◌≡◌, ℕ, ◌+◌, ◌<◌, ◌≤◌, true, List, [], length, Option, Some, None, is_some}
 use Rattle.cf_base.specs.declared.calendar.Day.{Day}
 use Rattle.cf_calls.specs.declared.acts.Act.{Act}
 use Rattle.cf_calls.specs.declared.acts.Act.TheVariants as act
@@ -9,7 +8,6 @@ use Rattle.cf_calls.specs.declared.acts.LeaveAct.TheVariants.{Earn, Use, Mature}
 use Rattle.cf_calls.specs.declared.entry.Drawn.{Drawn}
 use Rattle.cf_calls.specs.declared.entry.Entry.{Entry}
 use Rattle.cf_chart.specs.Plan.{Plan}
-use Rattle.cf_debt.specs.declared.accounts.LeaveKey.{LeaveKey}
 use Rattle.cf_debt.specs.declared.debt.Due.{Due as DueNow}
 use Rattle.cf_model.specs.Bonds.{Bond, Due, coupon, next_due}
 use Rattle.cf_debt.specs.declared.sums.DebtChanges.{DebtChanges}
@@ -21,6 +19,7 @@ use Rattle.cf_calls.specs.declared.refusal.Refusal.TheVariants as refusal
 use Rattle.cf_model.specs.RegisterRules.{due_day, unpaid}
 use Rattle.cf_model.specs.Registers.{Registers, no_registers}
 use Rattle.cf_model.specs.Results.{bond_at, payment_number}
+use Rattle.cf_rows.specs.Pairs.{Pairs, has_value}
 
 -- what the registers have of debt
 pub record Debts : Type 0 where
@@ -36,22 +35,19 @@ debts_of s = record { bonds = s.bonds; leave = s.leave; closed = s.closed }
 abbrev pub registers_with : Debts → Registers
 registers_with d = record no_registers { bonds = d.bonds; leave = d.leave; closed = d.closed }
 
--- for how many rows more of each kind there is memory, and for the leave of which departments
+-- for how many rows more of each kind there is memory, and what is left of the leave of those departments that have memory for it
 pub record Room : Type 0 where
   pub bonds : ℕ
   pub live : ℕ
   pub payments : ℕ
   pub leave : ℕ
-  pub accounts : List LeaveKey
+  pub left : Pairs ℕ
 
 pub record Register : Type 0 where
   pub debts : Debts
   -- the acts that were applied
   pub acts : ℕ
   pub room : Room
-
-abbrev pub has_account : ℕ → ℕ → List LeaveKey → Bool
-has_account fund dept keys = list_any (λ k. (fund == k.fund) && (dept == k.dept)) keys
 
 -- there is memory for a bond of so many payments, and for a change of a department's leave
 pub record HasRoomToIssue (count : ℕ) (r : Register) : Type 0 where
@@ -61,7 +57,7 @@ pub record HasRoomToIssue (count : ℕ) (r : Register) : Type 0 where
 
 pub record HasRoomForLeave (fund dept : ℕ) (r : Register) : Type 0 where
   pub row : 0 < r.room.leave
-  pub account : has_account fund dept r.room.accounts ≡ true
+  pub account : has_value r.room.left fund dept ≡ true
 
 abbrev pub HasRoomToChange : LeaveAct → Register → Type 0
 HasRoomToChange (Earn l) r = HasRoomForLeave l.fund l.dept r

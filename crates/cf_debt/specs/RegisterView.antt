@@ -5,13 +5,14 @@ use Rattle.std.specs.Vec.{vec_capacity}
 use Rattle.cf_base.specs.Limits.{most_entries}
 use Rattle.cf_debt.specs.declared.debt.Debt.TheInside.{Inside}
 use Rattle.cf_debt.specs.declared.rows.BondRow.{BondRow}
-use Rattle.cf_debt.specs.Accounts.{Accounts, accounts_of, left_in}
 use Rattle.cf_debt.specs.Register.{Register}
 use Rattle.cf_debt.specs.Rows.{AreSmallDues, IsRow, view_bonds, view_leave, view_payments}
 use Rattle.cf_debt.specs.Rows.{lease_part}
+use Rattle.cf_rows.specs.Pairs.{Pairs, amount_at}
 use Rattle.cf_rows.specs.Years.{sum_of, sum_through}
 use Rattle.cf_model.specs.Bonds.{Bond, Due, coupon, earned, paid_dues}
 use Rattle.cf_model.specs.Leave.{LeaveChange, leave_left, leave_through}
+use Rattle.cf_rows.specs.Limits.{most_cents}
 
 abbrev pub register_of : Inside → Register
 register_of a = record {
@@ -26,7 +27,7 @@ register_of a = record {
     live = vec_capacity a.live - length a.live.items;
     payments = vec_capacity a.payments - length a.payments.items;
     leave = vec_capacity a.leave - length a.leave.items;
-    accounts = accounts_of a.left.entries;
+    left = a.left.entries;
   };
 }
 
@@ -73,23 +74,27 @@ AreCharged closed bonds cells = (n : ℕ) → sum_of n cells ≡ sum_by (earned 
 abbrev pub AreLeave : List LeaveChange → List ℕ → List ℕ → Type 0
 AreLeave leave earned taken = (year : ℕ) → pos (sum_through year earned) -ℤ pos (sum_through year taken) ≡ leave_through year leave
 
-abbrev pub AreLeft : List LeaveChange → Accounts → Type 0
-AreLeft leave table = (fund dept : ℕ) → pos (left_in table fund dept) ≡ leave_left fund dept leave
+abbrev pub AreLeft : List LeaveChange → Pairs ℕ → Type 0
+AreLeft leave table = (fund dept : ℕ) → pos (amount_at table fund dept) ≡ leave_left fund dept leave
+
+-- the most interest of a month, in cents: in one month at most two payments of a bond earn
+abbrev pub most_interest : ℕ
+most_interest = 2 * most_cents * most_entries
 
 -- each act adds at most 10^13 cents to what is issued, paid, earned or taken, and a close at most 2 * 10^13 a bond to the interest
 pub record IsSmall (a : Inside) : Type 0 where
   pub acts : a.acts ≤ most_entries
   pub bonds : length a.bonds.items ≤ a.acts
   pub closed : a.closed ≤ 2760
-  pub issued : sum a.issued ≤ 10000000000000 * a.acts
-  pub leased : sum a.leased ≤ 10000000000000 * a.acts
-  pub repaid : sum a.repaid ≤ 10000000000000 * a.acts
-  pub leases_repaid : sum a.leases_repaid ≤ 10000000000000 * a.acts
-  pub coupons : sum a.coupons ≤ 10000000000000 * a.acts
-  pub charged : sum a.charged ≤ 30000000000000000000 * a.acts
-  pub earned : sum a.earned ≤ 10000000000000 * a.acts
-  pub taken : sum a.taken ≤ 10000000000000 * a.acts
-  pub left : (fund dept : ℕ) → left_in a.left.entries fund dept ≤ 10000000000000 * a.acts
+  pub issued : sum a.issued ≤ most_cents * a.acts
+  pub leased : sum a.leased ≤ most_cents * a.acts
+  pub repaid : sum a.repaid ≤ most_cents * a.acts
+  pub leases_repaid : sum a.leases_repaid ≤ most_cents * a.acts
+  pub coupons : sum a.coupons ≤ most_cents * a.acts
+  pub charged : sum a.charged ≤ most_interest * a.acts
+  pub earned : sum a.earned ≤ most_cents * a.acts
+  pub taken : sum a.taken ≤ most_cents * a.acts
+  pub left : (fund dept : ℕ) → amount_at a.left.entries fund dept ≤ most_cents * a.acts
 
 -- bonds, their payments, and the list of those that are live
 pub record HasBonds (closed : ℕ) (all : List Due) (rows : List BondRow) (live : List ℕ) : Type 0 where
@@ -105,7 +110,7 @@ pub record HasSums (closed : ℕ) (bonds : List Bond) (issued leased repaid leas
   pub interests : ArePaid coupon bonds coupons
   pub charges : AreCharged closed bonds charged
 
-pub record HasLeave (leave : List LeaveChange) (table : Accounts) (earned taken : List ℕ) : Type 0 where
+pub record HasLeave (leave : List LeaveChange) (table : Pairs ℕ) (earned taken : List ℕ) : Type 0 where
   pub left : AreLeft leave table
   pub years : AreLeave leave earned taken
 

@@ -6,6 +6,7 @@ use Rattle.cf_debt.specs.declared.rows.LeaveRow.{LeaveRow}
 use Rattle.cf_debt.specs.declared.rows.Payment.{Payment}
 use Rattle.cf_model.specs.Bonds.{Bond, Due, dues}
 use Rattle.cf_model.specs.Leave.{LeaveChange}
+use Rattle.cf_rows.specs.Limits.{most_cents}
 
 abbrev pub view_payment : Payment → Due
 view_payment p = record { from = p.from; month = p.month; owed = p.owed; principal = p.principal }
@@ -43,15 +44,15 @@ view_leave r = record { fund = r.fund; dept = r.dept; year = r.year; by = if r.i
 pub record IsSmallDue (p : Due) : Type 0 where
   pub from : p.from ≤ 2759
   pub month : p.month ≤ 2759
-  pub owed : p.owed ≤ 10000000000000
-  pub principal : p.principal ≤ 10000000000000
+  pub owed : p.owed ≤ most_cents
+  pub principal : p.principal ≤ most_cents
 
 abbrev pub AreSmallDues : List Due → Type 0
 AreSmallDues all = (k : ℕ) (d : Due) → k < length all → IsSmallDue (get_or all k d)
 
 -- a bond's payments stand among those of all, as its terms make them
 pub record IsBond (all : List Due) (r : BondRow) : Type 0 where
-  pub amount : r.amount ≤ 10000000000000
+  pub amount : r.amount ≤ most_cents
   pub rate : r.terms.rate_bp ≤ 10000
   pub every : IsCount 1 12 r.terms.every
   pub day : IsCount 1 28 r.terms.day

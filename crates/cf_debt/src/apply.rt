@@ -11,14 +11,13 @@ ghost use Rattle.cf_model.specs.RegisterRules.{debt_refusal, leave_refusal, orde
 ghost use Rattle.cf_model.specs.Registers.{closed_after, registers_step};
 ghost use Rattle.cf_model.specs.Rules.{amount_refusal};
 
-use crate::accounts::{LeaveKey, reserve_in};
-use crate::debt::Debt;
+use crate::debt::{Debt, leave_key};
 use crate::rows::LeaveRow;
 use cf_base::Day;
 use cf_calls::acts::{LeaveAct, Period};
 use cf_calls::{Act, Drawn};
 use cf_chart::Chart;
-use cf_rows::year_of_day;
+use cf_rows::{reserve_in, year_of_day};
 use std::alloc::AllocError;
 
 impl Debt {
@@ -56,7 +55,7 @@ impl Debt {
         ensures acts { self.new.acts ≡ self.old.acts }
     {
         self.leave.reserve(1)?;
-        reserve_in(&mut self.left, LeaveKey { fund, dept })
+        reserve_in(&mut self.left, leave_key(fund, dept), 0)
     }
 
     /// Takes in an act that the rules allow, and gives the numbers that it draws. It takes no memory, as that was

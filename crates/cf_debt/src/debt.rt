@@ -4,7 +4,7 @@ ghost use Rattle.std.specs.Prelude.{◌≡◌, ◌<◌, ◌≤◌, List, length,
 ghost use Rattle.cf_base.specs.Limits.{most_entries};
 ghost use Rattle.cf_debt.specs.Register.{debt_draws, debts_of, due_now};
 ghost use Rattle.cf_debt.specs.Register.{due_of as spec_due_of};
-ghost use Rattle.cf_debt.specs.RegisterView.{HasBonds};
+ghost use Rattle.cf_debt.specs.RegisterView.{HasBonds, most_interest};
 ghost use Rattle.cf_debt.specs.Rows.{IsSmallDue, view_bond, view_bonds, view_payment, view_payments};
 ghost use Rattle.cf_model.specs.Leave.{leave_of};
 ghost use Rattle.cf_debt.specs.Steps.{ShowsBond};
@@ -13,14 +13,13 @@ ghost use Rattle.cf_model.specs.RegisterRules.{due_day as spec_due_day};
 ghost use Rattle.cf_model.specs.Registers.{no_registers};
 ghost use Rattle.cf_model.specs.Results.{bond_at, payment_number};
 
-use crate::accounts::{LeaveKey, amount_in};
 use crate::interest::{bond_charge, coupon};
 use crate::rows::{BondRow, LeaveRow, Payment};
 use crate::schedule::next_of;
 use cf_base::Day;
 use cf_calls::{Act, Drawn};
 use cf_chart::Chart;
-use cf_rows::{YEARS, month_at, year_at};
+use cf_rows::{NumberPair, YEARS, amount_at, month_at, year_at};
 use std::alloc::Global;
 use std::collections::BTreeMap;
 use std::marker::Model;
@@ -35,7 +34,7 @@ pub struct Debt {
     /// The numbers of the bonds of which a payment is due in a month that isn't closed.
     pub(crate) live: Vec<u32>,
     pub(crate) leave: Vec<LeaveRow>,
-    pub(crate) left: BTreeMap<LeaveKey, u64>,
+    pub(crate) left: BTreeMap<NumberPair, u64>,
     /// How many months are closed.
     pub(crate) closed: u16,
     /// The amounts of bonds and of leases, by the fiscal year of their issue, from 1970.
@@ -160,7 +159,7 @@ impl Debt {
     /// to come.
     pub fn month_interest(&self) -> u128
         ensures value { result ≡ sum_by (interest_charge self.now.debts.closed) self.now.debts.bonds }
-        ensures most { result ≤ 30000000000000000000 }
+        ensures most { result ≤ most_interest }
     {
         interest_of(&self.payments, &self.bonds, &self.live, self.closed)
     }
@@ -169,7 +168,7 @@ impl Debt {
     pub fn leave_of(&self, fund: u16, dept: u16) -> u64
         ensures { result ≡ leave_of fund dept self.now.debts.leave }
     {
-        amount_in(&self.left, LeaveKey { fund, dept })
+        amount_at(&self.left, leave_key(fund, dept))
     }
 
     /// The numbers that an act draws: the next bond's, from 1, which is a lease's second number, or that of the next
@@ -202,6 +201,16 @@ fn drawn(number: u32, second: u32) -> Drawn
     ensures { result ≡ record { number = number; second = second } }
 {
     Drawn { number, second }
+}
+
+/// What the leave left of a fund's department stands under.
+pub(crate) fn leave_key(fund: u16, dept: u16) -> NumberPair
+    ensures { result ≡ record { first = fund; second = dept } }
+{
+    NumberPair {
+        first: fund,
+        second: dept,
+    }
 }
 
 /// The day on which a payment of a bond is due.
@@ -245,7 +254,7 @@ pub(crate) fn interest_of(
     requires few { length bonds.now ≤ most_entries }
     requires months { closed < 65535 }
     ensures value { result ≡ sum_by (interest_charge closed) (view_bonds (view_payments payments.now) bonds.now) }
-    ensures most { result ≤ 30000000000000000000 }
+    ensures most { result ≤ most_interest }
 {
     let mut interest = 0;
     for number in live {

@@ -4,17 +4,18 @@ ghost use Rattle.std.specs.Prelude.{◌≡◌, ◌≤◌, ◌<◌, ◌+◌, ◌-
 ghost use Rattle.cf_debt.specs.Charges.{bond_of, running_charge};
 ghost use Rattle.cf_debt.specs.Rows.{AreSmallDues, IsBond, view_bond, view_payment, view_payments};
 ghost use Rattle.cf_model.specs.Bonds as spec;
+ghost use Rattle.cf_rows.specs.Limits.{most_cents};
 
 use crate::rows::{BondRow, Payment, Terms};
 
 /// The interest of a principal for so many days, at a rate in basis points a year of 360 days, in cents.
 #[tactic(auto, using(crate::proofs::Earning::interest_fits, crate::proofs::Earning::interest_small))]
 pub fn interest_for(owed: u64, rate_bp: u16, days: u64) -> u64
-    requires owed { owed ≤ 10000000000000 }
+    requires owed { owed ≤ most_cents }
     requires rate { rate_bp ≤ 10000 }
     requires days { days ≤ 360 }
     ensures value { result ≡ owed * rate_bp * days / 3600000 }
-    ensures small { result ≤ 10000000000000 }
+    ensures small { result ≤ most_cents }
 {
     (u128::from(owed) * u128::from(rate_bp) * u128::from(days) / 3_600_000) as u64
 }
@@ -34,9 +35,9 @@ pub fn days_by(terms: Terms, from: u16, months: u16) -> u64
 pub fn earned_by(terms: Terms, payment: &Payment, months: u16) -> u64
     requires every { terms.every ≤ 12 }
     requires rate { terms.rate_bp ≤ 10000 }
-    requires owed { payment.now.owed ≤ 10000000000000 }
+    requires owed { payment.now.owed ≤ most_cents }
     ensures value { result ≡ spec.interest_for (bond_of terms) (view_payment payment.now) (spec.days_by months (bond_of terms) (view_payment payment.now)) }
-    ensures small { result ≤ 10000000000000 }
+    ensures small { result ≤ most_cents }
 {
     interest_for(
         payment.owed,
@@ -49,9 +50,9 @@ pub fn earned_by(terms: Terms, payment: &Payment, months: u16) -> u64
 pub fn coupon(terms: Terms, payment: &Payment) -> u64
     requires every { terms.every ≤ 12 }
     requires rate { terms.rate_bp ≤ 10000 }
-    requires owed { payment.now.owed ≤ 10000000000000 }
+    requires owed { payment.now.owed ≤ most_cents }
     ensures value { result ≡ spec.coupon (bond_of terms) (view_payment payment.now) }
-    ensures small { result ≤ 10000000000000 }
+    ensures small { result ≤ most_cents }
 {
     interest_for(payment.owed, terms.rate_bp, 30 * u64::from(terms.every))
 }
@@ -64,7 +65,7 @@ fn charge_of(terms: Terms, running: &[Payment], closed: u16) -> u64
     requires small { AreSmallDues (view_payments running.now) }
     requires months { closed < 65535 }
     ensures value { result ≡ running_charge (bond_of terms) closed (view_payments running.now) }
-    ensures small { result ≤ 20000000000000 }
+    ensures small { result ≤ 2 * most_cents }
 {
     if running.is_empty() {
         return 0;
@@ -84,7 +85,7 @@ pub fn bond_charge(payments: &[Payment], bond: &BondRow, closed: u16) -> u64
     requires bond { IsBond (view_payments payments.now) bond.now }
     requires months { closed < 65535 }
     ensures value { result ≡ spec.interest_charge closed (view_bond (view_payments payments.now) bond.now) }
-    ensures small { result ≤ 20000000000000 }
+    ensures small { result ≤ 2 * most_cents }
 {
     let due_before = closed.saturating_sub(bond.month + 1) / bond.terms.every;
     let begun = usize::from(due_before.min(bond.count));

@@ -1,7 +1,6 @@
 //! The register of bonds and of leave.
 #![tactic(auto)]
 
-mod accounts;
 mod apply;
 mod debt;
 mod interest;

@@ -6,6 +6,7 @@ ghost use Rattle.cf_debt.specs.DebtNow.{debt_shown, show_bond};
 ghost use Rattle.cf_debt.specs.Rows.{AreSmallDues, IsBond, view_bond, view_payments};
 ghost use Rattle.cf_model.specs.Bonds as spec;
 ghost use Rattle.cf_model.specs.DebtShown.{bond_shown};
+ghost use Rattle.cf_rows.specs.Limits.{most_cents};
 
 use crate::debt::{Debt, due_day};
 use crate::interest::{coupon, earned_by};
@@ -69,7 +70,7 @@ fn earned_of(terms: Terms, payments: &[Payment], closed: u16) -> u128
     requires small { AreSmallDues (view_payments payments.now) }
     requires few { length payments.now ≤ 120 }
     ensures value { result ≡ sum_by (λ p. spec.interest_for (bond_of terms) p (spec.days_by closed (bond_of terms) p)) (view_payments payments.now) }
-    ensures small { result ≤ 1200000000000000 }
+    ensures small { result ≤ 120 * most_cents }
 {
     let mut earned = 0;
     for payment in payments {
@@ -85,7 +86,7 @@ fn coupons_of(terms: Terms, payments: &[Payment]) -> u128
     requires small { AreSmallDues (view_payments payments.now) }
     requires few { length payments.now ≤ 120 }
     ensures value { result ≡ sum_by (spec.coupon (bond_of terms)) (view_payments payments.now) }
-    ensures small { result ≤ 1200000000000000 }
+    ensures small { result ≤ 120 * most_cents }
 {
     let mut coupons = 0;
     for payment in payments {

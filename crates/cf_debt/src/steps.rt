@@ -19,16 +19,16 @@ ghost use Rattle.cf_model.specs.Leave.{leave_of};
 ghost use Rattle.cf_model.specs.Months.{number_of_day};
 ghost use Rattle.cf_model.specs.RegisterRules.{month_at};
 ghost use Rattle.cf_model.specs.Rules.{first_refusal};
+ghost use Rattle.cf_rows.specs.Limits.{most_cents};
 
-use crate::accounts::{LeaveKey, amount_in, put_in};
-use crate::debt::{Debt, interest_of};
+use crate::debt::{Debt, interest_of, leave_key};
 use crate::interest::coupon;
 use crate::rows::{BondRow, LeaveRow, NewDebt, Terms};
 use crate::schedule::add_schedule;
 use cf_base::{Day, Month};
 use cf_calls::acts::{BondIssue, DebtPayment, NewLease};
 use cf_chart::Chart;
-use cf_rows::{add_at, number_of_day, number_of_month, year_of_day};
+use cf_rows::{add_at, amount_at, number_of_day, number_of_month, put_in, year_of_day};
 
 impl Debt {
     /// Counts an act that is none of the register's own.
@@ -45,7 +45,7 @@ impl Debt {
         requires day { is_day on ≡ true }
         requires form { IsIssueForm on issue.now }
         requires number { number ≡ length self.old.debts.bonds + 1 }
-        requires amount { issue.now.amount ≤ 10000000000000 }
+        requires amount { issue.now.amount ≤ most_cents }
         requires early { self.old.debts.closed ≤ number_of_day chart.now on }
         requires room { HasRoomToIssue (length issue.now.principals) self.old }
         requires few { self.old.acts < most_entries }
@@ -69,7 +69,7 @@ impl Debt {
         requires day { is_day on ≡ true }
         requires form { IsIssueForm on (schedule_of lease.now) }
         requires number { number ≡ length self.old.debts.bonds + 1 }
-        requires amount { lease.now.account.amount ≤ 10000000000000 }
+        requires amount { lease.now.account.amount ≤ most_cents }
         requires early { self.old.debts.closed ≤ number_of_day chart.now on }
         requires room { HasRoomToIssue (length lease.now.principals) self.old }
         requires few { self.old.acts < most_entries }
@@ -93,7 +93,7 @@ impl Debt {
         requires day { is_day on ≡ true }
         requires form { IsIssueForm on (issue_of debt principals.now) }
         requires number { number ≡ length self.old.debts.bonds + 1 }
-        requires amount { debt.amount ≤ 10000000000000 }
+        requires amount { debt.amount ≤ most_cents }
         requires early { self.old.debts.closed ≤ number_of_day chart.now on }
         requires room { HasRoomToIssue (length principals.now) self.old }
         requires few { self.old.acts < most_entries }
@@ -164,17 +164,14 @@ impl Debt {
         requires earned { row.is_earned ≡ true }
         requires from { 1970 ≤ row.year }
         requires to { row.year ≤ last_fiscal_year }
-        requires amount { row.amount ≤ 10000000000000 }
+        requires amount { row.amount ≤ most_cents }
         requires room { HasRoomForLeave row.fund row.dept self.old }
         requires few { self.old.acts < most_entries }
         ensures debts { self.new.debts ≡ record self.old.debts { leave = self.old.debts.leave ++ view_leave row ∷ [] } }
         ensures acts { self.new.acts ≡ self.old.acts + 1 }
     {
-        let key = LeaveKey {
-            fund: row.fund,
-            dept: row.dept,
-        };
-        let left = amount_in(&self.left, key) + row.amount;
+        let key = leave_key(row.fund, row.dept);
+        let left = amount_at(&self.left, key) + row.amount;
         put_in(&mut self.left, key, left);
         add_at(&mut self.earned, row.year - 1970, u128::from(row.amount));
         self.leave.push_reserved(row);
@@ -187,17 +184,14 @@ impl Debt {
         requires from { 1970 ≤ row.year }
         requires to { row.year ≤ last_fiscal_year }
         requires left { row.amount ≤ leave_of row.fund row.dept self.old.debts.leave }
-        requires amount { row.amount ≤ 10000000000000 }
+        requires amount { row.amount ≤ most_cents }
         requires room { HasRoomForLeave row.fund row.dept self.old }
         requires few { self.old.acts < most_entries }
         ensures debts { self.new.debts ≡ record self.old.debts { leave = self.old.debts.leave ++ view_leave row ∷ [] } }
         ensures acts { self.new.acts ≡ self.old.acts + 1 }
     {
-        let key = LeaveKey {
-            fund: row.fund,
-            dept: row.dept,
-        };
-        let left = amount_in(&self.left, key) - row.amount;
+        let key = leave_key(row.fund, row.dept);
+        let left = amount_at(&self.left, key) - row.amount;
         put_in(&mut self.left, key, left);
         add_at(&mut self.taken, row.year - 1970, u128::from(row.amount));
         self.leave.push_reserved(row);

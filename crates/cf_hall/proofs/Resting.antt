@@ -1,7 +1,7 @@
 -- Stripes at rest, and stripes that were taken and owe nothing.
 use Rattle.std.proofs.Common.{◌≡◌, ℕ, ◌<◌, true, false, List, [], Option, Some, None, is_some, refl, sym, ap, subst, ◌∙◌}
 use Rattle.atomic_table.specs.Seated.{TableId}
-use Rattle.cf_budget.specs.InYears.{or_else}
+use Rattle.cf_rows.specs.Pairs.{or_else}
 use Rattle.cf_budget.specs.Tables.{Table, Tables, table_of, row_at, row_in, zero_row, value_on}
 use Rattle.cf_budget.proofs.Rows.{plus_zero}
 use Rattle.cf_chart.specs.Plan.{Plan}

@@ -13,8 +13,6 @@ use Rattle.atomic_table.proofs.shared.Shared.TheSendSync as word
 use Rattle.atomic_table.proofs.send_lease.SendLease.TheSendSync as lease
 use Rattle.cf_names.specs.declared.names.City as city
 use Rattle.cf_disk.specs.declared.disk.Disk as disk
-use Rattle.cf_budget.specs.contracts.in_year.InYearPartialEq.TheImpl as in_year_eq
-use Rattle.cf_budget.specs.contracts.in_year.InYearPartialOrd.TheImpl as in_year_partial
 use Rattle.cf_calls.specs.contracts.list.List as list
 use Rattle.cf_calls.specs.contracts.text.Text as text
 use Rattle.cf_calls.specs.contracts.entry.Entry as entry
@@ -22,7 +20,6 @@ use Rattle.cf_calls.specs.contracts.acts.Act as act
 use Rattle.cf_calls.specs.contracts.call.Change as change
 use Rattle.cf_budget.specs.contracts.table.LineTable as table
 use Rattle.cf_budget.specs.contracts.table.LineTable.TheInside as table_inside
-use Rattle.cf_budget.specs.contracts.in_year.InYear as in_year
 use Rattle.cf_budget.specs.contracts.row.Row as row
 use Rattle.cf_turns.specs.contracts.turns.Turns as turns
 use Rattle.cf_turns.specs.contracts.turns.Turns.TheInside as turns_inside
@@ -62,16 +59,14 @@ use Rattle.cf_chart.specs.contracts.chart.Chart.TheInside as chart_inside
 use Rattle.cf_assets.specs.contracts.rows.AssetRow as AssetRow
 use Rattle.cf_orders.specs.contracts.orders.Orders as orders
 use Rattle.cf_orders.specs.contracts.orders.Orders.TheInside as orders_inside
-use Rattle.cf_revenue.specs.contracts.pairs.FundPairPartialEq.TheImpl as pair_eq
-use Rattle.cf_revenue.specs.contracts.pairs.FundPairPartialOrd.TheImpl as pair_partial
+use Rattle.cf_rows.specs.contracts.pairs.NumberPairPartialEq.TheImpl as pair_eq
+use Rattle.cf_rows.specs.contracts.pairs.NumberPairPartialOrd.TheImpl as pair_partial
 use Rattle.cf_revenue.specs.contracts.revenue.Revenue as revenue
 use Rattle.cf_revenue.specs.contracts.revenue.Revenue.TheInside as revenue_inside
 use Rattle.cf_assets.specs.contracts.inventory.Inventory as inventory
 use Rattle.cf_assets.specs.contracts.inventory.Inventory.TheInside as inventory_inside
 use Rattle.cf_assets.specs.contracts.assets.Assets as assets
 use Rattle.cf_assets.specs.contracts.assets.Assets.TheInside as assets_inside
-use Rattle.cf_debt.specs.contracts.accounts.LeaveKeyPartialEq.TheImpl as leave_key_eq
-use Rattle.cf_debt.specs.contracts.accounts.LeaveKeyPartialOrd.TheImpl as leave_key_partial
 use Rattle.cf_debt.specs.contracts.debt.Debt as debt
 use Rattle.cf_debt.specs.contracts.debt.Debt.TheInside as debt_inside
 use Rattle.cf_registers.specs.contracts.registers.Registers as registers
@@ -86,8 +81,7 @@ use Rattle.cf_ledger.specs.contracts.ledger.Ledger.TheInside as books_inside
 use Rattle.cf_registers.specs.contracts.accounts.Accounts as accounts
 use Rattle.cf_registers.specs.contracts.accounts.Accounts.TheInside as accounts_inside
 use Rattle.cf_chart.specs.contracts.index.LineKey as LineKey
-use Rattle.cf_revenue.specs.contracts.pairs.FundPair as FundPair
-use Rattle.cf_debt.specs.contracts.accounts.LeaveKey as LeaveKey
+use Rattle.cf_rows.specs.contracts.pairs.NumberPair as NumberPair
 use Rattle.cf_ledger.specs.contracts.places.Place as Place
 use Rattle.cf_history.specs.contracts.rest.Rest as rest
 use Rattle.cf_history.specs.contracts.rest.Rest.TheInside as rest_inside
@@ -191,10 +185,7 @@ post_send = search sendable depth 20
 pub place_send : IsSend Place.the_row
 place_send = search sendable depth 20
 
-pub leave_key_send : IsSend LeaveKey.the_row
-leave_key_send = search sendable depth 20
-
-pub pair_send : IsSend FundPair.the_row
+pub pair_send : IsSend NumberPair.the_row
 pair_send = search sendable depth 20
 
 pub line_key_send : IsSend LineKey.the_row
@@ -211,9 +202,6 @@ u16_sync = search sendable depth 20
 
 pub u16_send : IsSend (UInt w16)
 u16_send = search sendable depth 20
-
-pub in_year_send : IsSend in_year.the_row
-in_year_send = search sendable depth 20
 
 pub row_send : IsSend row.the_row
 row_send = search sendable depth 20
@@ -243,7 +231,7 @@ pub voucher_send : IsSend NewVoucher.the_row
 voucher_send = recorded_send NewVoucher.the_field.row _ _ NewVoucher.the_type.to_one (struct_send (shape NewVoucher.the_type) (search sendable, (search sendable, (list_send _ item_send, tt))))
 
 pub table_send2 : IsSend table_inside.the_row
-table_send2 = recorded_send table_inside.the_field.row _ _ table_inside.the_type.to_one (struct_send (shape table_inside.the_type) (maps.BTreeMap-send _ _ _ in_year_eq.ghosts in_year_partial.ghosts in_year_send row_send, tt))
+table_send2 = recorded_send table_inside.the_field.row _ _ table_inside.the_type.to_one (struct_send (shape table_inside.the_type) (maps.BTreeMap-send _ _ _ pair_eq.ghosts pair_partial.ghosts pair_send row_send, tt))
 
 pub orderitem_send : IsSend ItemRow.the_row
 orderitem_send = recorded_send ItemRow.the_field.row _ _ ItemRow.the_type.to_one (struct_send (shape ItemRow.the_type) (account_send, (search sendable, (search sendable, (search sendable, (search sendable, (search sendable, (search sendable, (search sendable depth 20, tt)))))))))
@@ -339,7 +327,7 @@ pub revenue_send : IsSend revenue.the_row
 revenue_send = view_send _ _ _ _ _ (recorded_send revenue_inside.the_field.row _ _ revenue_inside.the_type.to_one (struct_send (shape revenue_inside.the_type) (search (sendable, crosses) depth 20, (search (sendable, crosses) depth 20, (search (sendable, crosses) depth 20, (search (sendable, crosses) depth 20, (maps.BTreeMap-send _ _ _ pair_eq.ghosts pair_partial.ghosts pair_send u64_send, (search sendable, (search sendable, (search sendable, tt))))))))))
 
 pub debt_send : IsSend debt.the_row
-debt_send = view_send _ _ _ _ _ (recorded_send debt_inside.the_field.row _ _ debt_inside.the_type.to_one (struct_send (shape debt_inside.the_type) (heap.Vec-send _ bond_send, (search (sendable, crosses) depth 20, (search (sendable, crosses) depth 20, (heap.Vec-send _ leave_send, (maps.BTreeMap-send _ _ _ leave_key_eq.ghosts leave_key_partial.ghosts leave_key_send u64_send, (search sendable, (search sendable, (search sendable, (search sendable, (search sendable, (search sendable, (search sendable, (search sendable, (search sendable, (search sendable, tt)))))))))))))))))
+debt_send = view_send _ _ _ _ _ (recorded_send debt_inside.the_field.row _ _ debt_inside.the_type.to_one (struct_send (shape debt_inside.the_type) (heap.Vec-send _ bond_send, (search (sendable, crosses) depth 20, (search (sendable, crosses) depth 20, (heap.Vec-send _ leave_send, (maps.BTreeMap-send _ _ _ pair_eq.ghosts pair_partial.ghosts pair_send u64_send, (search sendable, (search sendable, (search sendable, (search sendable, (search sendable, (search sendable, (search sendable, (search sendable, (search sendable, (search sendable, tt)))))))))))))))))
 
 pub registers_send : IsSend registers.the_row
 registers_send = view_send _ _ _ _ _ (recorded_send registers_inside.the_field.row _ _ registers_inside.the_type.to_one (struct_send (shape registers_inside.the_type) (orders_send, (revenue_send, (assets_send, (debt_send, tt))))))
@@ -387,7 +375,7 @@ pub accounts_send : IsSend accounts.the_row
 accounts_send = view_send _ _ _ _ _ (recorded_send accounts_inside.the_field.row _ _ accounts_inside.the_type.to_one (struct_send (shape accounts_inside.the_type) (ledger_books_send, (search (sendable, crosses) depth 20, (search (sendable, crosses) depth 20, tt)))))
 
 pub rest_send : IsSend rest.the_row
-rest_send = view_send _ _ _ _ _ (recorded_send rest_inside.the_field.row _ _ rest_inside.the_type.to_one (struct_send (shape rest_inside.the_type) (search sendable depth 20, (chart_send, (heap.Vec-send _ entry_send, (heap.Vec-send _ made_send, (maps.BTreeMap-send _ _ _ u16_eq.ghosts u16_partial.ghosts u16_send (maps.BTreeMap-send _ _ _ (string_eq.ghosts global_row.the_row global_impl.ghosts string_eq.no_dict string_eq.no_dict) (string_partial.ghosts global_row.the_row global_impl.ghosts string_partial.no_dict string_partial.no_dict) maps.String-send u64_send), (maps.BTreeMap-send _ _ _ in_year_eq.ghosts in_year_partial.ghosts in_year_send u64_send, (registers_send, (accounts_send, (search sendable, (search (entry_field_send, sendable) depth 20, tt))))))))))))
+rest_send = view_send _ _ _ _ _ (recorded_send rest_inside.the_field.row _ _ rest_inside.the_type.to_one (struct_send (shape rest_inside.the_type) (search sendable depth 20, (chart_send, (heap.Vec-send _ entry_send, (heap.Vec-send _ made_send, (maps.BTreeMap-send _ _ _ u16_eq.ghosts u16_partial.ghosts u16_send (maps.BTreeMap-send _ _ _ (string_eq.ghosts global_row.the_row global_impl.ghosts string_eq.no_dict string_eq.no_dict) (string_partial.ghosts global_row.the_row global_impl.ghosts string_partial.no_dict string_partial.no_dict) maps.String-send u64_send), (maps.BTreeMap-send _ _ _ pair_eq.ghosts pair_partial.ghosts pair_send u64_send, (registers_send, (accounts_send, (search sendable, (search (entry_field_send, sendable) depth 20, tt))))))))))))
 
 pub archive_send : (D : RattleType) (d : disk.Ghosts D.Denot) → IsSend D → IsSend (archive.the_row D d)
 archive_send D d sends = search (sendable, crosses, rest_send, journal_send, entry_send) depth 20

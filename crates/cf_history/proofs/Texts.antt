@@ -4,7 +4,7 @@ use Rattle.std.proofs.lemmas.Grind.{common_steps}
 use Rattle.std.specs.BTreeMap.{get_by_text}
 use Rattle.std.specs.Str.{bytes_eq}
 use Rattle.std.proofs.lemmas.Slice.Eq.{bytes_eq-Decides}
-use Rattle.cf_budget.specs.InYears.{or_else}
+use Rattle.cf_rows.specs.Pairs.{or_else}
 use Rattle.cf_history.specs.Keys.{Keys, text_number}
 
 pub text_put : (old new : Keys) (key q : List ℕ) (place : ℕ) →

@@ -8,7 +8,7 @@ use Rattle.cf_calls.specs.declared.entry.Entry.{Entry}
 use Rattle.cf_calls.specs.declared.read.Basis.TheVariants.{Fund, Gov}
 use Rattle.cf_calls.specs.Acts.{adopts, adoption_of}
 use Rattle.cf_calls.specs.Same.{same_key}
-use Rattle.cf_budget.specs.InYears.{InYears, value_of, has_value, or_else}
+use Rattle.cf_rows.specs.Pairs.{Pairs, value_of, has_value, or_else}
 use Rattle.cf_model.specs.Calendar.{open_year}
 use Rattle.cf_model.specs.Registers.{registers_of}
 use Rattle.cf_model.specs.Results.{results_of}
@@ -25,12 +25,12 @@ abbrev pub rest_state : Inside → RestState
 rest_state a = record { plan = a.chart; entries = a.entries.items; ready = a.ready }
 
 -- whether an act that is an adoption has its budget reserved
-abbrev pub has_budget : InYears ℕ → Option Adoption → Bool
+abbrev pub has_budget : Pairs ℕ → Option Adoption → Bool
 has_budget table None = true
 has_budget table (Some a) = has_value table a.fund a.year
 
 -- each fund's budget of a year reads as before, or this place where the act adopts it
-abbrev pub PutsBudget : InYears ℕ → InYears ℕ → Act → ℕ → Type 0
+abbrev pub PutsBudget : Pairs ℕ → Pairs ℕ → Act → ℕ → Type 0
 PutsBudget old new act place =
     (fund year : ℕ) → or_else 0 (value_of new fund year) ≡ (if adopts fund year act then place else or_else 0 (value_of old fund year))
 

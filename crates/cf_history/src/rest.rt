@@ -11,7 +11,7 @@ ghost use Rattle.cf_model.specs.Calendar as calendar;
 ghost use Rattle.cf_model.specs.Deeds.{deeds_of};
 ghost use Rattle.cf_model.specs.Registers.{registers_of};
 ghost use Rattle.cf_model.specs.Results as results;
-ghost use Rattle.cf_budget.specs.InYears.{value_of, or_else, ReadsSame};
+ghost use Rattle.cf_rows.specs.Pairs.{value_of, or_else, ReadsSame};
 ghost use Rattle.cf_model.specs.Postings.{act_posts, balance_of};
 ghost use Rattle.cf_model.specs.Estimates.{estimate};
 ghost use Rattle.cf_model.specs.ReconShown.{recon_shown};
@@ -28,7 +28,6 @@ ghost use Rattle.cf_history.specs.RestView.{has_budget, PutsBudget};
 use crate::estimates::estimated_at;
 use crate::keys::{Known, place_in, put_place, reserve_key};
 use cf_base::{Day, month_of};
-use cf_budget::{InYear, put_in, reserve_in, value_in};
 use cf_calls::acts::{Adoption, Period};
 use cf_calls::shown::ReconShown;
 use cf_calls::{Act, Basis, Change, Entry, Made, same_call};
@@ -36,6 +35,7 @@ use cf_chart::Chart;
 use cf_ledger::Post;
 use cf_recon::Changes;
 use cf_registers::{Accounts, Registers, made_of, month_number, start_month, whole};
+use cf_rows::{NumberPair, put_in, reserve_in, value_in};
 use std::alloc::{AllocError, Global};
 use std::collections::BTreeMap;
 use std::marker::Model;
@@ -48,7 +48,7 @@ pub struct Rest {
     entries: Vec<Entry>,
     results: Vec<Made>,
     known: Known,
-    adopted: BTreeMap<InYear, u64>,
+    adopted: BTreeMap<NumberPair, u64>,
     registers: Registers,
     accounts: Accounts,
     open_year: u16,
@@ -331,7 +331,7 @@ fn made_in(made: &[Made], place: u64) -> Made
 fn reserve_places(
     alloc: Global,
     known: &mut Known,
-    adopted: &mut BTreeMap<InYear, u64>,
+    adopted: &mut BTreeMap<NumberPair, u64>,
     change: &Change,
 ) -> Result<(), AllocError>
     ensures key { OnOk result (has_key known.new change.now.desk change.now.key ≡ true) }
@@ -384,7 +384,7 @@ fn note_place(known: &mut Known, change: &Change, place: u64)
 }
 
 /// Reserves the budget that an act adopts.
-fn reserve_budget(adopted: &mut BTreeMap<InYear, u64>, act: &Act) -> Result<(), AllocError>
+fn reserve_budget(adopted: &mut BTreeMap<NumberPair, u64>, act: &Act) -> Result<(), AllocError>
     ensures has { OnOk result (has_budget adopted.new.entries (adoption_of act.now) ≡ true) }
     ensures same { ReadsSame 0 adopted.old.entries adopted.new.entries }
 {
@@ -395,7 +395,7 @@ fn reserve_budget(adopted: &mut BTreeMap<InYear, u64>, act: &Act) -> Result<(), 
 }
 
 /// Puts the place of the budget that an act adopts. It takes no memory.
-fn put_budget(adopted: &mut BTreeMap<InYear, u64>, act: &Act, place: u64)
+fn put_budget(adopted: &mut BTreeMap<NumberPair, u64>, act: &Act, place: u64)
     requires { has_budget adopted.old.entries (adoption_of act.now) ≡ true }
     ensures { PutsBudget adopted.old.entries adopted.new.entries act.now place }
 {
@@ -404,12 +404,12 @@ fn put_budget(adopted: &mut BTreeMap<InYear, u64>, act: &Act, place: u64)
     }
 }
 
-fn budget_key(adoption: &Adoption) -> InYear
-    ensures { result ≡ record { number = adoption.now.fund; year = adoption.now.year } }
+fn budget_key(adoption: &Adoption) -> NumberPair
+    ensures { result ≡ record { first = adoption.now.fund; second = adoption.now.year } }
 {
-    InYear {
-        number: adoption.fund,
-        year: adoption.year,
+    NumberPair {
+        first: adoption.fund,
+        second: adoption.year,
     }
 }
 
@@ -419,9 +419,15 @@ fn place_or_none(place: u64) -> Option<u64>
     if place == 0 { None } else { Some(place) }
 }
 
-fn adopted_place(adopted: &BTreeMap<InYear, u64>, fund: u16, year: u16) -> Option<u64>
+fn adopted_place(adopted: &BTreeMap<NumberPair, u64>, fund: u16, year: u16) -> Option<u64>
     ensures { result ≡ place_of (or_else 0 (value_of adopted.now.entries fund year)) }
 {
-    let place = value_in(adopted, InYear { number: fund, year });
+    let place = value_in(
+        adopted,
+        NumberPair {
+            first: fund,
+            second: year,
+        },
+    );
     place_or_none(place.unwrap_or(0))
 }

@@ -19,6 +19,7 @@ use Rattle.cf_orders.proofs.Closing.{lapse_of, roll_of}
 use Rattle.cf_orders.proofs.Lists.{map_each}
 use Rattle.cf_orders.proofs.Ranges.{changed_extents}
 use Rattle.cf_orders.proofs.Rolled.{Keeps, ended_keeps, lapses_seen, rolls_seen, view_carried}
+use Rattle.cf_rows.specs.Limits.{most_cents}
 
 -- rows that were all changed
 pub record IsChangedWhole {R : Type 0} (f : R → R) (old new : List R) : Type 0 where
@@ -53,11 +54,11 @@ pub extents_lapsed : (year : ℕ) (extents : List Extent) (old new : List HoldRo
 extents_lapsed year extents old new changed are =
     changed_extents (λ h. h.requisition) extents old new changed.len (λ k d l. ap (λ (h : HoldRow). h.requisition) (changed.rows k d l) ∙ (lapsed_same year (get_or old k d)).0) are
 
-pub amounts_lapsed : (year : ℕ) (old new : List HoldRow) → IsChangedWhole (lapsed_hold year) old new → ((k : ℕ) (d : HoldRow) → k < length old → (get_or old k d).account.amount ≤ 10000000000000) →
-    (k : ℕ) (d : HoldRow) → k < length new → (get_or new k d).account.amount ≤ 10000000000000
+pub amounts_lapsed : (year : ℕ) (old new : List HoldRow) → IsChangedWhole (lapsed_hold year) old new → ((k : ℕ) (d : HoldRow) → k < length old → (get_or old k d).account.amount ≤ most_cents) →
+    (k : ℕ) (d : HoldRow) → k < length new → (get_or new k d).account.amount ≤ most_cents
 amounts_lapsed year old new changed all k d l =
     let m : k < length old = rw (← changed.len) l in
-    subst (λ n. n ≤ 10000000000000) (sym (ap (λ (h : HoldRow). h.account.amount) (changed.rows k d m) ∙ (lapsed_same year (get_or old k d)).1)) (all k d m)
+    subst (λ n. n ≤ most_cents) (sym (ap (λ (h : HoldRow). h.account.amount) (changed.rows k d m) ∙ (lapsed_same year (get_or old k d)).1)) (all k d m)
 
 -- ---- orders' items
 

@@ -10,13 +10,12 @@ ghost use Rattle.cf_revenue.specs.ReceivablesShown.{bill_now_at, receivable_show
 ghost use Rattle.cf_revenue.specs.Steps.{ShowsBill};
 ghost use Rattle.cf_chart.specs.Plan.{source_at};
 
-use crate::pairs::{FundPair, amount_in};
 use crate::recognition::revenue_year;
 use crate::rows::{BillRow, LoanRow, SettlementRow};
 use cf_base::Day;
 use cf_calls::{Act, Drawn, Read, Shown};
 use cf_chart::Chart;
-use cf_rows::{YEARS, difference, total_through};
+use cf_rows::{NumberPair, YEARS, amount_at, difference, total_through};
 use std::alloc::Global;
 use std::collections::BTreeMap;
 use std::marker::Model;
@@ -29,7 +28,7 @@ pub struct Revenue {
     pub(crate) settlements: Vec<SettlementRow>,
     pub(crate) loans: Vec<LoanRow>,
     pub(crate) repayments: Vec<LoanRow>,
-    pub(crate) owed: BTreeMap<FundPair, u64>,
+    pub(crate) owed: BTreeMap<NumberPair, u64>,
     /// The amounts of bills, by levy year.
     pub(crate) billed: [u128; YEARS],
     /// The amounts of settlements, by the year in which they count.
@@ -119,7 +118,7 @@ impl Revenue {
     pub fn owed(&self, debtor: u16, creditor: u16) -> u64
         ensures { result ≡ spec.owed self.now.receivables debtor creditor }
     {
-        amount_in(&self.owed, FundPair { debtor, creditor })
+        amount_at(&self.owed, owed_key(debtor, creditor))
     }
 
     /// Unavailable revenue through a fiscal year, in cents (GASB Statement 65: deferred inflows of resources).
@@ -176,6 +175,16 @@ impl Revenue {
                 source: bill.source,
             }),
         }
+    }
+}
+
+/// What the amount that a debtor fund owes a creditor fund stands under.
+pub(crate) fn owed_key(debtor: u16, creditor: u16) -> NumberPair
+    ensures { result ≡ record { first = debtor; second = creditor } }
+{
+    NumberPair {
+        first: debtor,
+        second: creditor,
     }
 }
 

@@ -12,14 +12,14 @@ ghost use Rattle.cf_revenue.specs.Register.{IsBillLevied, HasRoomToMove, HasRoom
 ghost use Rattle.cf_revenue.specs.Rows.{view_loan, view_settlement};
 ghost use Rattle.cf_revenue.specs.Steps.{CanSettle, lowered};
 ghost use Rattle.cf_revenue.specs.declared.rows.BillRow.{BillRow as Row};
+ghost use Rattle.cf_rows.specs.Limits.{most_cents};
 
-use crate::pairs::{FundPair, amount_in, put_in};
-use crate::revenue::Revenue;
+use crate::revenue::{Revenue, owed_key};
 use crate::rows::{BillRow, LoanRow, SettlementRow};
 use cf_base::Day;
 use cf_calls::acts::{BillAmount, FundMove, FundMoveKind, NewBill};
 use cf_chart::Chart;
-use cf_rows::{raise, year_of_day};
+use cf_rows::{amount_at, put_in, raise, year_of_day};
 
 impl Revenue {
     /// Counts an act that is none of the register's own.
@@ -35,7 +35,7 @@ impl Revenue {
     pub(crate) fn enter_bill(&mut self, number: u32, bill: &NewBill)
         requires number { number ≡ length self.old.receivables.bills + 1 }
         requires year { IsYear bill.now.levy_year }
-        requires amount { bill.now.amount ≤ 10000000000000 }
+        requires amount { bill.now.amount ≤ most_cents }
         requires room { length self.old.receivables.bills < self.old.room.bills }
         requires few { self.old.acts < most_entries }
         ensures receivables { self.new.receivables ≡ record self.old.receivables {
@@ -60,7 +60,7 @@ impl Revenue {
         requires day { is_day on ≡ true }
         requires allowed { receivable_refusal self.old.receivables (act.Collect part.now) ≡ None }
         requires levied { IsBillLevied chart.now self.old.receivables.bills on part.now.bill }
-        requires amount { part.now.amount ≤ 10000000000000 }
+        requires amount { part.now.amount ≤ most_cents }
         requires room { length self.old.receivables.settlements < self.old.room.settlements }
         requires few { self.old.acts < most_entries }
         ensures receivables { self.new.receivables ≡ record self.old.receivables {
@@ -83,7 +83,7 @@ impl Revenue {
         requires day { is_day on ≡ true }
         requires allowed { receivable_refusal self.old.receivables (act.WriteOff part.now) ≡ None }
         requires levied { IsBillLevied chart.now self.old.receivables.bills on part.now.bill }
-        requires amount { part.now.amount ≤ 10000000000000 }
+        requires amount { part.now.amount ≤ most_cents }
         requires room { length self.old.receivables.settlements < self.old.room.settlements }
         requires few { self.old.acts < most_entries }
         ensures receivables { self.new.receivables ≡ record self.old.receivables {
@@ -101,7 +101,7 @@ impl Revenue {
 
     fn settle(&mut self, settlement: SettlementRow)
         requires settles { CanSettle self.old.receivables settlement }
-        requires amount { settlement.amount ≤ 10000000000000 }
+        requires amount { settlement.amount ≤ most_cents }
         requires room { length self.old.receivables.settlements < self.old.room.settlements }
         requires few { self.old.acts < most_entries }
         ensures receivables { self.new.receivables ≡ record self.old.receivables {
@@ -119,7 +119,7 @@ impl Revenue {
     pub(crate) fn move_cash(&mut self, fund_move: &FundMove)
         requires reserved { HasRoomToMove fund_move.now.what fund_move.now self.old }
         requires allowed { over_loan self.old.receivables fund_move.now.what fund_move.now ≡ None }
-        requires amount { fund_move.now.amount ≤ 10000000000000 }
+        requires amount { fund_move.now.amount ≤ most_cents }
         requires few { self.old.acts < most_entries }
         ensures receivables { self.new.receivables ≡ record self.old.receivables {
           loans = self.old.receivables.loans ++ loans_by (act.Interfund fund_move.now);
@@ -137,19 +137,16 @@ impl Revenue {
     /// The borrower owes the lender so much more.
     fn lend(&mut self, loan: LoanRow)
         requires reserved { HasRoomToLend loan.from loan.to self.old }
-        requires amount { loan.amount ≤ 10000000000000 }
+        requires amount { loan.amount ≤ most_cents }
         requires few { self.old.acts < most_entries }
         ensures receivables { self.new.receivables ≡ record self.old.receivables {
           loans = self.old.receivables.loans ++ view_loan loan ∷ [];
         } }
         ensures acts { self.new.acts ≡ self.old.acts + 1 }
     {
-        let pair = FundPair {
-            debtor: loan.to,
-            creditor: loan.from,
-        };
-        let amount = amount_in(&self.owed, pair) + loan.amount;
-        put_in(&mut self.owed, pair, amount);
+        let key = owed_key(loan.to, loan.from);
+        let amount = amount_at(&self.owed, key) + loan.amount;
+        put_in(&mut self.owed, key, amount);
         self.loans.push_reserved(loan);
         self.acts += 1;
     }
@@ -164,12 +161,9 @@ impl Revenue {
         } }
         ensures acts { self.new.acts ≡ self.old.acts + 1 }
     {
-        let pair = FundPair {
-            debtor: repayment.from,
-            creditor: repayment.to,
-        };
-        let amount = amount_in(&self.owed, pair) - repayment.amount;
-        put_in(&mut self.owed, pair, amount);
+        let key = owed_key(repayment.from, repayment.to);
+        let amount = amount_at(&self.owed, key) - repayment.amount;
+        put_in(&mut self.owed, key, amount);
         self.repayments.push_reserved(repayment);
         self.acts += 1;
     }

@@ -1,2 +1,3 @@
 pub mod Cells
+pub mod PairFacts
 pub mod YearSums

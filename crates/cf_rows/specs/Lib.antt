@@ -1,2 +1,4 @@
 pub mod Extents
+pub mod Limits
+pub mod Pairs
 pub mod Years

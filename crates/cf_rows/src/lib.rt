@@ -1,14 +1,17 @@
-//! What registers are made of: where a document's rows stand, and the chart's fiscal years and months of days.
+//! What registers are made of: where a document's rows stand, amounts by fiscal year, values by two numbers, and the
+//! chart's fiscal years and months of days.
 #![tactic(auto)]
 
 mod amounts;
 mod calendar;
 mod extents;
 mod months;
+mod pairs;
 mod years;
 
 pub use amounts::difference;
 pub use calendar::{document_year, is_before, rolled_year, year_of_day};
 pub use extents::{Extent, count, extent_of};
 pub use months::{month_at, number_of_day, number_of_month, year_at, years_to};
+pub use pairs::{NumberPair, amount_at, put_in, reserve_in, value_in};
 pub use years::{YEARS, add_at, amount_in, lower, no_years, raise, total_of, total_through};

@@ -2,9 +2,10 @@ use Rattle.std.proofs.Common.{◌≡◌, ◌≤◌, ◌<◌, ◌*◌, ℕ, lengt
 use Rattle.cf_chart.specs.declared.rows.Function.{Function}
 use Rattle.cf_assets.proofs.Charged.{at_place, part_of}
 use Rattle.cf_assets.proofs.charges.function_charges.Given as goal
+use Rattle.cf_rows.specs.Limits.{most_cents}
 
 abbrev pub invariant-loop-at : goal.invariant-loop-at
 invariant-loop-at l = record {
   sums : (k : ℕ) (d : Function) → k < length l.functions → get_or l.sums k 0 ≡ sum_by (at_place (part_of l.is_lease l.closed (get_or l.functions k d).id) l.rows) (take l.at-index l.serving);
-  small : (k : ℕ) → get_or l.sums k 0 ≤ l.at-index * 10000000000000;
+  small : (k : ℕ) → get_or l.sums k 0 ≤ l.at-index * most_cents;
 }

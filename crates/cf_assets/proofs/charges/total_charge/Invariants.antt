@@ -2,9 +2,10 @@ use Rattle.std.proofs.Common.{◌≡◌, ◌≤◌, ◌*◌, get_or, take, sum_b
 use Rattle.cf_assets.specs.Rows.{view_asset, no_row}
 use Rattle.cf_model.specs.Assets.{charge}
 use Rattle.cf_assets.proofs.charges.total_charge.Given as goal
+use Rattle.cf_rows.specs.Limits.{most_cents}
 
 abbrev pub invariant-loop-at : goal.invariant-loop-at
 invariant-loop-at l = record {
   total : l.total ≡ sum_by (λ at. charge l.closed (view_asset (get_or l.rows at no_row))) (take l.at-index l.serving);
-  small : l.total ≤ l.at-index * 10000000000000;
+  small : l.total ≤ l.at-index * most_cents;
 }

@@ -3,9 +3,10 @@ use Rattle.cf_debt.specs.Charges.{bond_of}
 use Rattle.cf_debt.specs.Rows.{view_payments}
 use Rattle.cf_model.specs.Bonds.{coupon}
 use Rattle.cf_debt.proofs.look.coupons_of.Given as goal
+use Rattle.cf_rows.specs.Limits.{most_cents}
 
 abbrev pub invariant-loop-payment : goal.invariant-loop-payment
 invariant-loop-payment l = record {
   is : l.coupons ≡ sum_by (coupon (bond_of l.terms)) (take l.payment-index (view_payments l.payments));
-  most : l.coupons ≤ 10000000000000 * l.payment-index;
+  most : l.coupons ≤ most_cents * l.payment-index;
 }

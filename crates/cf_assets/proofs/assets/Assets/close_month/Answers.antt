@@ -3,6 +3,7 @@ use Rattle.cf_assets.specs.Inventory.{accumulated_at}
 use Rattle.cf_assets.specs.Register.{Register}
 use Rattle.cf_assets.proofs.Leases.{amortized_is, amortized_most, close_months}
 use Rattle.cf_assets.proofs.assets.Assets.close_month.Goals as goal
+use Rattle.cf_base.specs.Limits.{most_entries}
 
 pub overflow_add-before : goal.overflow_add-before
 overflow_add-before c =
@@ -24,7 +25,7 @@ invariant_of-self c =
     let was = c.self.invariant in
     let inventory = c.self.inside.inventory in
     let amortized = c.self.inside.amortized.items in
-    let few = subst (λ (r : Register). r.acts < 1500000) (sym c.self.view_is) c.requires.few in
+    let few = subst (λ (r : Register). r.acts < most_entries) (sym c.self.view_is) c.requires.few in
     let before : c.accumulated_after-before.result ≡ accumulated_at amortized inventory.closed = c.accumulated_after-before.ensures ∙ ap (accumulated_at amortized) c.closed.ensures.value in
     record {
       acts = omega (arith, few);

@@ -10,11 +10,12 @@ use Rattle.cf_model.specs.Rules.{first_refusal}
 use Rattle.cf_assets.proofs.Standing.{extents_map, disposes_keep}
 use Rattle.cf_model.specs.Calendar.{year_of_day}
 use Rattle.cf_assets.proofs.assets.Assets.dispose.Goals as goal
+use Rattle.cf_base.specs.Limits.{most_entries}
 
 pub invariant_of-self : goal.invariant_of-self
 invariant_of-self c =
     let was = c.self.invariant in
-    let few = subst (λ (r : Register). r.acts < 1500000) (sym c.self.view_is) c.requires.few in
+    let few = subst (λ (r : Register). r.acts < most_entries) (sym c.self.view_is) c.requires.few in
     let year = year_of_day c.args.chart.now c.args.on in
     let inventory = c.self.inside.inventory in
     let rule : first_refusal (disposed_asset c.args.on) (filter (λ (a : Asset). a.number == c.args.number) inventory.assets) ≡ None =

@@ -5,11 +5,12 @@ use Rattle.cf_assets.proofs.Leases.{bought_years, bought_months}
 use Rattle.cf_assets.proofs.Standing.{extents_push, bought_its}
 use Rattle.cf_calls.specs.declared.items.VoucherItem.{VoucherItem}
 use Rattle.cf_assets.proofs.assets.Assets.enter_voucher.Goals as goal
+use Rattle.cf_base.specs.Limits.{most_entries}
 
 pub invariant_of-self : goal.invariant_of-self
 invariant_of-self c =
     let was = c.self.invariant in
-    let few = subst (λ (r : Register). r.acts < 1500000) (sym c.self.view_is) c.requires.few in
+    let few = subst (λ (r : Register). r.acts < most_entries) (sym c.self.view_is) c.requires.few in
     let next : c.args.drawn.number ≡ length c.self.inside.vouchers.items + 1 = subst (λ (r : Register). c.args.drawn.number ≡ r.vouchers + 1) (sym c.self.view_is) c.requires.drawn.voucher in
     let is = c.buy_all.ensures.assets c.args.drawn.number refl in
     let items : length c.as_slice.result.now ≤ 32 = subst (λ (xs : List VoucherItem). length xs ≤ 32) (sym c.as_slice.ensures) c.requires.items in

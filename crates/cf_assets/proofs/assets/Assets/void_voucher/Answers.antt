@@ -5,11 +5,12 @@ use Rattle.cf_assets.specs.Steps.{voids}
 use Rattle.cf_assets.proofs.Leases.{void_years, void_months}
 use Rattle.cf_assets.proofs.Standing.{extents_map, voids_keep}
 use Rattle.cf_assets.proofs.assets.Assets.void_voucher.Goals as goal
+use Rattle.cf_base.specs.Limits.{most_entries}
 
 pub invariant_of-self : goal.invariant_of-self
 invariant_of-self c =
     let was = c.self.invariant in
-    let few = subst (λ (r : Register). r.acts < 1500000) (sym c.self.view_is) c.requires.few in
+    let few = subst (λ (r : Register). r.acts < most_entries) (sym c.self.view_is) c.requires.few in
     let n = c.args.voucher in
     let assets = c.self.inside.inventory.assets in
     record {

@@ -5,6 +5,7 @@ use Rattle.cf_assets.specs.Rows.{view_asset, IsStage}
 use Rattle.cf_assets.proofs.InService.{serving_push}
 use Rattle.cf_assets.proofs.Keeping.{rows_push, accumulated_push, lease_bought, lease_given, new_book}
 use Rattle.cf_assets.proofs.inventory.Inventory.accept_lease.Goals as goal
+use Rattle.cf_rows.specs.Limits.{most_items}
 
 pub invariant_of-self : goal.invariant_of-self
 invariant_of-self c =
@@ -13,7 +14,7 @@ invariant_of-self c =
     let rows = c.self.inside.rows.items in
     let accumulated = c.self.inside.accumulated.items in
     let new = c.requires.new in
-    let few : length (map view_asset rows) < 48000000 = subst (λ (i : Inventory). length i.assets < 48000000) (sym c.self.view_is) c.requires.few in
+    let few : length (map view_asset rows) < most_items = subst (λ (i : Inventory). length i.assets < most_items) (sym c.self.view_is) c.requires.few in
     let next : r.number ≡ length (map view_asset rows) + 1 = subst (λ (i : Inventory). r.number ≡ length i.assets + 1) (sym c.self.view_is) new.number in
     let early : length accumulated ≤ r.service = subst (λ (i : Inventory). i.closed ≤ r.service) (sym c.self.view_is) new.early in
     let at : c.len-at.result ≡ length rows = omega (arith, c.len-at.ensures) in

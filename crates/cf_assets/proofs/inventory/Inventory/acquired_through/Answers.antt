@@ -5,18 +5,19 @@ use Rattle.cf_assets.specs.Years.{bought_in, given_in}
 use Rattle.cf_assets.proofs.Keeping.{year_most, bought_most, given_most, kept}
 use Rattle.cf_rows.proofs.Cells.{cells_to, cells_most, to_most}
 use Rattle.cf_assets.proofs.inventory.Inventory.acquired_through.Goals as goal
+use Rattle.cf_rows.specs.Limits.{most_total}
 
 pub total_through-requires : goal.total_through-requires
 total_through-requires c =
     let rows = c.self.inside.rows.items in
     let was = c.self.invariant in
-    omega (arith, cells_most (λ y. sum_by (bought_in y) (map view_asset rows)) c.self.inside.outlay 480000000000000000000 was.outlay (year_most bought_in bought_most (length c.self.inside.accumulated.items) rows was.rows was.few))
+    omega (arith, cells_most (λ y. sum_by (bought_in y) (map view_asset rows)) c.self.inside.outlay most_total was.outlay (year_most bought_in bought_most (length c.self.inside.accumulated.items) rows was.rows was.few))
 
 pub total_through-requires-2 : goal.total_through-requires-2
 total_through-requires-2 c =
     let rows = c.self.inside.rows.items in
     let was = c.self.invariant in
-    omega (arith, cells_most (λ y. sum_by (given_in y) (map view_asset rows)) c.self.inside.donated 480000000000000000000 was.donated (year_most given_in given_most (length c.self.inside.accumulated.items) rows was.rows was.few))
+    omega (arith, cells_most (λ y. sum_by (given_in y) (map view_asset rows)) c.self.inside.donated most_total was.donated (year_most given_in given_most (length c.self.inside.accumulated.items) rows was.rows was.few))
 
 pub overflow_add-result : goal.overflow_add-result
 overflow_add-result c =
@@ -28,8 +29,8 @@ overflow_add-result c =
       c.requires,
       c.total_through.ensures ∙ cells_to (λ y. sum_by (bought_in y) (map view_asset rows)) c.self.inside.outlay was.outlay n (omega (arith, c.requires)),
       c.total_through-2.ensures ∙ cells_to (λ y. sum_by (given_in y) (map view_asset rows)) c.self.inside.donated was.donated n (omega (arith, c.requires)),
-      to_most (λ y. sum_by (bought_in y) (map view_asset rows)) 480000000000000000000 (year_most bought_in bought_most (length c.self.inside.accumulated.items) rows was.rows was.few) n,
-      to_most (λ y. sum_by (given_in y) (map view_asset rows)) 480000000000000000000 (year_most given_in given_most (length c.self.inside.accumulated.items) rows was.rows was.few) n,
+      to_most (λ y. sum_by (bought_in y) (map view_asset rows)) most_total (year_most bought_in bought_most (length c.self.inside.accumulated.items) rows was.rows was.few) n,
+      to_most (λ y. sum_by (given_in y) (map view_asset rows)) most_total (year_most given_in given_most (length c.self.inside.accumulated.items) rows was.rows was.few) n,
     )
 
 pub returns-clause-value : goal.returns-clause-value
@@ -51,8 +52,8 @@ returns-clause-most c =
       c.requires,
       c.total_through.ensures ∙ cells_to (λ y. sum_by (bought_in y) (map view_asset rows)) c.self.inside.outlay was.outlay n (omega (arith, c.requires)),
       c.total_through-2.ensures ∙ cells_to (λ y. sum_by (given_in y) (map view_asset rows)) c.self.inside.donated was.donated n (omega (arith, c.requires)),
-      to_most (λ y. sum_by (bought_in y) (map view_asset rows)) 480000000000000000000 (year_most bought_in bought_most (length c.self.inside.accumulated.items) rows was.rows was.few) n,
-      to_most (λ y. sum_by (given_in y) (map view_asset rows)) 480000000000000000000 (year_most given_in given_most (length c.self.inside.accumulated.items) rows was.rows was.few) n,
+      to_most (λ y. sum_by (bought_in y) (map view_asset rows)) most_total (year_most bought_in bought_most (length c.self.inside.accumulated.items) rows was.rows was.few) n,
+      to_most (λ y. sum_by (given_in y) (map view_asset rows)) most_total (year_most given_in given_most (length c.self.inside.accumulated.items) rows was.rows was.few) n,
     )
 
 pub returns-clause-first : goal.returns-clause-first

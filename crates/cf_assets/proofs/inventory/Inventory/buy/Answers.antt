@@ -7,12 +7,13 @@ use Rattle.cf_assets.proofs.InService.{serving_push}
 use Rattle.cf_assets.proofs.Keeping.{rows_push, accumulated_push, buy_bought, buy_given, new_book, year_most, bought_most}
 use Rattle.cf_rows.proofs.Cells.{cells_most}
 use Rattle.cf_assets.proofs.inventory.Inventory.buy.Goals as goal
+use Rattle.cf_rows.specs.Limits.{most_items, most_total}
 
 pub raise-requires-clause-fits : goal.raise-requires-clause-fits
 raise-requires-clause-fits c =
     let rows = c.self.inside.rows.items in
     let was = c.self.invariant in
-    omega (arith, c.requires.new.cost, cells_most (λ y. sum_by (bought_in y) (map view_asset rows)) c.self.inside.outlay 480000000000000000000 was.outlay (year_most bought_in bought_most (length c.self.inside.accumulated.items) rows was.rows was.few))
+    omega (arith, c.requires.new.cost, cells_most (λ y. sum_by (bought_in y) (map view_asset rows)) c.self.inside.outlay most_total was.outlay (year_most bought_in bought_most (length c.self.inside.accumulated.items) rows was.rows was.few))
 
 pub invariant_of-self : goal.invariant_of-self
 invariant_of-self c =
@@ -21,7 +22,7 @@ invariant_of-self c =
     let rows = c.self.inside.rows.items in
     let accumulated = c.self.inside.accumulated.items in
     let new = c.requires.new in
-    let few : length (map view_asset rows) < 48000000 = subst (λ (i : Inventory). length i.assets < 48000000) (sym c.self.view_is) c.requires.few in
+    let few : length (map view_asset rows) < most_items = subst (λ (i : Inventory). length i.assets < most_items) (sym c.self.view_is) c.requires.few in
     let next : r.number ≡ length (map view_asset rows) + 1 = subst (λ (i : Inventory). r.number ≡ length i.assets + 1) (sym c.self.view_is) new.number in
     let early : length accumulated ≤ r.service = subst (λ (i : Inventory). i.closed ≤ r.service) (sym c.self.view_is) new.early in
     let at : c.len-at.result ≡ length rows = omega (arith, c.len-at.ensures) in

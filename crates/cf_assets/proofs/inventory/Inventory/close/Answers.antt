@@ -6,6 +6,7 @@ use Rattle.cf_assets.proofs.InService.{retired}
 use Rattle.cf_assets.proofs.Keeping.{rows_close, close_accumulated, close_books, close_fits}
 use Rattle.cf_model.specs.Assets.{charge}
 use Rattle.cf_assets.proofs.inventory.Inventory.close.Goals as goal
+use Rattle.cf_base.specs.Limits.{most_entries}
 
 pub overflow_add-before : goal.overflow_add-before
 overflow_add-before c =
@@ -22,7 +23,7 @@ invariant_of-self c =
     let rows = c.self.inside.rows.items in
     let accumulated = c.self.inside.accumulated.items in
     let was = c.self.invariant in
-    let few : length accumulated < 1500000 = subst (λ (i : Inventory). i.closed < 1500000) (sym c.self.view_is) c.requires.few in
+    let few : length accumulated < most_entries = subst (λ (i : Inventory). i.closed < most_entries) (sym c.self.view_is) c.requires.few in
     let len : c.len-closed.result ≡ length accumulated = omega (arith, c.len-closed.ensures) in
     let before : c.accumulated_after-before.result ≡ accumulated_at accumulated (length accumulated) = c.accumulated_after-before.ensures ∙ ap (accumulated_at accumulated) len in
     let charged : c.total_charge-charge.result ≡ sum_by (charge (length accumulated)) (map view_asset rows) = c.total_charge-charge.ensures ∙ (λ i. sum_by (charge (len i)) (map view_asset (c.deref.ensures.value i))) in

@@ -12,6 +12,7 @@ use Rattle.cf_assets.proofs.Keeping.{IsAt, restaged, row_is, restage_rows, resta
 use Rattle.cf_rows.proofs.Cells.{cells_most}
 use Rattle.cf_model.specs.Assets.{Asset, disposed, depreciation}
 use Rattle.cf_assets.proofs.inventory.Inventory.dispose_at.Goals as goal
+use Rattle.cf_rows.specs.Limits.{most_total}
 
 there : (a : Inside) (i : Inventory) (k : ℕ) (r : AssetRow) → inventory_of a ≡ i → k < length i.assets → r ≡ get_or a.rows.items k r → IsAt k a.rows.items r
 there a i k r view l is = record { within = omega (arith, subst (λ (j : Inventory). k < length j.assets) (sym view) l, length-map a.rows.items view_asset); is = is }
@@ -27,7 +28,7 @@ raise-requires c =
     record {
       from = c.requires.from;
       to = c.requires.to;
-      fits = omega (arith, row.cost, cells_most (λ y. sum_by (book_in (length accumulated) y) (map view_asset rows)) c.self.inside.disposals 480000000000000000000 was.disposals (year_most (book_in (length accumulated)) (book_most (length accumulated)) (length accumulated) rows was.rows was.few));
+      fits = omega (arith, row.cost, cells_most (λ y. sum_by (book_in (length accumulated) y) (map view_asset rows)) c.self.inside.disposals most_total was.disposals (year_most (book_in (length accumulated)) (book_most (length accumulated)) (length accumulated) rows was.rows was.few));
     }
 
 pub invariant_of-self : goal.invariant_of-self

@@ -4,13 +4,14 @@ use Rattle.cf_assets.specs.Years.{book_in}
 use Rattle.cf_assets.proofs.Keeping.{year_most, book_most}
 use Rattle.cf_rows.proofs.Cells.{cells_to, cells_most, to_most}
 use Rattle.cf_assets.proofs.inventory.Inventory.gone_through.Goals as goal
+use Rattle.cf_rows.specs.Limits.{most_total}
 
 pub total_through-requires : goal.total_through-requires
 total_through-requires c =
     let rows = c.self.inside.rows.items in
     let closed = length c.self.inside.accumulated.items in
     let was = c.self.invariant in
-    omega (arith, cells_most (λ y. sum_by (book_in closed y) (map view_asset rows)) c.self.inside.disposals 480000000000000000000 was.disposals (year_most (book_in closed) (book_most closed) closed rows was.rows was.few))
+    omega (arith, cells_most (λ y. sum_by (book_in closed y) (map view_asset rows)) c.self.inside.disposals most_total was.disposals (year_most (book_in closed) (book_most closed) closed rows was.rows was.few))
 
 pub returns-clause-value : goal.returns-clause-value
 returns-clause-value c =
@@ -29,5 +30,5 @@ returns-clause-most c =
       arith,
       c.requires,
       c.total_through.ensures ∙ cells_to (λ y. sum_by (book_in closed y) (map view_asset rows)) c.self.inside.disposals was.disposals n (omega (arith, c.requires)),
-      to_most (λ y. sum_by (book_in closed y) (map view_asset rows)) 480000000000000000000 (year_most (book_in closed) (book_most closed) closed rows was.rows was.few) n,
+      to_most (λ y. sum_by (book_in closed y) (map view_asset rows)) most_total (year_most (book_in closed) (book_most closed) closed rows was.rows was.few) n,
     )

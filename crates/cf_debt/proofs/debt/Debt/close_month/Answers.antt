@@ -8,13 +8,14 @@ use Rattle.cf_model.specs.Bonds.{interest_charge}
 use Rattle.cf_model.specs.RegisterRules.{month_at}
 use Rattle.cf_model.specs.Rules.{first_refusal}
 use Rattle.cf_debt.proofs.debt.Debt.close_month.Goals as goal
+use Rattle.cf_base.specs.Limits.{most_entries}
 
 pub invariant_of-self : goal.invariant_of-self
 invariant_of-self c =
     let was = c.self.invariant in
     let all = view_payments c.self.inside.payments.items in
     let rows = c.self.inside.bonds.items in
-    let few = subst (λ r. r.acts < 1500000) (sym c.self.view_is) c.requires.few in
+    let few = subst (λ r. r.acts < most_entries) (sym c.self.view_is) c.requires.few in
     let next : c.number_of_month-number.result ≡ c.self.inside.closed = c.number_of_month-number.ensures.named c.self.inside.closed (subst (λ (r : Register). c.args.month ≡ month_at c.args.chart.now r.debts.closed) (sym c.self.view_is) c.requires.next) in
     let interest = c.interest_of-interest.ensures.value ∙ (λ i. sum_by (interest_charge c.self.inside.closed) (view_bonds (view_payments (c.deref.ensures.value i)) (c.deref-2.ensures.value i))) in
     let paid = subst (λ (r : Register). first_refusal (unpaid_of c.args.chart.now r.debts.closed) r.debts.bonds ≡ None) (sym c.self.view_is) c.requires.paid in

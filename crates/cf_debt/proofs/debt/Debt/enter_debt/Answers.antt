@@ -12,6 +12,7 @@ use Rattle.cf_debt.proofs.Schedules.{bond_paying}
 use Rattle.cf_model.specs.Bonds.{Bond, dues_from}
 use Rattle.cf_model.specs.Months.{number_of_day}
 use Rattle.cf_debt.proofs.debt.Debt.enter_debt.Goals as goal
+use Rattle.cf_base.specs.Limits.{most_entries}
 
 pub add_schedule-requires-clause-within : goal.add_schedule-requires-clause-within
 add_schedule-requires-clause-within c =
@@ -51,7 +52,7 @@ lease_most false n = omega arith
 pub invariant_of-self : goal.invariant_of-self
 invariant_of-self c =
     let was = c.self.invariant in
-    let few = subst (λ r. r.acts < 1500000) (sym c.self.view_is) c.requires.few in
+    let few = subst (λ r. r.acts < most_entries) (sym c.self.view_is) c.requires.few in
     let row = c.new_bond-row.result in
     let all = view_payments c.self.inside.payments.items in
     let principals = c.args.principals.now in

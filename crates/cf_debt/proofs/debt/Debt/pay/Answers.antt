@@ -14,6 +14,7 @@ use Rattle.cf_debt.proofs.Payments.{payment_at, small_at}
 use Rattle.cf_debt.proofs.RunningSums.{Rise}
 use Rattle.cf_model.specs.Bonds.{coupon}
 use Rattle.cf_debt.proofs.debt.Debt.pay.Goals as goal
+use Rattle.cf_base.specs.Limits.{most_entries}
 
 found : (a : Inside) (r : Register) (n : ℕ) → register_of a ≡ r → AreRows a.closed (view_payments a.payments.items) a.bonds.items → CanPay n r.debts → Pays a.bonds.items n
 found a r n view each can =
@@ -120,7 +121,7 @@ add_at-requires-3-clause-within c =
 pub invariant_of-self : goal.invariant_of-self
 invariant_of-self c =
     let was = c.self.invariant in
-    let few = subst (λ r. r.acts < 1500000) (sym c.self.view_is) c.requires.few in
+    let few = subst (λ r. r.acts < most_entries) (sym c.self.view_is) c.requires.few in
     let n = c.args.debt_payment.now.bond in
     let k = c.args.debt_payment.now.bond - 1 in
     let r = c.index-row.result.now in

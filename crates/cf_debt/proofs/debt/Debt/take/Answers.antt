@@ -1,20 +1,28 @@
-use Rattle.std.proofs.Common.{◌<◌, ◌+◌, ◌-◌, ◌*◌, ◌≤◌, map, ap, arith, sym, subst}
-use Rattle.cf_debt.specs.Accounts.{left_in}
+use Rattle.std.proofs.Common.{◌<◌, ◌+◌, ◌-◌, ◌*◌, ◌≤◌, map, ap, arith, sym, subst, ◌≡◌, ◌∙◌}
 use Rattle.cf_debt.specs.Register.{Register}
 use Rattle.cf_debt.specs.Rows.{view_leave}
 use Rattle.cf_model.specs.Leave.{leave_of}
+use Rattle.cf_rows.specs.declared.pairs.NumberPair.{NumberPair}
+use Rattle.cf_rows.specs.Pairs.{PutsValue, amount_at}
+use Rattle.cf_rows.proofs.PairFacts.{puts_amount}
 use Rattle.cf_debt.proofs.Leaving.{left_kept, left_is, put_small, taken_left, taken_row, years_taken}
 use Rattle.cf_debt.proofs.Lists.{map-push}
 use Rattle.cf_debt.proofs.RunningSums.{Rise}
 use Rattle.cf_debt.proofs.debt.Debt.take.Goals as goal
+use Rattle.cf_base.specs.Limits.{most_entries}
+use Rattle.cf_rows.specs.Limits.{most_cents}
 
 pub invariant_of-self : goal.invariant_of-self
 invariant_of-self c =
     let was = c.self.invariant in
-    let few = subst (λ r. r.acts < 1500000) (sym c.self.view_is) c.requires.few in
+    let few = subst (λ r. r.acts < most_entries) (sym c.self.view_is) c.requires.few in
     let row = c.args.row in
+    let table = c.self.inside.left.entries in
+    let at : c.amount_at.result ≡ amount_at table row.fund row.dept = c.amount_at.ensures ∙ ap (λ (k : NumberPair). amount_at table k.first k.second) c.leave_key-key.ensures in
+    let puts = puts_amount table c.put_in.new.map.entries row.fund row.dept (c.amount_at.result - row.amount)
+    (subst (λ (k : NumberPair). PutsValue table c.put_in.new.map.entries k.first k.second (c.amount_at.result - row.amount)) c.leave_key-key.ensures c.put_in.ensures.value) in
     let left = subst (λ (r : Register). row.amount ≤ leave_of row.fund row.dept r.debts.leave) (sym c.self.view_is) c.requires.left in
-    let enough : row.amount ≤ left_in c.self.inside.left.entries row.fund row.dept = omega (arith, left, left_is row.fund row.dept (map view_leave c.self.inside.leave.items) c.self.inside.left.entries was.leave.left) in
+    let enough : row.amount ≤ amount_at c.self.inside.left.entries row.fund row.dept = omega (arith, left, left_is row.fund row.dept (map view_leave c.self.inside.leave.items) c.self.inside.left.entries was.leave.left) in
     let by = taken_row row c.requires.taken in
     record {
       small = record {
@@ -29,13 +37,13 @@ invariant_of-self c =
         charged = omega (arith, was.small.charged);
         earned = omega (arith, was.small.earned);
         taken = omega (arith, was.small.taken, c.add_at.ensures.total, c.from.ensures, c.requires.amount);
-        left = put_small c.self.inside.left.entries c.put_in.new.map.entries row.fund row.dept (c.amount_in.result - row.amount) (10000000000000 * (c.self.inside.acts + 1)) c.put_in.ensures (omega (arith, was.small.left row.fund row.dept, c.amount_in.ensures))
+        left = put_small c.self.inside.left.entries c.put_in.new.map.entries row.fund row.dept (c.amount_at.result - row.amount) (most_cents * (c.self.inside.acts + 1)) puts (omega (arith, was.small.left row.fund row.dept, at))
             (λ d e. omega (arith, was.small.left d e));
       };
       bonds = was.bonds;
       sums = was.sums;
       leave = rw (c.push_reserved.ensures.items, map-push view_leave c.self.inside.leave.items row) (record {
-        left = left_kept (map view_leave c.self.inside.leave.items) (view_leave row) c.self.inside.left.entries c.put_in.new.map.entries (c.amount_in.result - row.amount) was.leave.left c.put_in.ensures (taken_left (left_in c.self.inside.left.entries row.fund row.dept) row.amount (c.amount_in.result - row.amount) (view_leave row).by (ap (λ n. n - row.amount) c.amount_in.ensures) enough by);
+        left = left_kept (map view_leave c.self.inside.leave.items) (view_leave row) c.self.inside.left.entries c.put_in.new.map.entries (c.amount_at.result - row.amount) was.leave.left puts (taken_left (amount_at c.self.inside.left.entries row.fund row.dept) row.amount (c.amount_at.result - row.amount) (view_leave row).by (ap (λ n. n - row.amount) at) enough by);
         years = years_taken (map view_leave c.self.inside.leave.items) (view_leave row) row.amount c.self.inside.earned c.self.inside.taken c.add_at.new.cells c.requires.from by was.leave.years (subst (Rise c.self.inside.taken c.add_at.new.cells (row.year - 1970)) c.from.ensures c.add_at.ensures.years);
       });
     }

@@ -4,7 +4,7 @@ use Rattle.cf_calls.specs.declared.entry.Entry.{Entry}
 use Rattle.cf_calls.specs.declared.read.Basis.TheVariants.{Fund, Gov}
 use Rattle.cf_history.proofs.Added.{ready_is, ready_added, ready_years, ready_fits}
 use Rattle.cf_calls.specs.Acts.{adopts}
-use Rattle.cf_budget.specs.InYears.{value_of, or_else}
+use Rattle.cf_rows.specs.Pairs.{value_of, or_else}
 use Rattle.cf_model.proofs.Accepted.{accepted_fits}
 use Rattle.cf_model.proofs.Legal.{legal_push}
 use Rattle.cf_model.proofs.OpenYears.{open_year_push, years_are}
