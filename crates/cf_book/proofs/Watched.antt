@@ -1,8 +1,8 @@
 -- What is seen of one entry more.
-use Rattle.std.proofs.Common.{◌≡◌, ℕ, ◌+◌, length, arith, List, [], ◌∷◌, ◌++◌, refl, sym, ap, subst, ◌∙◌, append-nil}
+use Rattle.std.proofs.Common.{◌≡◌, ℕ, ◌+◌, length, arith, List, [], ◌∷◌, ◌++◌, sym, ap, subst, ◌∙◌, append-nil}
 use Rattle.cf_calls.specs.declared.entry.Entry.{Entry}
 use Rattle.cf_chart.specs.Plan.{Plan}
-use Rattle.cf_model.specs.Registers.{Registers, registers_after, registers_of, registers_step, no_registers}
+use Rattle.cf_model.specs.Registers.{Registers, registers_after, registers_step, no_registers}
 use Rattle.cf_book.specs.Watching.{Posted, posted_over, posted_after, all_posted, next_posted}
 
 posted_after_push : (plan : Plan) (s : Registers) (n : ℕ) (h : List Entry) (e : Entry) →

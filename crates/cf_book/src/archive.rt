@@ -1,6 +1,6 @@
 //! An archive: a history kept on a disk, and one call over it with lent line numbers.
 
-ghost use Rattle.std.specs.Prelude.{◌≡◌, ◌++◌, ◌∷◌, [], false, ℕ, List, Ok, Some, None, IfSome, IfOk, IfErr, OnOk, OnErr, IsTrue};
+ghost use Rattle.std.specs.Prelude.{◌≡◌, ◌++◌, ◌∷◌, [], false, ℕ, List, Ok, Some, None, IsSome, IfSome, IfOk, IfErr, OnOk, OnErr, IsTrue};
 ghost use Rattle.cf_articulation.specs.Articulates.{AllArticulate};
 ghost use Rattle.cf_budget.specs.Tables.{has_line, SameRows, SameStripes};
 ghost use Rattle.cf_calls.specs.Form.{IsCallInForm, IsChangeInForm, IsEntryInForm};
@@ -24,12 +24,13 @@ ghost use Rattle.cf_book.specs.Settling.{Settles, entry_by};
 use crate::readmission::refusal_of;
 use crate::writing::write;
 use cf_budget::Lines;
-use cf_calls::{Body, Call, Change, Drawn, Entry, Posted, Reply, Verdict, entry_of};
+use cf_calls::{Act, Body, Call, Change, Drawn, Entry, Posted, Reply, Verdict};
 use cf_disk::Disk;
 use cf_journal::Journal;
 use cf_looks::look_reply;
 use cf_office::{
-    History, Prepared, PreparedLines, Rest, apply_rest, judge, refusal_reply, repeat_reply, reserve,
+    History, Prepared, PreparedLines, Rest, apply_rest, into_entry, judge, refusal_reply,
+    repeat_reply, reserve,
 };
 use std::alloc::Global;
 use std::marker::Model;
@@ -83,36 +84,44 @@ pub enum Settled {
 /// Takes all memory that an accepted change needs before it is written, and makes its entry ready in the history and in
 /// the journal.
 fn prepare(
-    alloc: Global,
     lines: &mut Lines,
     rest: &mut Rest,
     journal: &mut Journal,
-    change: &Change,
+    change: Change,
     drawn: Drawn,
 ) -> Option<(Prepared, Snapshot<Entry>)>
-    requires form { IsChangeInForm change.now }
-    requires accepted { step.verdict_of rest.old.plan rest.old.entries change.now ≡ Accept drawn }
+    requires form { IsChangeInForm change }
+    requires accepted { step.verdict_of rest.old.plan rest.old.entries change ≡ Accept drawn }
     requires tables { AreTablesOf rest.old.plan rest.old.entries lines.old }
-    requires lent { LendsTouched rest.old.plan (has_line lines.old) change.now.act }
+    requires lent { LendsTouched rest.old.plan (has_line lines.old) change.act }
     ensures plan { rest.new.plan ≡ rest.old.plan }
     ensures entries { rest.new.entries ≡ rest.old.entries }
     ensures rows { SameRows lines.old lines.new }
     ensures stripes { SameStripes lines.old lines.new }
     ensures place { SamePlace journal.old journal.new }
-    ensures ready { IfSome result (λ p. rest.new.ready ≡ Some (entry_by change.now drawn)) }
-    ensures owed { IfSome result (λ p. IsOwed rest.old.plan rest.old.entries (entry_by change.now drawn) lines.new p.0.lines) }
-    ensures reserved { IfSome result (λ p. Reserves journal.new (entry_by change.now drawn)) }
-    ensures entry { IfSome result (λ p. p.1.value ≡ entry_by change.now drawn) }
+    ensures ready { IfSome result (λ p. rest.new.ready ≡ Some (entry_by change drawn)) }
+    ensures owed { IfSome result (λ p. IsOwed rest.old.plan rest.old.entries (entry_by change drawn) lines.new p.0.lines) }
+    ensures reserved { IfSome result (λ p. Reserves journal.new (entry_by change drawn)) }
+    ensures entry { IfSome result (λ p. p.1.value ≡ entry_by change drawn) }
 {
     // The state says of its history that it is legal.
     let _legal = rest.entries();
-    let Ok(entry) = entry_of(alloc, change, drawn) else {
-        return None;
-    };
+    let entry = into_entry(change, drawn);
     journal.reserve(&entry).ok()?;
     let kept = Snapshot::of(&entry);
     let prepared = reserve(lines, rest, entry).ok()?;
     Some((prepared, kept))
+}
+
+/// The act of the entry that is ready.
+fn ready_act(rest: &Rest) -> &Act
+    requires { IsSome rest.now.ready }
+    ensures { IfSome rest.now.ready (λ e. result.now ≡ e.change.act) }
+{
+    match rest.ready_entry() {
+        Some(entry) => &entry.change.act,
+        None => unreachable!(),
+    }
 }
 
 impl<D: Disk + Drop> Archive<D> {
@@ -145,48 +154,48 @@ impl<D: Disk + Drop> Archive<D> {
     /// disk, which leave the history. The entry of an accepted change stands on the disk when its reply is given, and its
     /// changes of line numbers are owed to the tables, which have room for them. Only such a change touches the disk, and not
     /// where memory was wanting.
-    pub fn settle(&mut self, alloc: Global, lines: &mut Lines, call: &Call) -> Settled
-        requires form { IsCallInForm call.now }
+    pub fn settle(&mut self, alloc: Global, lines: &mut Lines, call: Call) -> Settled
+        requires form { IsCallInForm call }
         requires tables { AreTablesOf self.old.plan self.old.entries lines.old }
-        requires lent { LendsCall self.old.plan (has_line lines.old) call.now }
-        ensures reply { Settles (state_of D.faults self.old) call.now (given result) (state_of D.faults self.new) }
-        ensures grows { Grows self.old.plan self.old.entries self.new.entries call.now lines.new result }
+        requires lent { LendsCall self.old.plan (has_line lines.old) call }
+        ensures reply { Settles (state_of D.faults self.old) call (given result) (state_of D.faults self.new) }
+        ensures grows { Grows self.old.plan self.old.entries self.new.entries call lines.new result }
         ensures plan { self.new.plan ≡ self.old.plan }
         ensures rows { SameRows lines.old lines.new }
         ensures stripes { SameStripes lines.old lines.new }
-        ensures disk { accepts self.old.plan self.old.entries call.now ≡ false → self.new.disk ≡ self.old.disk }
+        ensures disk { accepts self.old.plan self.old.entries call ≡ false → self.new.disk ≡ self.old.disk }
         ensures memory { given result ≡ posted.NoMemory → self.new.disk ≡ self.old.disk }
 
         // What a crash leaves at any moment of the call.
         ensures any_moment { IsTrue D.tells → AtEachMoment D.moment D.was_image self.old.disk self.new.disk
-            (RecoversNear self.old.plan self.old.entries (IsInHand (state_of D.faults self.old) call.now)) }
+            (RecoversNear self.old.plan self.old.entries (IsInHand (state_of D.faults self.old) call)) }
     {
         match call {
             Call::Look(look) => {
                 let history = History::new(lines, &self.rest);
-                Settled::Kept(look_reply(alloc, &history, look))
+                Settled::Kept(look_reply(alloc, &history, &look))
             }
-            Call::Change(change) => self.settle_change(alloc, lines, change),
+            Call::Change(change) => self.settle_change(lines, change),
         }
     }
 
-    fn settle_change(&mut self, alloc: Global, lines: &mut Lines, change: &Change) -> Settled
-        requires form { IsChangeInForm change.now }
+    fn settle_change(&mut self, lines: &mut Lines, change: Change) -> Settled
+        requires form { IsChangeInForm change }
         requires tables { AreTablesOf self.old.plan self.old.entries lines.old }
-        requires lent { LendsTouched self.old.plan (has_line lines.old) change.now.act }
-        ensures reply { Settles (state_of D.faults self.old) (calls.Change change.now) (given result) (state_of D.faults self.new) }
-        ensures grows { Grows self.old.plan self.old.entries self.new.entries (calls.Change change.now) lines.new result }
+        requires lent { LendsTouched self.old.plan (has_line lines.old) change.act }
+        ensures reply { Settles (state_of D.faults self.old) (calls.Change change) (given result) (state_of D.faults self.new) }
+        ensures grows { Grows self.old.plan self.old.entries self.new.entries (calls.Change change) lines.new result }
         ensures plan { self.new.plan ≡ self.old.plan }
         ensures rows { SameRows lines.old lines.new }
         ensures stripes { SameStripes lines.old lines.new }
-        ensures disk { accepts self.old.plan self.old.entries (calls.Change change.now) ≡ false → self.new.disk ≡ self.old.disk }
+        ensures disk { accepts self.old.plan self.old.entries (calls.Change change) ≡ false → self.new.disk ≡ self.old.disk }
         ensures memory { given result ≡ posted.NoMemory → self.new.disk ≡ self.old.disk }
         ensures any_moment { IsTrue D.tells → AtEachMoment D.moment D.was_image self.old.disk self.new.disk
-            (RecoversNear self.old.plan self.old.entries (IsInHand (state_of D.faults self.old) (calls.Change change.now))) }
+            (RecoversNear self.old.plan self.old.entries (IsInHand (state_of D.faults self.old) (calls.Change change))) }
     {
         let history = History::new(lines, &self.rest);
-        match judge(&history, change) {
-            Verdict::Accept(drawn) => self.accept(alloc, lines, change, drawn),
+        match judge(&history, &change) {
+            Verdict::Accept(drawn) => self.accept(lines, change, drawn),
             Verdict::Repeat { was } => Settled::Kept(repeat_reply(&history, was)),
             Verdict::Refuse(refusal) => Settled::Kept(refusal_reply(&history, refusal)),
         }
@@ -194,46 +203,45 @@ impl<D: Disk + Drop> Archive<D> {
 
     /// What comes of an entry of another history: the number of its refusal, or what is given where its change is accepted
     /// with its numbers, as in `settle`.
-    pub fn admit(&mut self, alloc: Global, lines: &mut Lines, entry: &Entry) -> Result<Settled, u8>
-        requires form { IsEntryInForm entry.now }
+    pub fn admit(&mut self, lines: &mut Lines, entry: Entry) -> Result<Settled, u8>
+        requires form { IsEntryInForm entry }
         requires tables { AreTablesOf self.old.plan self.old.entries lines.old }
-        requires lent { LendsTouched self.old.plan (has_line lines.old) entry.now.change.act }
-        ensures refused { IfErr result (λ n. entry_refusal self.old.plan self.old.entries entry.now ≡ Some n) }
+        requires lent { LendsTouched self.old.plan (has_line lines.old) entry.change.act }
+        ensures refused { IfErr result (λ n. entry_refusal self.old.plan self.old.entries entry ≡ Some n) }
         ensures same { OnErr result (self.new ≡ self.old) }
-        ensures taken { OnOk result (entry_refusal self.old.plan self.old.entries entry.now ≡ None) }
-        ensures reply { IfOk result (λ s. Settles (state_of D.faults self.old) (calls.Change entry.now.change) (given s) (state_of D.faults self.new)) }
-        ensures grows { IfOk result (λ s. Grows self.old.plan self.old.entries self.new.entries (calls.Change entry.now.change) lines.new s) }
+        ensures taken { OnOk result (entry_refusal self.old.plan self.old.entries entry ≡ None) }
+        ensures reply { IfOk result (λ s. Settles (state_of D.faults self.old) (calls.Change entry.change) (given s) (state_of D.faults self.new)) }
+        ensures grows { IfOk result (λ s. Grows self.old.plan self.old.entries self.new.entries (calls.Change entry.change) lines.new s) }
         ensures plan { self.new.plan ≡ self.old.plan }
         ensures rows { SameRows lines.old lines.new }
         ensures stripes { SameStripes lines.old lines.new }
         ensures memory { IfOk result (λ s. given s ≡ posted.NoMemory → self.new.disk ≡ self.old.disk) }
         ensures any_moment { IsTrue D.tells → AtEachMoment D.moment D.was_image self.old.disk self.new.disk
-            (RecoversNear self.old.plan self.old.entries (IsInHand (state_of D.faults self.old) (calls.Change entry.now.change))) }
+            (RecoversNear self.old.plan self.old.entries (IsInHand (state_of D.faults self.old) (calls.Change entry.change))) }
     {
         let history = History::new(lines, &self.rest);
-        match refusal_of(&history, entry) {
+        match refusal_of(&history, &entry) {
             Some(refusal) => Err(refusal),
-            None => Ok(self.accept(alloc, lines, &entry.change, entry.drawn)),
+            None => Ok(self.accept(lines, entry.change, entry.drawn)),
         }
     }
 
     /// Writes the entry of an accepted change, and adds it.
-    fn accept(&mut self, alloc: Global, lines: &mut Lines, change: &Change, drawn: Drawn) -> Settled
-        requires form { IsChangeInForm change.now }
-        requires accepted { step.verdict_of self.old.plan self.old.entries change.now ≡ Accept drawn }
+    fn accept(&mut self, lines: &mut Lines, change: Change, drawn: Drawn) -> Settled
+        requires form { IsChangeInForm change }
+        requires accepted { step.verdict_of self.old.plan self.old.entries change ≡ Accept drawn }
         requires tables { AreTablesOf self.old.plan self.old.entries lines.old }
-        requires lent { LendsTouched self.old.plan (has_line lines.old) change.now.act }
-        ensures reply { Settles (state_of D.faults self.old) (calls.Change change.now) (given result) (state_of D.faults self.new) }
-        ensures grows { Grows self.old.plan self.old.entries self.new.entries (calls.Change change.now) lines.new result }
+        requires lent { LendsTouched self.old.plan (has_line lines.old) change.act }
+        ensures reply { Settles (state_of D.faults self.old) (calls.Change change) (given result) (state_of D.faults self.new) }
+        ensures grows { Grows self.old.plan self.old.entries self.new.entries (calls.Change change) lines.new result }
         ensures plan { self.new.plan ≡ self.old.plan }
         ensures rows { SameRows lines.old lines.new }
         ensures stripes { SameStripes lines.old lines.new }
         ensures memory { given result ≡ posted.NoMemory → self.new.disk ≡ self.old.disk }
         ensures any_moment { IsTrue D.tells → AtEachMoment D.moment D.was_image self.old.disk self.new.disk
-            (RecoversNear self.old.plan self.old.entries (IsInHand (state_of D.faults self.old) (calls.Change change.now))) }
+            (RecoversNear self.old.plan self.old.entries (IsInHand (state_of D.faults self.old) (calls.Change change))) }
     {
         let Some((prepared, entry)) = prepare(
-            alloc,
             lines,
             &mut self.rest,
             &mut self.journal,
@@ -246,7 +254,7 @@ impl<D: Disk + Drop> Archive<D> {
             &mut self.journal,
             &mut self.disk,
             &mut self.doubt,
-            &change.act,
+            ready_act(&self.rest),
             entry,
         ) else {
             return Settled::Kept(Posted::Disk);

@@ -10,7 +10,7 @@ ghost use Rattle.cf_books.specs.Whole.{ReadsFrames, ReadsWhole};
 
 use cf_calls::Entry;
 use cf_disk::MemDisk;
-use cf_journal::{OpenRefused, open};
+use cf_journal::{OpenRefused, Opened, open};
 use std::alloc::{AllocError, Global};
 
 /// A journal's chart and entries as far as they are whole.
@@ -28,8 +28,8 @@ pub fn read_frames(alloc: Global, bytes: Vec<u8>) -> Result<(Vec<u8>, Vec<Entry>
     ensures records { IfOk result (λ x. All HasRecord x.1.items) }
 {
     let mut disk = MemDisk::new(alloc, bytes)?;
-    let (_, chart, entries) = open(alloc, &mut disk)?;
-    Ok((chart, entries))
+    let Opened { bytes, entries, .. } = open(alloc, &mut disk)?;
+    Ok((bytes, entries))
 }
 
 /// The bytes before a place, with a closed gate there.

@@ -41,9 +41,9 @@ pub trait Follower {
         ensures few { length result.now ≤ most_entries };
 
     /// Takes an entry as the next one of its history, where it would add the same.
-    fn admit(&mut self, entry: &Entry) -> Admission
-        requires { IsEntryInForm entry.now }
-        ensures admits { Admits (office history refusal faults since) self.old entry.now self.new result }
+    fn admit(&mut self, entry: Entry) -> Admission
+        requires { IsEntryInForm entry }
+        ensures admits { Admits (office history refusal faults since) self.old entry self.new result }
         ensures since { since self.old self.new }
         ensures few { length (history self.new) ≤ most_entries };
 

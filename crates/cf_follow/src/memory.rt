@@ -6,14 +6,13 @@ ghost use Rattle.cf_follow.specs.Memory.{refusal_in};
 
 use crate::follower::{Admission, Follower};
 use cf_base::MOST_ENTRIES;
-use cf_calls::{Entry, entry_of};
+use cf_calls::Entry;
 use std::alloc::{AllocError, Global};
 use std::marker::Model;
 
 /// An office in memory that takes every entry but those of one desk, while its history has less than 1,500,000.
 #[derive(Drop)]
 pub struct MemFollower {
-    alloc: Global,
     entries: Vec<Entry>,
     refuses: u16,
 }
@@ -34,22 +33,19 @@ impl MemFollower {
         ensures { result ≡ record { entries = []; refuses = refuses } }
     {
         MemFollower {
-            alloc,
             entries: Vec::new(alloc),
             refuses,
         }
     }
 }
 
-/// Adds a copy of an entry. Where there is no memory the entries stay.
-fn add(alloc: Global, entries: &mut Vec<Entry>, entry: &Entry) -> Result<(), AllocError>
-    requires { IsEntryInForm entry.now }
-    ensures ok { OnOk result (entries.new.items ≡ entries.old.items ++ entry.now ∷ []) }
+/// Adds an entry. Where there is no memory the entries stay.
+fn add(entries: &mut Vec<Entry>, entry: Entry) -> Result<(), AllocError>
+    ensures ok { OnOk result (entries.new.items ≡ entries.old.items ++ entry ∷ []) }
     ensures err { OnErr result (entries.new.items ≡ entries.old.items) }
 {
     entries.reserve(1)?;
-    let copy = entry_of(alloc, &entry.change, entry.drawn)?;
-    entries.push(copy)?;
+    entries.push_reserved(entry);
     Ok(())
 }
 
@@ -66,14 +62,14 @@ impl Follower for MemFollower {
         self.entries.as_slice()
     }
 
-    fn admit(&mut self, entry: &Entry) -> Admission {
+    fn admit(&mut self, entry: Entry) -> Admission {
         if entry.change.desk == self.refuses {
             return Admission::Refused(1);
         }
         if self.entries.len() as u64 >= MOST_ENTRIES {
             return Admission::Refused(5);
         }
-        match add(self.alloc, &mut self.entries, entry) {
+        match add(&mut self.entries, entry) {
             Ok(()) => Admission::Added,
             Err(_) => Admission::NoMemory,
         }

@@ -8,13 +8,11 @@ use cf_book::Book;
 use cf_calls::Entry;
 use cf_disk::Disk;
 use cf_follow::{Admission, Follower};
-use std::alloc::Global;
 use std::marker::Model;
 
 /// A book that takes the entries of another one's history.
 #[derive(Drop)]
 pub(crate) struct Copying<D: Disk + Drop> {
-    alloc: Global,
     book: Book<D>,
 }
 
@@ -27,17 +25,17 @@ impl<D: Disk + Drop> Model for Copying<D> {
 }
 
 impl<D: Disk + Drop> Copying<D> {
-    pub fn new(alloc: Global, book: Book<D>) -> Copying<D>
+    pub fn new(book: Book<D>) -> Copying<D>
         ensures { result ≡ book }
     {
-        Copying { alloc, book }
+        Copying { book }
     }
 
     /// Gives the book back.
     pub fn into_book(self) -> Book<D>
         ensures { result ≡ self }
     {
-        let Copying { alloc: _, book } = self;
+        let Copying { book } = self;
         book
     }
 }
@@ -69,8 +67,8 @@ impl<D: Disk + Drop> Follower for Copying<D> {
         self.book.entries()
     }
 
-    fn admit(&mut self, entry: &Entry) -> Admission {
-        let said = self.book.admit(self.alloc, entry);
+    fn admit(&mut self, entry: Entry) -> Admission {
+        let said = self.book.admit(entry);
         // The book says of its history how long it may be.
         let _legal = self.book.entries();
         admission_of(said)

@@ -60,7 +60,7 @@ fn keep_copy<I: Source, D: Disk + Drop>(
     ensures disk { result.0 ≡ end.DiskFault → Rose (D.faults book.disk) (D.faults result.2) }
     ensures quiet { result.0 ≢ end.DiskFault → D.faults result.2 ≡ D.faults book.disk }
 {
-    let mut copy = Copying::new(alloc, book);
+    let mut copy = Copying::new(book);
     let how = follow(alloc, input, chart, &mut copy);
     let book = copy.into_book();
     let count = book.len();

@@ -13,8 +13,8 @@ ghost use Rattle.cf_generator.specs.Turns.{first_turn};
 use crate::acts::{act_of, adoption, change_of, month_close, receipt};
 use crate::city::city_chart;
 use crate::turn::Turn;
-use cf_calls::{Act, Change, Drawn, Verdict, entry_of};
-use cf_office::{BookOffice, judge};
+use cf_calls::{Act, Change, Drawn, Verdict};
+use cf_office::{BookOffice, into_entry, judge};
 use std::alloc::{AllocError, Global};
 
 /// What each fund receives at the beginning, in cents.
@@ -32,18 +32,13 @@ fn accepted(office: &BookOffice, change: &Change) -> Option<Drawn>
 }
 
 /// Adds the entry of a change that the rules accept.
-fn add(
-    alloc: Global,
-    office: &mut BookOffice,
-    change: &Change,
-    drawn: Drawn,
-) -> Result<(), AllocError>
-    requires form { IsChangeInForm change.now }
-    requires accepted { verdict_of office.old.plan office.old.entries change.now ≡ Accept drawn }
+fn add(office: &mut BookOffice, change: Change, drawn: Drawn) -> Result<(), AllocError>
+    requires form { IsChangeInForm change }
+    requires accepted { verdict_of office.old.plan office.old.entries change ≡ Accept drawn }
     ensures plan { office.new.plan ≡ office.old.plan }
-    ensures ok { OnOk result (office.new.entries ≡ office.old.entries ++ spec.entry_by change.now drawn ∷ []) }
+    ensures ok { OnOk result (office.new.entries ≡ office.old.entries ++ spec.entry_by change drawn ∷ []) }
 {
-    let entry = entry_of(alloc, change, drawn)?;
+    let entry = into_entry(change, drawn);
     office.accept(entry)?;
     Ok(())
 }
@@ -57,7 +52,7 @@ fn take(alloc: Global, office: &mut BookOffice, number: u32, act: Act) -> Result
     let change = change_of(alloc, number, act)?;
     match accepted(office, &change) {
         Some(drawn) => {
-            add(alloc, office, &change, drawn)?;
+            add(office, change, drawn)?;
             Ok(())
         }
         None => Ok(()),

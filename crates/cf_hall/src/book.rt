@@ -33,6 +33,7 @@ use cf_office::PreparedLines;
 use cf_turns::{Pass, Receipts, Turns};
 use std::alloc::Global;
 use std::marker::Model;
+use std::snapshot::Snapshot;
 
 /// The history with its journal and disk, and all that counts it. Contracts see the archive and the recorder. Whatever a
 /// crash leaves of the disk recovers to the history, or to it and the entry in doubt, for that is the archive's promise; and
@@ -61,13 +62,13 @@ fn see<N: City>(
     recording: &mut Recording<N>,
     totals: &mut Totals<N>,
     pass: &mut HallPass<N>,
-    call: &Call,
+    call: Snapshot<Call>,
     answer: &Posted,
 )
     requires own { turns.now ≡ N.table }
-    ensures recorder { recording.new ≡ record recording.old { failed = failed_after recording.old.failed call.now pass.old.number answer.now } }
+    ensures recorder { recording.new ≡ record recording.old { failed = failed_after recording.old.failed call.value pass.old.number answer.now } }
     ensures totals { totals.new ≡ record totals.old { faulted = totals.old.faulted + faults_by answer.now } }
-    ensures pass { Sights pass.old recording.old.list call.now answer.now pass.new }
+    ensures pass { Sights pass.old recording.old.list call.value answer.now pass.new }
     ensures seen { IsPrefix pass.old.seen pass.new.seen }
 {
     match answer {
@@ -133,24 +134,25 @@ impl<N: City, D: Disk + Drop> HallBook<N, D> {
         turns: &Turns,
         taken: &mut Taken<N>,
         pass: &mut HallPass<N>,
-        call: &Call,
+        call: Call,
     ) -> Posted
-        requires form { IsCallInForm call.now }
+        requires form { IsCallInForm call }
         requires own { turns.now ≡ N.table }
         requires owes { taken.old.owed ≡ None }
-        requires lent { LendsCall N.plan (has_line taken.old.lines) call.now }
-        ensures reply { Settles (state_of D.faults self.old.archive) call.now result (state_of D.faults self.new.archive) }
+        requires lent { LendsCall N.plan (has_line taken.old.lines) call }
+        ensures reply { Settles (state_of D.faults self.old.archive) call result (state_of D.faults self.new.archive) }
         ensures list { ListGrows self.old.recorder.list pass.old.number self.new.recorder.list }
         ensures taken { AllSeen self.new.recorder.list taken.new.ties }
         ensures stripes { SameStripes taken.old.lines taken.new.lines }
-        ensures pass { Tells N.plan pass.old pass.new call.now result }
-        ensures disk { accepts self.old.archive.plan self.old.archive.entries call.now ≡ false → self.new.archive.disk ≡ self.old.archive.disk }
+        ensures pass { Tells N.plan pass.old pass.new call result }
+        ensures disk { accepts self.old.archive.plan self.old.archive.entries call ≡ false → self.new.archive.disk ≡ self.old.archive.disk }
         ensures memory { result ≡ posted.NoMemory → self.new.archive.disk ≡ self.old.archive.disk }
 
         // What a crash leaves at any moment of the call.
         ensures any_moment { IsTrue D.tells → AtEachMoment D.moment D.was_image self.old.archive.disk self.new.archive.disk
-            (RecoversNear self.old.archive.plan self.old.archive.entries (IsInHand (state_of D.faults self.old.archive) call.now)) }
+            (RecoversNear self.old.archive.plan self.old.archive.entries (IsInHand (state_of D.faults self.old.archive) call)) }
     {
+        let said = Snapshot::of(&call);
         self.recording.catch_up(turns, taken, &mut pass.pass);
         match self.archive.settle(alloc, &mut taken.lines, call) {
             Settled::Kept(answer) => {
@@ -159,7 +161,7 @@ impl<N: City, D: Disk + Drop> HallBook<N, D> {
                     &mut self.recording,
                     &mut self.totals,
                     pass,
-                    call,
+                    said,
                     &answer,
                 );
                 answer

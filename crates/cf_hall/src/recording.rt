@@ -20,6 +20,7 @@ use cf_names::{City, Counts, follow_all};
 use cf_office::{PreparedLines, touched_stripes};
 use cf_turns::{Pass, Recorder, Turns};
 use std::marker::Model;
+use std::snapshot::Snapshot;
 
 /// No entry is left to be counted of any stripe.
 const NONE: [u64; 8] = [0; 8];
@@ -113,13 +114,13 @@ impl<N: City> Recording<N> {
     }
 
     /// Notes that a call of the pass was answered by a fault of the disk. The pass sees the whole list.
-    pub(crate) fn fail(&mut self, turns: &Turns, call: &Call, pass: &mut Pass)
+    pub(crate) fn fail(&mut self, turns: &Turns, call: Snapshot<Call>, pass: &mut Pass)
         requires own { (turns.now ≡ N.table) × (pass.old.table ≡ N.table) }
-        ensures recorder { self.new ≡ record self.old { failed = self.old.failed ++ (call.now, pass.old.number) ∷ [] } }
+        ensures recorder { self.new ≡ record self.old { failed = self.old.failed ++ (call.value, pass.old.number) ∷ [] } }
         ensures pass { pass.new ≡ record pass.old {
           seen = longer pass.old.seen self.old.list;
           faults = min (pass.old.faults + 1) (2 ^ 64 - 1);
-          failed = pass.old.failed ++ call.now ∷ [];
+          failed = pass.old.failed ++ call.value ∷ [];
         } }
         ensures seen { IsPrefix pass.old.seen pass.new.seen }
     {

@@ -110,13 +110,13 @@ impl<N: City, D: Disk + Drop> Shared<N, D> {
         alloc: Global,
         pass: &mut HallPass<N>,
         gate: &G,
-        call: &Call,
+        call: Call,
     ) -> Posted
-        requires { IsCallInForm call.now }
-        ensures { Tells N.plan pass.old pass.new call.now result }
+        requires { IsCallInForm call }
+        ensures { Tells N.plan pass.old pass.new call result }
     {
-        let mut taken = self.places.take(rt, &self.chart, call);
-        gate.taken(call);
+        let mut taken = self.places.take(rt, &self.chart, &call);
+        gate.taken(&call);
         let answer = self
             .book(rt)
             .settle(alloc, &self.turns, &mut taken, pass, call);

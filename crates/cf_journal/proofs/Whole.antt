@@ -10,10 +10,11 @@ use Rattle.cf_disk.specs.Moments.{Advances, AtEachMoment}
 use Rattle.cf_journal.specs.Records.{entries_from, records_of}
 use Rattle.cf_journal.specs.Frames.{version_by, stated_head, with_chart, behind_head, frames}
 use Rattle.cf_journal.specs.Layout.{IsValid, IsAtRest}
-use Rattle.cf_journal.specs.Answers.{Accepts, EndsAt, Opens}
+use Rattle.cf_journal.specs.Answers.{GivesChart, GivesEntries, EndsAt, Opens}
 use Rattle.cf_journal.specs.declared.refused.OpenRefused.{OpenRefused}
 use Rattle.cf_journal.specs.declared.refused.OpenRefused.TheVariants.{Disk, NotFounded, Damaged, NoMemory}
 use Rattle.cf_journal.proofs.Layouts.{front_split, at_rest}
+use Rattle.cf_journal.proofs.Moments.{weaken, both}
 
 -- a call that adds no image
 pub still : {D : Type 0} (moment : D → ℕ) (is_image : D → List ℕ → Type 0) (was_image : D → ℕ → List ℕ → Type 0) → ((d : D) (image : List ℕ) → was_image d (moment d) image → is_image d image)
@@ -23,6 +24,16 @@ still moment is_image was_image only old new time none = record {
   images = λ image was. ⊎_elim (only old image) (none image) (time.no_more (moment old) image (omega arith) was);
   since = λ t image le was. ⊎_elim (λ before. inl before) (λ now. inr (none image now)) (time.no_more t image le was);
 }
+
+-- three of them, one after another
+pub still_thrice : {D : Type 0} (moment : D → ℕ) (is_image : D → List ℕ → Type 0) (was_image : D → ℕ → List ℕ → Type 0) → ((d : D) (image : List ℕ) → was_image d (moment d) image → is_image d image)
+    → (a b c d : D) → Advances moment is_image was_image a b → AddsNone (is_image a) (is_image b) → Advances moment is_image was_image b c → AddsNone (is_image b) (is_image c)
+    → Advances moment is_image was_image c d → AddsNone (is_image c) (is_image d) → AtEachMoment moment was_image a d (is_image a)
+still_thrice moment is_image was_image only a b c d time_b none_b time_c none_c time_d none_d =
+    let first = still moment is_image was_image only a b time_b none_b in
+    let second = weaken moment was_image b c (is_image b) (is_image a) (still moment is_image was_image only b c time_c none_c) none_b in
+    let third = weaken moment was_image c d (is_image c) (is_image a) (still moment is_image was_image only c d time_d none_d) (λ image is. none_b image (none_c image is)) in
+    both moment was_image a b d (is_image a) first (both moment was_image b c d (is_image a) second third)
 
 -- a head, a chart and records, as they were read one after another
 module _ (version : ℕ) (bytes chart records : List ℕ) (n len : ℕ) (sizes : len ≡ length bytes) (within : 7 + n ≤ len) (chart_is : chart ≡ take n (drop 6 bytes)) (records_are : records ≡ take (len - (6 + n)) (drop (6 + n) bytes)) where
@@ -70,8 +81,17 @@ frames_refused version bytes chart n chart_is head refused =
     ∙ ap (λ (b : Bool). if b then with_chart (take n (drop 6 bytes)) (entries_from version 0 (6 + n) (drop (6 + n) bytes)) else Err (Damaged 6)) unaccepted
 
 -- a refusal of the chart is one of the whole
-pub refuses_whole : {A E : Type 0} (J : Type 0) (e : OpenRefused) (read : Result A E) (whole : Result (List ℕ × List Entry) OpenRefused) → Accepts (Err e) read → (IsErr read → whole ≡ Err (Damaged 6)) → Opens {J = J} (Err e) whole
-refuses_whole J NoMemory read whole gives refused = tt
-refuses_whole J Disk read whole gives refused = tt
-refuses_whole J (NotFounded len byte) read whole gives refused = absurd (cc (gives.0))
-refuses_whole J (Damaged offset) read whole gives refused = refused gives.1 ∙ ap (λ (x : OpenRefused). Err x) (sym gives.0)
+pub refuses_whole : {A E : Type 0} (e : OpenRefused) (read : Result A E) (whole : Result (List ℕ × List Entry) OpenRefused) → GivesChart (Err e) read → (IsErr read → whole ≡ Err (Damaged 6)) → Opens (Err e) whole
+refuses_whole NoMemory read whole gives refused = tt
+refuses_whole Disk read whole gives refused = tt
+refuses_whole (NotFounded len byte) read whole gives refused = absurd (cc (gives.0))
+refuses_whole (Damaged offset) read whole gives refused = refused gives.1 ∙ ap (λ (x : OpenRefused). Err x) (sym gives.0)
+
+-- ---- an open gate with no entry behind it
+
+pub refused_records : (e : OpenRefused) (version first : ℕ) (chart records : List ℕ) (whole : Result (List ℕ × List Entry) OpenRefused) → whole ≡ with_chart chart (entries_from version 0 first records)
+    → GivesEntries (Err e) version first records → Opens (Err e) whole
+refused_records NoMemory version first chart records whole is gives = tt
+refused_records Disk version first chart records whole is gives = tt
+refused_records (NotFounded len byte) version first chart records whole is gives = absurd gives
+refused_records (Damaged at) version first chart records whole is gives = is ∙ ap (with_chart chart) gives

@@ -1,5 +1,5 @@
 -- What the calls of a journal answer.
-use Rattle.std.specs.Prelude.{◌≡◌, ◌≢◌, ◌⊎◌, ⊤, ℕ, ◌+◌, ◌≤◌, true, false, List, [], ◌∷◌, ◌++◌, All, length, take, slice_index, Vec, Some, None, Result, Ok, Err, IsOk, IsErr, IsErrOf}
+use Rattle.std.specs.Prelude.{◌≡◌, ◌≢◌, ◌⊎◌, ⊤, ℕ, ◌+◌, ◌≤◌, true, false, List, [], ◌∷◌, ◌++◌, All, length, take, slice_index, Vec, Some, None, Result, Ok, Err, IsErr, IsErrOf}
 use Rattle.std.specs.declared.alloc.Global.{Global}
 use Rattle.cf_base.specs.Causes.{Rose}
 use Rattle.cf_calls.specs.declared.entry.Entry.{Entry}
@@ -9,6 +9,7 @@ use Rattle.cf_disk.specs.Moments.{AtEachMoment}
 use Rattle.cf_journal.specs.Records.{HasRecord, stated_len, entry_behind, entries_from, records_of}
 use Rattle.cf_journal.specs.Frames.{is_founded}
 use Rattle.cf_journal.specs.Layout.{RecoversTo}
+use Rattle.cf_journal.specs.declared.opening.Opened.{Opened}
 use Rattle.cf_journal.specs.declared.refused.OpenRefused.{OpenRefused}
 use Rattle.cf_journal.specs.declared.refused.OpenRefused.TheVariants as open_refused
 use Rattle.cf_journal.specs.declared.refused.FoundRefused.{FoundRefused}
@@ -21,8 +22,8 @@ pub record HasDiskCause {T E : Type 0} (disk : E) (before now : ℕ) (result : R
   pub quiet : IsErrOf result disk ⊎ (now ≡ before)
 
 -- opening gives what the bytes stand for; a fault of the disk and want of memory are free
-abbrev pub Opens : {J : Type 0} → Result (J × Vec ℕ Global × Vec Entry Global) OpenRefused → Result (List ℕ × List Entry) OpenRefused → Type 0
-Opens (Ok x) frames = frames ≡ Ok (x.1.items, x.2.items)
+abbrev pub Opens : Result Opened OpenRefused → Result (List ℕ × List Entry) OpenRefused → Type 0
+Opens (Ok o) frames = frames ≡ Ok (o.bytes.items, o.entries.items)
 Opens (Err open_refused.Disk) frames = ⊤
 Opens (Err open_refused.NoMemory) frames = ⊤
 Opens (Err (open_refused.NotFounded len byte)) frames = frames ≡ Err (open_refused.NotFounded len byte)
@@ -64,11 +65,11 @@ abbrev pub GivesHead : Result (ℕ × ℕ) OpenRefused → Result (ℕ × ℕ) O
 GivesHead (Ok h) x = x ≡ Ok h
 GivesHead (Err e) x = Refuses e x
 
--- a chart that is refused is damage at its place
-abbrev pub Accepts : {A E : Type 0} → Result (Unit {0}) OpenRefused → Result A E → Type 0
-Accepts (Ok _) chart = IsOk chart
-Accepts (Err open_refused.NoMemory) chart = ⊤
-Accepts (Err e) chart = (e ≡ open_refused.Damaged 6) × IsErr chart
+-- the chart that was read; one that is refused is damage at its place
+abbrev pub GivesChart : {A E : Type 0} → Result A OpenRefused → Result A E → Type 0
+GivesChart (Ok chart) x = x ≡ Ok chart
+GivesChart (Err open_refused.NoMemory) x = ⊤
+GivesChart (Err e) x = (e ≡ open_refused.Damaged 6) × IsErr x
 
 -- the entry behind the gate at a place, with its payload's length
 abbrev pub GivesEntry : Result (ℕ × Entry) OpenRefused → ℕ → ℕ → List ℕ → Type 0

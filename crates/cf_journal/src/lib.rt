@@ -10,5 +10,5 @@ mod steps;
 pub use cf_codec::NoMemory;
 pub use founding::found;
 pub use journal::{Journal, record_len};
-pub use opening::open;
+pub use opening::{Opened, open};
 pub use refused::{Disk_, FoundRefused, OpenRefused};

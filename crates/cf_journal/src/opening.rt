@@ -1,11 +1,11 @@
 //! Opening a journal.
 
-ghost use Rattle.std.specs.Prelude.{◌≡◌, ◌⊎◌, ◌+◌, ◌≤◌, ◌<◌, ◌^◌, ◌∷◌, ℕ, min, IsTrue, IsOk, IfOk, IfErr, OnOk, vec_len, length, take, drop, slice_index};
+ghost use Rattle.std.specs.Prelude.{◌≡◌, ◌⊎◌, ◌+◌, ◌≤◌, ◌<◌, ◌^◌, ◌∷◌, ℕ, min, IsTrue, Ok, IfOk, IfErr, OnOk, vec_len, length, take, drop, slice_index};
 ghost use Rattle.std.specs.Int.{w32, to_be_bytes};
 ghost use Rattle.cf_chart.specs.Reading.{chart_of};
 ghost use Rattle.cf_disk.specs.Images.{AddsNone, IsOnlyImage};
 ghost use Rattle.cf_disk.specs.Moments.{Advances, AtEachMoment};
-ghost use Rattle.cf_journal.specs.Answers.{HasDiskCause, Opens, GivesHead, Accepts, GivesEntry, GivesEntries, EndsAt};
+ghost use Rattle.cf_journal.specs.Answers.{HasDiskCause, Opens, GivesHead, GivesChart, GivesEntry, GivesEntries, EndsAt};
 ghost use Rattle.cf_journal.specs.Frames.{frames};
 ghost use Rattle.cf_journal.specs.Journal.{version_of, IsSettled};
 ghost use Rattle.cf_journal.specs.Frames as spec;
@@ -20,14 +20,23 @@ use cf_codec::{CodecRefused, read_entry};
 use cf_disk::Disk;
 use std::alloc::Global;
 
+/// What a journal has, with its end.
+#[derive(Drop)]
+pub struct Opened {
+    pub journal: Journal,
+    /// The bytes that state the chart.
+    pub bytes: Vec<u8>,
+    pub chart: Chart,
+    /// Oldest first.
+    pub entries: Vec<Entry>,
+}
+
 /// Opens the journal on a disk, in either version: its end, its chart and its entries. It syncs, then reads, and writes nothing.
-pub fn open<D: Disk>(
-    alloc: Global,
-    disk: &mut D,
-) -> Result<(Journal, Vec<u8>, Vec<Entry>), OpenRefused>
+pub fn open<D: Disk>(alloc: Global, disk: &mut D) -> Result<Opened, OpenRefused>
     ensures answer { IsTrue D.tells → Opens result (frames (D.content disk.old)) }
-    ensures settled { IfOk result (λ x. IsSettled D.tells D.is_image x.0 disk.new x.1.items x.2.items) }
-    ensures version { IsTrue D.tells → IfOk result (λ x. version_of x.0 ≡ spec.version_by (slice_index (D.content disk.old) 1)) }
+    ensures states { IfOk result (λ o. chart_of o.bytes.items ≡ Ok o.chart) }
+    ensures settled { IfOk result (λ o. IsSettled D.tells D.is_image o.journal disk.new o.bytes.items o.entries.items) }
+    ensures version { IsTrue D.tells → IfOk result (λ o. version_of o.journal ≡ spec.version_by (slice_index (D.content disk.old) 1)) }
 
     // It changes nothing, and at its end a crash leaves what a read gives.
     ensures content { IsTrue D.tells → D.content disk.new ≡ D.content disk.old }
@@ -42,35 +51,33 @@ pub fn open<D: Disk>(
 }
 
 /// Reads the journal in a file of this length.
-fn read_journal<D: Disk>(
-    alloc: Global,
-    disk: &mut D,
-    len: u64,
-) -> Result<(Journal, Vec<u8>, Vec<Entry>), OpenRefused>
+fn read_journal<D: Disk>(alloc: Global, disk: &mut D, len: u64) -> Result<Opened, OpenRefused>
     requires { IsTrue D.tells → len ≡ length (D.content disk.old) }
     ensures answer { IsTrue D.tells → Opens result (frames (D.content disk.old)) }
-    ensures settled { IfOk result (λ x. (IsTrue D.tells → IsOnlyImage (D.content disk.old) (D.is_image disk.old))
-        → IsSettled D.tells D.is_image x.0 disk.new x.1.items x.2.items) }
-    ensures version { IsTrue D.tells → IfOk result (λ x. version_of x.0 ≡ spec.version_by (slice_index (D.content disk.old) 1)) }
+    ensures states { IfOk result (λ o. chart_of o.bytes.items ≡ Ok o.chart) }
+    ensures settled { IfOk result (λ o. (IsTrue D.tells → IsOnlyImage (D.content disk.old) (D.is_image disk.old))
+        → IsSettled D.tells D.is_image o.journal disk.new o.bytes.items o.entries.items) }
+    ensures version { IsTrue D.tells → IfOk result (λ o. version_of o.journal ≡ spec.version_by (slice_index (D.content disk.old) 1)) }
     ensures content { IsTrue D.tells → D.content disk.new ≡ D.content disk.old }
     ensures images { AddsNone (D.is_image disk.old) (D.is_image disk.new) }
     ensures any_moment { AtEachMoment D.moment D.was_image disk.old disk.new (D.is_image disk.old) }
     ensures cause { HasDiskCause open_refused.Disk (D.faults disk.old) (D.faults disk.new) result }
 {
     let (version, chart_len) = read_head(disk, len)?;
-    let chart = read_piece(alloc, disk, 6, chart_len)?;
-    match accept(alloc, &chart) {
-        Ok(()) => {}
+    let bytes = read_piece(alloc, disk, 6, chart_len)?;
+    let chart = match read_chart(alloc, &bytes) {
+        Ok(chart) => chart,
         Err(e) => return Err(e),
-    }
+    };
     let first = 6 + chart_len;
     let records = read_piece(alloc, disk, first, len - first)?;
     let (gate, entries) = read_entries(alloc, version, &records, first)?;
-    Ok((
-        Journal::at(alloc, version, gate, entries.len() as u64),
+    Ok(Opened {
+        journal: Journal::at(alloc, version, gate, entries.len() as u64),
+        bytes,
         chart,
         entries,
-    ))
+    })
 }
 
 /// The version that byte 1 tells.
@@ -148,12 +155,12 @@ fn read_piece<D: Disk>(
     Ok(piece)
 }
 
-/// Whether a chart is accepted.
-fn accept(alloc: Global, chart: &[u8]) -> Result<(), OpenRefused>
-    ensures { Accepts result (chart_of chart.now) }
+/// The chart that these bytes state.
+fn read_chart(alloc: Global, bytes: &[u8]) -> Result<Chart, OpenRefused>
+    ensures { GivesChart result (chart_of bytes.now) }
 {
-    match Chart::read(alloc, chart) {
-        Ok(_) => Ok(()),
+    match Chart::read(alloc, bytes) {
+        Ok(chart) => Ok(chart),
         Err(ChartRefused::Fault(_)) => Err(OpenRefused::Damaged { offset: 6 }),
         Err(ChartRefused::NoMemory) => Err(OpenRefused::NoMemory),
     }

@@ -60,7 +60,7 @@ fn mark_items(chart: &Chart, items: &[AccountItem], marks: &mut [bool; 8])
 }
 
 /// The same, of the items of a voucher.
-fn mark_invoice(chart: &Chart, items: &[VoucherItem], marks: &mut [bool; 8])
+fn mark_voucher(chart: &Chart, items: &[VoucherItem], marks: &mut [bool; 8])
     ensures { (k : ℕ) → k < 8 → mark_at marks.new k ≡ (mark_at marks.old k || list_any (λ i. spec.is_item_in chart.now k i.account) items.now) }
 {
     for item in items {
@@ -96,7 +96,7 @@ pub fn touched_stripes(chart: &Chart, act: &Act) -> [bool; 8]
             mark_items(chart, o.items.as_slice(), &mut marks);
         }
         Act::ChangeOrder(c) => mark_account(chart, c.fund, c.dept, c.object, &mut marks),
-        Act::Voucher(v) => mark_invoice(chart, v.items.as_slice(), &mut marks),
+        Act::Voucher(v) => mark_voucher(chart, v.items.as_slice(), &mut marks),
         Act::PayDue(p) => {
             mark_account(chart, p.fund, p.dept, p.principal, &mut marks);
             mark_account(chart, p.fund, p.dept, p.interest, &mut marks);

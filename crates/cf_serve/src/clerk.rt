@@ -111,11 +111,11 @@ impl<'a, N: City, D: Disk + Drop, H: Wait> Model for Clerk<'a, N, D, H> {
 
 impl<'a, N: City, D: Disk + Drop, H: Wait> Clerk<'a, N, D, H> {
     /// Posts a call, and writes the reply.
-    fn answer_call(&mut self, call: &Call, out: &mut Vec<u8>) -> Result<u16, AllocError>
-        requires form { IsCallInForm call.now }
+    fn answer_call(&mut self, call: Call, out: &mut Vec<u8>) -> Result<u16, AllocError>
+        requires form { IsCallInForm call }
         requires room { vec_len out.old + 1024 ≤ vec_capacity out.old }
-        ensures ok { IfOk result (λ code. AnswersCall N.plan self.old self.new call.now code out.old.items out.new.items) }
-        ensures memory { OnErr result (Hears N.plan self.old call.now posted.NoMemory self.new) }
+        ensures ok { IfOk result (λ code. AnswersCall N.plan self.old self.new call code out.old.items out.new.items) }
+        ensures memory { OnErr result (Hears N.plan self.old call posted.NoMemory self.new) }
     {
         let given = self
             .shared
@@ -133,7 +133,7 @@ impl<'a, N: City, D: Disk + Drop, H: Wait> Answer for Clerk<'a, N, D, H> {
     fn answer(&mut self, request: &Request, out: &mut Vec<u8>) -> Result<u16, AllocError> {
         out.reserve(1024)?;
         match call_in(self.alloc, request) {
-            Ok(call) => self.answer_call(&call, out),
+            Ok(call) => self.answer_call(call, out),
             Err(CallRefused::Form(fault)) => write_fault(self.alloc, &fault, out),
             Err(CallRefused::NoMemory) => Err(AllocError),
         }

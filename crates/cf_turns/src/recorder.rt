@@ -14,6 +14,7 @@ use crate::rule::{
 use crate::turns::{Turns, ViewSeat};
 use cf_calls::{Call, Entry};
 use std::marker::{Brand, Model};
+use std::snapshot::Snapshot;
 
 /// Who adds to the list. There is one for each word, so it stands under a lock where several threads add.
 #[derive(Drop)]
@@ -63,12 +64,12 @@ impl Recorder {
 
     /// Notes that a call of this pass was answered by a fault of the disk, and counts it. A count that stands at its greatest
     /// value stays there.
-    pub fn fail(&mut self, turns: &Turns, call: &Call, pass: &mut Pass)
+    pub fn fail(&mut self, turns: &Turns, call: Snapshot<Call>, pass: &mut Pass)
         requires own { (self.old.table ≡ turns.now) × (pass.old.table ≡ turns.now) }
-        ensures recorder { self.new ≡ record self.old { failed = self.old.failed ++ (call.now, pass.old.number) ∷ [] } }
+        ensures recorder { self.new ≡ record self.old { failed = self.old.failed ++ (call.value, pass.old.number) ∷ [] } }
         ensures pass { pass.new ≡ record pass.old {
           faults = min (pass.old.faults + 1) (2 ^ 64 - 1);
-          failed = pass.old.failed ++ call.now ∷ [];
+          failed = pass.old.failed ++ call.value ∷ [];
         } }
     {
         let word = &turns.table.shared;
@@ -184,16 +185,16 @@ fn add<N: Told>(seat: &mut ViewSeat, turns: &Turns, entry: &Entry) -> u64
 }
 
 // Notes the call, with the number that the seat was lent.
-fn note_failed<N: ToldFailed>(seat: &mut ViewSeat, turns: &Turns, call: &Call)
-    requires told { N.calls ≡ (call.now, seat.old.me.0.number) ∷ [] }
+fn note_failed<N: ToldFailed>(seat: &mut ViewSeat, turns: &Turns, call: Snapshot<Call>)
+    requires told { N.calls ≡ (call.value, seat.old.me.0.number) ∷ [] }
     requires own { seat.old.table_id ≡ turns.now }
     requires records { seat.old.me.0.records ≡ true }
     requires lent { seat.old.me.0.has_number ≡ true }
     ensures own { seat.new.table_id ≡ seat.old.table_id }
     ensures slots { seat.new.me.1 ≡ seat.old.me.1 }
     ensures view { seat.new.me.0 ≡ record seat.old.me.0 {
-      failed = seat.old.me.0.failed ++ (call.now, seat.old.me.0.number) ∷ [];
-      own_failed = seat.old.me.0.own_failed ++ call.now ∷ [];
+      failed = seat.old.me.0.failed ++ (call.value, seat.old.me.0.number) ∷ [];
+      own_failed = seat.old.me.0.own_failed ++ call.value ∷ [];
     } }
 {
     let _ = call;

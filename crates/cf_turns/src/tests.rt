@@ -5,6 +5,7 @@ use cf_base::Day;
 use cf_calls::{Act, Call, Change, Drawn, Entry, Key, Look, Read};
 use std::alloc::{AllocError, Global};
 use std::marker::Brand;
+use std::snapshot::Snapshot;
 use std::sync::ledger::Blank;
 use std::test::*;
 
@@ -70,8 +71,8 @@ fn a_fault_reply_counts_and_moves_nothing(rt: HostRuntime) -> Result<(), Fail> {
         after: None,
         read: Read::Order { order: 1 },
     });
-    recorder.fail(&turns, &call, &mut pass);
-    recorder.fail(&turns, &call, &mut pass);
+    recorder.fail(&turns, Snapshot::of(&call), &mut pass);
+    recorder.fail(&turns, Snapshot::of(&call), &mut pass);
     let ask = pass.ask(&turns);
     let heard = recorder.hear(&turns, ask);
     assert_eq!(rt; (pass.seen(), heard), (0, 0));

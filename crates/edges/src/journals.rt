@@ -8,7 +8,7 @@ use cf_calls::Entry;
 use cf_chart::Chart;
 use cf_codec::read_entry;
 use cf_disk::{Disk, FileDisk};
-use cf_journal::{Journal, found, open};
+use cf_journal::{Journal, Opened, found, open};
 use std::alloc::Global;
 use std::fs::{self, File, Files};
 use std::io;
@@ -86,7 +86,7 @@ fn show_opened<D: Disk>(
     payload: &[u8],
 ) -> io::Result<()> {
     match (open(alloc, disk), read_entry(alloc, payload, 2)) {
-        (Ok((mut journal, _, _)), Ok((entry, _))) => {
+        (Ok(Opened { mut journal, .. }), Ok((entry, _))) => {
             println!(rt; "  open done")?;
             show_appended(rt, disk, &mut journal, &entry)
         }
@@ -111,7 +111,7 @@ pub fn show_append<R: Files<File = File> + Print + AllocGlobal>(
 /// Opens the journal of a disk, and appends the entry of a payload. Whether it did.
 fn append_opened<D: Disk>(alloc: Global, disk: &mut D, payload: &[u8]) -> bool {
     match (open(alloc, disk), read_entry(alloc, payload, 2)) {
-        (Ok((mut journal, _, _)), Ok((entry, _))) => append(disk, &mut journal, &entry),
+        (Ok(Opened { mut journal, .. }), Ok((entry, _))) => append(disk, &mut journal, &entry),
         _ => false,
     }
 }

@@ -44,7 +44,7 @@ fn post_line<N: City, D: Disk + Drop, H: Wait>(
     line: &str,
 ) -> Posted {
     match read_call(alloc, line.as_bytes()) {
-        Ok(call) => shared.post(rt, alloc, pass, gate, &call),
+        Ok(call) => shared.post(rt, alloc, pass, gate, call),
         Err(_) => Posted::NoMemory,
     }
 }
@@ -71,7 +71,7 @@ fn post<N: City, D: Disk + Drop, H: Wait>(
 /// Has a book settle the call that a line is.
 fn settle_line(alloc: Global, book: &mut Book<MemDisk>, line: &str) -> Posted {
     match read_call(alloc, line.as_bytes()) {
-        Ok(call) => book.settle(alloc, &call),
+        Ok(call) => book.settle(alloc, call),
         Err(_) => Posted::NoMemory,
     }
 }

@@ -13,5 +13,5 @@ returns-in-Ok-clause-ok g c =
       reads = opened.content;
       durable = opened.durable;
       any_moment = opened.any_moment;
-      quiet = ok_quiet (c.in-Ok.office, c.in-Ok.journal, c.in-Ok.chart) _ _ _ opened.cause;
+      quiet = ok_quiet (c.in-Ok.office, c.in-Ok.journal, c.in-Ok.bytes) _ _ _ opened.cause;
     })

@@ -10,7 +10,7 @@ new-history-requires g c = rw (← c.self.view_is) at c.requires.tables
 
 pub returns-in-Some-clause-refused : goal.returns-in-Some-clause-refused
 returns-in-Some-clause-refused g c =
-    let says = subst (λ (x : HistoryState). c.refusal_of.result ≡ entry_refusal x.plan x.entries c.args.entry.now) c.new-history.ensures c.refusal_of.ensures in
+    let says = subst (λ (x : HistoryState). c.refusal_of.result ≡ entry_refusal x.plan x.entries c.args.entry) c.new-history.ensures c.refusal_of.ensures in
     rw (← c.self.view_is) (sym says ∙ c.in-Some.is)
 
 pub returns-in-Some-clause-any_moment : goal.returns-in-Some-clause-any_moment
@@ -22,10 +22,10 @@ returns-in-Some-clause-any_moment g c =
 pub accept-requires-clause-accepted : goal.accept-requires-clause-accepted
 accept-requires-clause-accepted g c =
     let b = c.self.inside in
-    let says = subst (λ (x : HistoryState). c.refusal_of.result ≡ entry_refusal x.plan x.entries c.args.entry.now) c.new-history.ensures c.refusal_of.ensures in
-    rw (← c.self.view_is) (taken_adds b.rest.plan b.rest.entries c.args.entry.now c.requires.form (sym says ∙ c.in-None.is)).accepts
+    let says = subst (λ (x : HistoryState). c.refusal_of.result ≡ entry_refusal x.plan x.entries c.args.entry) c.new-history.ensures c.refusal_of.ensures in
+    rw (← c.self.view_is) (taken_adds b.rest.plan b.rest.entries c.args.entry c.requires.form (sym says ∙ c.in-None.is)).accepts
 
 pub returns-in-None-clause-taken : goal.returns-in-None-clause-taken
 returns-in-None-clause-taken g c =
-    let says = subst (λ (x : HistoryState). c.refusal_of.result ≡ entry_refusal x.plan x.entries c.args.entry.now) c.new-history.ensures c.refusal_of.ensures in
+    let says = subst (λ (x : HistoryState). c.refusal_of.result ≡ entry_refusal x.plan x.entries c.args.entry) c.new-history.ensures c.refusal_of.ensures in
     rw (← c.self.view_is) (sym says ∙ c.in-None.is)

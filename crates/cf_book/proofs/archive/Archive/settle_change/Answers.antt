@@ -17,9 +17,9 @@ pub returns-in-Repeat-clause-reply : goal.returns-in-Repeat-clause-reply
 returns-in-Repeat-clause-reply g c =
     let b = c.self.inside in
     let was = c.in-Repeat.was in
-    let says = subst (λ (x : HistoryState). Repeat was ≡ verdict_of x.plan x.entries c.args.change.now) c.new-history.ensures c.in-Repeat.ensures in
+    let says = subst (λ (x : HistoryState). Repeat was ≡ verdict_of x.plan x.entries c.args.change) c.new-history.ensures c.in-Repeat.ensures in
     let gives = subst (λ (x : HistoryState). c.repeat_reply.result ≡ posted.Reply (record { at = length x.entries; body = Done (made_at x.plan x.entries was) (Some was) })) c.new-history.ensures c.repeat_reply.ensures in
-    rw (← c.self.view_is) (repeat_answers (record { plan = b.rest.plan; entries = b.rest.entries; doubt = doubt_of b.doubt; faults = g.D.Disk.faults b.disk }) c.args.change.now was c.repeat_reply.result says gives)
+    rw (← c.self.view_is) (repeat_answers (record { plan = b.rest.plan; entries = b.rest.entries; doubt = doubt_of b.doubt; faults = g.D.Disk.faults b.disk }) c.args.change was c.repeat_reply.result says gives)
 
 pub returns-in-Repeat-clause-any_moment : goal.returns-in-Repeat-clause-any_moment
 returns-in-Repeat-clause-any_moment g c =
@@ -31,9 +31,9 @@ pub returns-in-Refuse-clause-reply : goal.returns-in-Refuse-clause-reply
 returns-in-Refuse-clause-reply g c =
     let b = c.self.inside in
     let refusal = c.in-Refuse.refusal in
-    let says = subst (λ (x : HistoryState). Refuse refusal ≡ verdict_of x.plan x.entries c.args.change.now) c.new-history.ensures c.in-Refuse.ensures in
+    let says = subst (λ (x : HistoryState). Refuse refusal ≡ verdict_of x.plan x.entries c.args.change) c.new-history.ensures c.in-Refuse.ensures in
     let gives = subst (λ (x : HistoryState). c.refusal_reply.result ≡ posted.Reply (record { at = length x.entries; body = Refused refusal })) c.new-history.ensures c.refusal_reply.ensures in
-    rw (← c.self.view_is) (refusal_answers (record { plan = b.rest.plan; entries = b.rest.entries; doubt = doubt_of b.doubt; faults = g.D.Disk.faults b.disk }) c.args.change.now refusal c.refusal_reply.result says gives)
+    rw (← c.self.view_is) (refusal_answers (record { plan = b.rest.plan; entries = b.rest.entries; doubt = doubt_of b.doubt; faults = g.D.Disk.faults b.disk }) c.args.change refusal c.refusal_reply.result says gives)
 
 pub returns-in-Refuse-clause-any_moment : goal.returns-in-Refuse-clause-any_moment
 returns-in-Refuse-clause-any_moment g c =

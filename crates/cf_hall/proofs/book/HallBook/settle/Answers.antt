@@ -2,6 +2,7 @@ use Rattle.std.proofs.Common.{◌≡◌, ℕ, ◌+◌, ◌≤◌, ◌∷◌, ◌
 use Rattle.std.proofs.lemmas.List.{append-nil}
 use Rattle.cf_budget.specs.declared.changes.LineChange.{LineChange}
 use Rattle.cf_budget.specs.Tables.{Tables, has_stripe}
+use Rattle.cf_calls.specs.declared.call.Call.{Call}
 use Rattle.cf_calls.specs.declared.entry.Entry.{Entry}
 use Rattle.cf_calls.specs.declared.reply.Posted.TheVariants as posted
 use Rattle.cf_chart.specs.Plan.{Plan}
@@ -40,12 +41,13 @@ invariant_of-self g c =
     let list : c.see.new.recording.list ≡ b.recording.list = ap (λ (r : RecorderState). r.list) c.see.ensures.recorder ∙ ap (λ (r : RecorderState). r.list) c.catch_up.ensures.recorder in
     let faulted : c.see.new.totals.faulted ≡ b.totals.faulted + faults_by c.in-Kept.answer = ap (λ (t : TotalsState). t.faulted) c.see.ensures.totals in
     let in_doubt = g.N.City.doubt in
-    let call = c.args.call.now in
+    let call = c.args.call in
     let number = c.catch_up.new.pass.number in
     let was = state_of d.faults b.archive in
     let now = state_of d.faults c.settle.new.self in
     let failed : c.see.new.recording.failed ≡ failed_after b.recording.failed call number c.in-Kept.answer =
-    ap (λ (r : RecorderState). r.failed) c.see.ensures.recorder ∙ ap (λ (r : RecorderState). failed_after r.failed call number c.in-Kept.answer) c.catch_up.ensures.recorder in
+    ap (λ (r : RecorderState). r.failed) c.see.ensures.recorder ∙ ap (λ (x : Call). failed_after c.catch_up.new.self.failed x number c.in-Kept.answer) c.of-said.ensures
+    ∙ ap (λ (r : RecorderState). failed_after r.failed call number c.in-Kept.answer) c.catch_up.ensures.recorder in
     let long : g.N.City.first ≤ length b.archive.entries = omega (arith, c.self.invariant.from, ap length c.self.invariant.list, entries_length b.recording.list) in
     record {
       plan = c.settle.ensures.plan ∙ c.self.invariant.plan;
@@ -54,9 +56,9 @@ invariant_of-self g c =
       accepted = ap (λ (t : TotalsState). t.accepted) c.see.ensures.totals ∙ c.self.invariant.accepted ∙ ap length (sym list);
       faulted =
           subst (λ (n : ℕ). RoseBy n g.N.City.risen (d.faults c.settle.new.self.disk)) (sym faulted)
-          (risen_by (state_of d.faults b.archive) c.args.call.now c.in-Kept.answer (state_of d.faults c.settle.new.self) b.totals.faulted g.N.City.risen c.in-Kept.ensures.reply c.self.invariant.faulted);
-      quiet = λ is. quiet_by (state_of d.faults b.archive) c.args.call.now c.in-Kept.answer (state_of d.faults c.settle.new.self) b.totals.faulted g.N.City.risen c.in-Kept.ensures.reply c.self.invariant.quiet (sym faulted ∙ is);
-      clear = λ is. clear_by (state_of d.faults b.archive) c.args.call.now c.in-Kept.answer (state_of d.faults c.settle.new.self) b.totals.faulted g.N.City.doubt c.in-Kept.ensures.reply c.self.invariant.clear (sym faulted ∙ is);
+          (risen_by (state_of d.faults b.archive) c.args.call c.in-Kept.answer (state_of d.faults c.settle.new.self) b.totals.faulted g.N.City.risen c.in-Kept.ensures.reply c.self.invariant.faulted);
+      quiet = λ is. quiet_by (state_of d.faults b.archive) c.args.call c.in-Kept.answer (state_of d.faults c.settle.new.self) b.totals.faulted g.N.City.risen c.in-Kept.ensures.reply c.self.invariant.quiet (sym faulted ∙ is);
+      clear = λ is. clear_by (state_of d.faults b.archive) c.args.call c.in-Kept.answer (state_of d.faults c.settle.new.self) b.totals.faulted g.N.City.doubt c.in-Kept.ensures.reply c.self.invariant.clear (sym faulted ∙ is);
       none_ended = ap (λ (r : RecorderState). r.ended) c.see.ensures.recorder ∙ ap (λ (r : RecorderState). r.ended) c.catch_up.ensures.recorder ∙ c.self.invariant.none_ended;
       failed = faulted ∙ noted_by b.recording.failed call number c.in-Kept.answer b.totals.faulted c.self.invariant.failed ∙ ap length (sym failed);
       unacknowledged =
@@ -102,10 +104,11 @@ returns-in-Kept-clause-pass g c =
     let list = b.recording.list in
     let now = c.catch_up.new.pass in
     let caught : c.catch_up.new.self.list ≡ list = ap (λ (r : RecorderState). r.list) c.catch_up.ensures.recorder in
-    let said = said_at plan (entries_of list) (entries_of list) c.args.call.now c.in-Kept.answer (state_of d.faults b.archive) (state_of d.faults c.settle.new.self)
+    let said = said_at plan (entries_of list) (entries_of list) c.args.call c.in-Kept.answer (state_of d.faults b.archive) (state_of d.faults c.settle.new.self)
     c.self.invariant.plan c.self.invariant.list (c.in-Kept.ensures.grows ∙ c.self.invariant.list) c.in-Kept.ensures.reply in
-    let sights = subst (λ (l : List TaggedEntry). Sights now l c.args.call.now c.in-Kept.answer c.see.new.pass) caught c.see.ensures.pass in
-    rw (← c.pass.view_is) (told_kept plan c.pass.inside.pass now c.see.new.pass list c.args.call.now c.catch_up.ensures.pass c.in-Kept.answer said c.catch_up.ensures.legal sights c.see.ensures.seen)
+    let sights = subst (λ (l : List TaggedEntry). Sights now l c.args.call c.in-Kept.answer c.see.new.pass) caught
+    (subst (λ (x : Call). Sights now c.catch_up.new.self.list x c.in-Kept.answer c.see.new.pass) c.of-said.ensures c.see.ensures.pass) in
+    rw (← c.pass.view_is) (told_kept plan c.pass.inside.pass now c.see.new.pass list c.args.call c.catch_up.ensures.pass c.in-Kept.answer said c.catch_up.ensures.legal sights c.see.ensures.seen)
 
 -- ---- an entry was added
 
@@ -136,7 +139,7 @@ invariant_of-self-in-Added g c =
     let faulted : c.add_last.new.totals.faulted ≡ b.totals.faulted = ap (λ (t : TotalsState). t.faulted) c.add_last.ensures.totals in
     let none : b.totals.faulted + 0 ≡ b.totals.faulted = omega arith in
     let in_doubt = g.N.City.doubt in
-    let call = c.args.call.now in
+    let call = c.args.call in
     let number = c.catch_up.new.pass.number in
     let given = posted.Reply c.in-Added.reply in
     let was = state_of d.faults b.archive in
@@ -150,9 +153,9 @@ invariant_of-self-in-Added g c =
       accepted = omega (arith, accepted, c.self.invariant.accepted, c.add_last.ensures.counted, ap length caught);
       faulted =
           subst (λ (n : ℕ). RoseBy n g.N.City.risen (d.faults c.settle.new.self.disk)) (none ∙ sym faulted)
-          (risen_by (state_of d.faults b.archive) c.args.call.now (posted.Reply c.in-Added.reply) (state_of d.faults c.settle.new.self) b.totals.faulted g.N.City.risen c.in-Added.ensures.reply c.self.invariant.faulted);
-      quiet = λ is. quiet_by (state_of d.faults b.archive) c.args.call.now (posted.Reply c.in-Added.reply) (state_of d.faults c.settle.new.self) b.totals.faulted g.N.City.risen c.in-Added.ensures.reply c.self.invariant.quiet (none ∙ sym faulted ∙ is);
-      clear = λ is. clear_by (state_of d.faults b.archive) c.args.call.now (posted.Reply c.in-Added.reply) (state_of d.faults c.settle.new.self) b.totals.faulted g.N.City.doubt c.in-Added.ensures.reply c.self.invariant.clear (none ∙ sym faulted ∙ is);
+          (risen_by (state_of d.faults b.archive) c.args.call (posted.Reply c.in-Added.reply) (state_of d.faults c.settle.new.self) b.totals.faulted g.N.City.risen c.in-Added.ensures.reply c.self.invariant.faulted);
+      quiet = λ is. quiet_by (state_of d.faults b.archive) c.args.call (posted.Reply c.in-Added.reply) (state_of d.faults c.settle.new.self) b.totals.faulted g.N.City.risen c.in-Added.ensures.reply c.self.invariant.quiet (none ∙ sym faulted ∙ is);
+      clear = λ is. clear_by (state_of d.faults b.archive) c.args.call (posted.Reply c.in-Added.reply) (state_of d.faults c.settle.new.self) b.totals.faulted g.N.City.doubt c.in-Added.ensures.reply c.self.invariant.clear (none ∙ sym faulted ∙ is);
       none_ended = c.add_last.ensures.recorder.ended ∙ ap (λ (r : RecorderState). r.ended) c.catch_up.ensures.recorder ∙ c.self.invariant.none_ended;
       failed = faulted ∙ c.self.invariant.failed ∙ ap length (sym failed);
       unacknowledged =
@@ -180,11 +183,11 @@ returns-in-Added-clause-pass g c =
     let list = b.recording.list in
     let now = c.catch_up.new.pass in
     let caught : c.catch_up.new.self.list ≡ list = ap (λ (r : RecorderState). r.list) c.catch_up.ensures.recorder in
-    let said = said_at plan (entries_of list) (entries_of c.add_last.new.recording.list) c.args.call.now (posted.Reply c.in-Added.reply) (state_of d.faults b.archive) (state_of d.faults c.settle.new.self)
+    let said = said_at plan (entries_of list) (entries_of c.add_last.new.recording.list) c.args.call (posted.Reply c.in-Added.reply) (state_of d.faults b.archive) (state_of d.faults c.settle.new.self)
     c.self.invariant.plan c.self.invariant.list (sym c.add_last.ensures.list) c.in-Added.ensures.reply in
     let e : Entry = c.add_last.ensures.grows.0 in
     let grows : c.add_last.new.recording.list ≡ list ++ (e, now.number) ∷ [] = c.add_last.ensures.grows.1 ∙ ap (λ (l : List TaggedEntry). l ++ (e, now.number) ∷ []) caught in
-    rw (← c.pass.view_is) (told_added plan c.pass.inside.pass now c.add_last.new.pass list c.args.call.now c.catch_up.ensures.pass c.add_last.new.recording.list e c.in-Added.reply grows said c.add_last.ensures.pass)
+    rw (← c.pass.view_is) (told_added plan c.pass.inside.pass now c.add_last.new.pass list c.args.call c.catch_up.ensures.pass c.add_last.new.recording.list e c.in-Added.reply grows said c.add_last.ensures.pass)
 
 pub add_last-requires-clause-added : goal.add_last-requires-clause-added
 add_last-requires-clause-added g c =
@@ -193,5 +196,5 @@ add_last-requires-clause-added g c =
     let list = c.catch_up.new.self.list in
     let history : b.archive.entries ≡ entries_of list = c.self.invariant.list ∙ ap entries_of (sym (ap (λ (r : RecorderState). r.list) c.catch_up.ensures.recorder)) in
     let none : c.taken.inside.lines ≡ c.args.taken.now.lines = rw (← c.taken.view_is) at c.catch_up.ensures.lines in
-    added_by plan list b.archive.plan b.archive.entries c.settle.new.self.entries c.args.taken.now.lines c.settle.new.lines c.args.call.now c.in-Added.reply c.in-Added.owed
+    added_by plan list b.archive.plan b.archive.entries c.settle.new.self.entries c.args.taken.now.lines c.settle.new.lines c.args.call c.in-Added.reply c.in-Added.owed
     c.self.invariant.plan history c.in-Added.ensures.grows c.requires.lent (λ k. c.settle.ensures.stripes k ∙ ap (λ (t : Tables). has_stripe t k) none)

@@ -3,7 +3,7 @@ use Rattle.std.specs.List.{list_any}
 use Rattle.cf_calls.specs.declared.items.VoucherItem.{VoucherItem}
 use Rattle.cf_model.specs.Stripes.{is_item_in}
 use Rattle.cf_office.specs.Marks.{mark_at}
-use Rattle.cf_office.proofs.stripes.mark_invoice.Given as goal
+use Rattle.cf_office.proofs.stripes.mark_voucher.Given as goal
 
 -- the items so far are marked
 abbrev pub invariant-loop-item : goal.invariant-loop-item
