@@ -33,7 +33,7 @@ module _ {D R L : Type 0} (device : Device D) (kind : DoorKind R L) where
   -- there was no memory to read the words
   pub ends_unread : (c : Option Command) (o : Outside R) (disk : D) → AtEachMoment device.moment device.was_image disk disk (device.is_image disk) → Ends device kind c o o disk disk status.NoMemory
   ends_unread None o disk rest = record { ended = inr refl; same = refl; same_disk = refl }
-  ends_unread (Some command.Found) o disk rest = (((refl, refl), λ fine. refl), refl, refl)
+  ends_unread (Some command.Found) o disk rest = (((refl, record { content = λ t. refl; any_moment = rest }, refl), λ fine. refl), refl, refl)
   ends_unread (Some command.Desk) o disk rest = (record { input = Consumes-nil o.input; out = refl; content = λ t. refl; any_moment = rest }, refl, refl)
   ends_unread (Some (command.Serve port doors links)) o disk rest = (ends_unprepared doors links disk o.doors o.out rest, refl, refl)
   ends_unread (Some (command.Report year statement csv)) o disk rest = ((record { content = λ t. refl; any_moment = rest }, refl, λ fine. refl), refl, refl, refl)
