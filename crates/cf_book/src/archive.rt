@@ -24,13 +24,12 @@ ghost use Rattle.cf_book.specs.Settling.{Settles, entry_by};
 use crate::readmission::refusal_of;
 use crate::writing::write;
 use cf_budget::Lines;
-use cf_calls::{Act, Body, Call, Change, Drawn, Entry, Posted, Reply, Verdict};
+use cf_calls::{Act, Body, Call, Change, Drawn, Entry, Posted, Reply, Verdict, entry_of};
 use cf_disk::Disk;
 use cf_journal::Journal;
 use cf_looks::look_reply;
 use cf_office::{
-    History, Prepared, PreparedLines, Rest, apply_rest, into_entry, judge, refusal_reply,
-    repeat_reply, reserve,
+    History, Prepared, PreparedLines, Rest, apply_rest, judge, refusal_reply, repeat_reply, reserve,
 };
 use std::alloc::Global;
 use std::marker::Model;
@@ -106,7 +105,7 @@ fn prepare(
 {
     // The state says of its history that it is legal.
     let _legal = rest.entries();
-    let entry = into_entry(change, drawn);
+    let entry = entry_of(change, drawn);
     journal.reserve(&entry).ok()?;
     let kept = Snapshot::of(&entry);
     let prepared = reserve(lines, rest, entry).ok()?;

@@ -38,7 +38,7 @@ use Rattle.cf_calls.specs.declared.items.Charge.{Charge}
 use Rattle.cf_calls.specs.declared.items.Charge.TheVariants.{Direct, OnOrder}
 use Rattle.cf_calls.specs.declared.items.Liquidation.{Liquidation}
 use Rattle.cf_calls.specs.declared.items.Liquidation.TheVariants.{Lesser, Recorded, Final}
-use Rattle.cf_calls.specs.Same.{is_line_amount, is_source_amount, is_account_item, is_liquidation, is_charge, is_voucher_item, same_option, same_flag, same_adoption, same_amendment, same_transfer, same_purchase, same_order_change, same_invoice, same_levy, same_bill_amount, same_asset_act, same_issue, same_debt_payment, same_leave_amount, same_leave_act, same_move_kind, same_fund_move, same_period, same_lease, same_act, same_day, same_call}
+use Rattle.cf_calls.specs.Same.{is_line_amount, is_source_amount, is_account_item, is_liquidation, is_charge, is_voucher_item, same_option, same_flag, same_adoption, same_amendment, same_transfer, same_order, same_order_change, same_voucher, same_bill, same_bill_amount, same_asset_act, same_issue, same_debt_payment, same_leave_amount, same_leave_act, same_move_kind, same_fund_move, same_period, same_lease, same_act, same_day, same_call}
 
 -- ---- tests, one after another
 
@@ -199,13 +199,13 @@ transfer_is a b e =
 transfer-same : (a : LineTransfer) → same_transfer a a ≡ true
 transfer-same a = and_from _ _ (and_from _ _ (and_from _ _ (and_from _ _ (number-same a.fund) (number-same a.year)) (number-same a.from)) (number-same a.to)) (number-same a.amount)
 
-purchase_is : (a b : NewOrder) → same_purchase a b ≡ true → a ≡ b
-purchase_is a b e =
+order_is : (a b : NewOrder) → same_order a b ≡ true → a ≡ b
+order_is a b e =
     let p = all3 (a.vendor == b.vendor) (same_option a.requisition b.requisition) (pointwise is_account_item a.items b.items) e in
     λ i. record { vendor = number a.vendor b.vendor p.0 i; requisition = option_is a.requisition b.requisition p.1 i; items = each is_account_item account_item_is a.items b.items p.2 i }
 
-purchase-same : (a : NewOrder) → same_purchase a a ≡ true
-purchase-same a = and_from _ _ (and_from _ _ (number-same a.vendor) (option-same a.requisition)) (each-same is_account_item account_item-same a.items)
+order-same : (a : NewOrder) → same_order a a ≡ true
+order-same a = and_from _ _ (and_from _ _ (number-same a.vendor) (option-same a.requisition)) (each-same is_account_item account_item-same a.items)
 
 order_change_is : (a b : OrderChange) → same_order_change a b ≡ true → a ≡ b
 order_change_is a b e =
@@ -215,21 +215,21 @@ order_change_is a b e =
 order_change-same : (a : OrderChange) → same_order_change a a ≡ true
 order_change-same a = and_from _ _ (and_from _ _ (and_from _ _ (and_from _ _ (and_from _ _ (number-same a.order) (number-same a.item)) (number-same a.fund)) (number-same a.dept)) (number-same a.object)) (integer-same a.by)
 
-invoice_is : (a b : NewVoucher) → same_invoice a b ≡ true → a ≡ b
-invoice_is a b e =
+voucher_is : (a b : NewVoucher) → same_voucher a b ≡ true → a ≡ b
+voucher_is a b e =
     let p = all3 (a.vendor == b.vendor) (same_flag a.back b.back) (pointwise is_voucher_item a.items b.items) e in
     λ i. record { vendor = number a.vendor b.vendor p.0 i; back = flag_is a.back b.back p.1 i; items = each is_voucher_item voucher_item_is a.items b.items p.2 i }
 
-invoice-same : (a : NewVoucher) → same_invoice a a ≡ true
-invoice-same a = and_from _ _ (and_from _ _ (number-same a.vendor) (flag-same a.back)) (each-same is_voucher_item voucher_item-same a.items)
+voucher-same : (a : NewVoucher) → same_voucher a a ≡ true
+voucher-same a = and_from _ _ (and_from _ _ (number-same a.vendor) (flag-same a.back)) (each-same is_voucher_item voucher_item-same a.items)
 
-levy_is : (a b : NewBill) → same_levy a b ≡ true → a ≡ b
-levy_is a b e =
+bill_is : (a b : NewBill) → same_bill a b ≡ true → a ≡ b
+bill_is a b e =
     let p = all4 (a.source == b.source) (a.levy_year == b.levy_year) (a.payer == b.payer) (a.amount == b.amount) e in
     λ i. record { source = number a.source b.source p.0 i; levy_year = number a.levy_year b.levy_year p.1 i; payer = number a.payer b.payer p.2 i; amount = number a.amount b.amount p.3 i }
 
-levy-same : (a : NewBill) → same_levy a a ≡ true
-levy-same a = and_from _ _ (and_from _ _ (and_from _ _ (number-same a.source) (number-same a.levy_year)) (number-same a.payer)) (number-same a.amount)
+bill-same : (a : NewBill) → same_bill a a ≡ true
+bill-same a = and_from _ _ (and_from _ _ (and_from _ _ (number-same a.source) (number-same a.levy_year)) (number-same a.payer)) (number-same a.amount)
 
 bill_amount_is : (a b : BillAmount) → same_bill_amount a b ≡ true → a ≡ b
 bill_amount_is a b e =
@@ -333,13 +333,13 @@ act_is (Amend a) (Amend b) e = ap Amend (amendment_is a b e)
 act_is (Transfer a) (Transfer b) e = ap Transfer (transfer_is a b e)
 act_is (Requisition a) (Requisition b) e = λ i. Requisition (record { items = each is_account_item account_item_is a.items b.items e i })
 act_is (Withdraw a) (Withdraw b) e = ap Withdraw (number a b e)
-act_is (Order a) (Order b) e = ap Order (purchase_is a b e)
+act_is (Order a) (Order b) e = ap Order (order_is a b e)
 act_is (ChangeOrder a) (ChangeOrder b) e = ap ChangeOrder (order_change_is a b e)
 act_is (CancelOrder a) (CancelOrder b) e = ap CancelOrder (number a b e)
-act_is (Voucher a) (Voucher b) e = ap Voucher (invoice_is a b e)
+act_is (Voucher a) (Voucher b) e = ap Voucher (voucher_is a b e)
 act_is (VoidVoucher a) (VoidVoucher b) e = ap VoidVoucher (number a b e)
 act_is (Pay a) (Pay b) e = λ i. Pay (record { vouchers = numbers a.vouchers b.vouchers e i })
-act_is (Bill a) (Bill b) e = ap Bill (levy_is a b e)
+act_is (Bill a) (Bill b) e = ap Bill (bill_is a b e)
 act_is (Collect a) (Collect b) e = ap Collect (bill_amount_is a b e)
 act_is (Receive a) (Receive b) e = ap Receive (source_amount_is a b e)
 act_is (WriteOff a) (WriteOff b) e = ap WriteOff (bill_amount_is a b e)
@@ -358,13 +358,13 @@ act-same (Amend a) = amendment-same a
 act-same (Transfer a) = transfer-same a
 act-same (Requisition a) = each-same is_account_item account_item-same a.items
 act-same (Withdraw a) = number-same a
-act-same (Order a) = purchase-same a
+act-same (Order a) = order-same a
 act-same (ChangeOrder a) = order_change-same a
 act-same (CancelOrder a) = number-same a
-act-same (Voucher a) = invoice-same a
+act-same (Voucher a) = voucher-same a
 act-same (VoidVoucher a) = number-same a
 act-same (Pay a) = numbers-same a.vouchers
-act-same (Bill a) = levy-same a
+act-same (Bill a) = bill-same a
 act-same (Collect a) = bill_amount-same a
 act-same (Receive a) = source_amount-same a
 act-same (WriteOff a) = bill_amount-same a

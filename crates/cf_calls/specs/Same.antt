@@ -83,17 +83,17 @@ same_amendment a b = (a.fund == b.fund) && (a.year == b.year) && (a.line == b.li
 abbrev pub same_transfer : LineTransfer → LineTransfer → Bool
 same_transfer a b = (a.fund == b.fund) && (a.year == b.year) && (a.from == b.from) && (a.to == b.to) && (a.amount == b.amount)
 
-abbrev pub same_purchase : NewOrder → NewOrder → Bool
-same_purchase a b = (a.vendor == b.vendor) && same_option a.requisition b.requisition && pointwise is_account_item a.items b.items
+abbrev pub same_order : NewOrder → NewOrder → Bool
+same_order a b = (a.vendor == b.vendor) && same_option a.requisition b.requisition && pointwise is_account_item a.items b.items
 
 abbrev pub same_order_change : OrderChange → OrderChange → Bool
 same_order_change a b = (a.order == b.order) && (a.item == b.item) && (a.fund == b.fund) && (a.dept == b.dept) && (a.object == b.object) && int_eq a.by b.by
 
-abbrev pub same_invoice : NewVoucher → NewVoucher → Bool
-same_invoice a b = (a.vendor == b.vendor) && same_flag a.back b.back && pointwise is_voucher_item a.items b.items
+abbrev pub same_voucher : NewVoucher → NewVoucher → Bool
+same_voucher a b = (a.vendor == b.vendor) && same_flag a.back b.back && pointwise is_voucher_item a.items b.items
 
-abbrev pub same_levy : NewBill → NewBill → Bool
-same_levy a b = (a.source == b.source) && (a.levy_year == b.levy_year) && (a.payer == b.payer) && (a.amount == b.amount)
+abbrev pub same_bill : NewBill → NewBill → Bool
+same_bill a b = (a.source == b.source) && (a.levy_year == b.levy_year) && (a.payer == b.payer) && (a.amount == b.amount)
 
 abbrev pub same_bill_amount : BillAmount → BillAmount → Bool
 same_bill_amount a b = (a.bill == b.bill) && (a.amount == b.amount)
@@ -141,13 +141,13 @@ same_act (Amend a) (Amend b) = same_amendment a b
 same_act (Transfer a) (Transfer b) = same_transfer a b
 same_act (Requisition a) (Requisition b) = pointwise is_account_item a.items b.items
 same_act (Withdraw a) (Withdraw b) = a == b
-same_act (Order a) (Order b) = same_purchase a b
+same_act (Order a) (Order b) = same_order a b
 same_act (ChangeOrder a) (ChangeOrder b) = same_order_change a b
 same_act (CancelOrder a) (CancelOrder b) = a == b
-same_act (Voucher a) (Voucher b) = same_invoice a b
+same_act (Voucher a) (Voucher b) = same_voucher a b
 same_act (VoidVoucher a) (VoidVoucher b) = a == b
 same_act (Pay a) (Pay b) = pointwise nat_eq a.vouchers b.vouchers
-same_act (Bill a) (Bill b) = same_levy a b
+same_act (Bill a) (Bill b) = same_bill a b
 same_act (Collect a) (Collect b) = same_bill_amount a b
 same_act (Receive a) (Receive b) = is_source_amount a b
 same_act (WriteOff a) (WriteOff b) = same_bill_amount a b

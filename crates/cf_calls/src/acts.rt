@@ -275,7 +275,7 @@ impl Act {
         ensures { result ≡ is_back self.now }
     {
         match self {
-            Act::Voucher(invoice) => invoice.back,
+            Act::Voucher(voucher) => voucher.back,
             _ => false,
         }
     }

@@ -1,6 +1,6 @@
 //! The list inside a call, an entry or a reply.
 
-ghost use Rattle.std.specs.Prelude.{◌≡◌, ◌∷◌, ◌++◌, [], List as Seq, length, IfOk, OnErr, OnOk};
+ghost use Rattle.std.specs.Prelude.{◌≡◌, ◌∷◌, ◌++◌, [], List as Seq, length, OnErr, OnOk};
 
 use std::alloc::{AllocError, Global};
 use std::marker::Model;
@@ -58,15 +58,5 @@ impl<T> List<T> {
     {
         self.items.push(item)?;
         Ok(())
-    }
-
-    /// A list of the same items.
-    pub fn copy(&self, alloc: Global) -> Result<Self, AllocError>
-    where
-        T: Copy,
-        ensures { IfOk result (λ l. l ≡ self.now) }
-    {
-        let items = Vec::from_slice(alloc, self.items.as_slice())?;
-        Ok(List { items })
     }
 }

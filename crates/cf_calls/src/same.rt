@@ -32,10 +32,10 @@ fn same_act(a: &Act, b: &Act) -> bool
         (Act::Transfer(a), Act::Transfer(b)) => a == b,
         (Act::Requisition(a), Act::Requisition(b)) => a.items.as_slice() == b.items.as_slice(),
         (Act::Withdraw(a), Act::Withdraw(b)) => a == b,
-        (Act::Order(a), Act::Order(b)) => same_purchase(a, b),
+        (Act::Order(a), Act::Order(b)) => same_order(a, b),
         (Act::ChangeOrder(a), Act::ChangeOrder(b)) => a == b,
         (Act::CancelOrder(a), Act::CancelOrder(b)) => a == b,
-        (Act::Voucher(a), Act::Voucher(b)) => same_invoice(a, b),
+        (Act::Voucher(a), Act::Voucher(b)) => same_voucher(a, b),
         (Act::VoidVoucher(a), Act::VoidVoucher(b)) => a == b,
         (Act::Pay(a), Act::Pay(b)) => a.vouchers.as_slice() == b.vouchers.as_slice(),
         (Act::Bill(a), Act::Bill(b)) => a == b,
@@ -62,16 +62,16 @@ fn same_adoption(a: &Adoption, b: &Adoption) -> bool
         && a.estimates.as_slice() == b.estimates.as_slice()
 }
 
-fn same_purchase(a: &NewOrder, b: &NewOrder) -> bool
-    ensures { result ≡ spec.same_purchase a.now b.now }
+fn same_order(a: &NewOrder, b: &NewOrder) -> bool
+    ensures { result ≡ spec.same_order a.now b.now }
 {
     a.vendor == b.vendor
         && a.requisition == b.requisition
         && a.items.as_slice() == b.items.as_slice()
 }
 
-fn same_invoice(a: &NewVoucher, b: &NewVoucher) -> bool
-    ensures { result ≡ spec.same_invoice a.now b.now }
+fn same_voucher(a: &NewVoucher, b: &NewVoucher) -> bool
+    ensures { result ≡ spec.same_voucher a.now b.now }
 {
     a.vendor == b.vendor && a.back == b.back && a.items.as_slice() == b.items.as_slice()
 }

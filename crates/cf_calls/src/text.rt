@@ -42,13 +42,6 @@ impl Text {
     {
         self.text.as_str()
     }
-
-    /// A text of the same characters.
-    pub fn copy(&self, alloc: Global) -> Result<Text, AllocError>
-        ensures { IfOk result (λ t. t ≡ self.now) }
-    {
-        Text::new(alloc, self.as_str())
-    }
 }
 
 /// What a desk names a change by: 1 to 40 bytes from 0x21 to 0x7E. A desk uses a key once.

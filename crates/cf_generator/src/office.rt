@@ -13,8 +13,8 @@ ghost use Rattle.cf_generator.specs.Turns.{first_turn};
 use crate::acts::{act_of, adoption, change_of, month_close, receipt};
 use crate::city::city_chart;
 use crate::turn::Turn;
-use cf_calls::{Act, Change, Drawn, Verdict};
-use cf_office::{BookOffice, into_entry, judge};
+use cf_calls::{Act, Change, Drawn, Verdict, entry_of};
+use cf_office::{BookOffice, judge};
 use std::alloc::{AllocError, Global};
 
 /// What each fund receives at the beginning, in cents.
@@ -38,7 +38,7 @@ fn add(office: &mut BookOffice, change: Change, drawn: Drawn) -> Result<(), Allo
     ensures plan { office.new.plan ≡ office.old.plan }
     ensures ok { OnOk result (office.new.entries ≡ office.old.entries ++ spec.entry_by change drawn ∷ []) }
 {
-    let entry = into_entry(change, drawn);
+    let entry = entry_of(change, drawn);
     office.accept(entry)?;
     Ok(())
 }

@@ -13,14 +13,14 @@ pub reserve-requires : goal.reserve-requires
 reserve-requires c =
     let plan = c.args.rest.now.plan in
     let h = c.args.rest.now.entries in
-    subst IsEntryInForm (sym c.into_entry-entry.ensures) (added_in_form plan h (entry_by c.args.change c.args.drawn) c.entries-legal.ensures.legal (adds_accepted plan h c.args.change c.args.drawn c.requires.form c.requires.accepted))
+    subst IsEntryInForm (sym c.entry_of-entry.ensures) (added_in_form plan h (entry_by c.args.change c.args.drawn) c.entries-legal.ensures.legal (adds_accepted plan h c.args.change c.args.drawn c.requires.form c.requires.accepted))
 
 pub reserve-requires-2-clause-lent : goal.reserve-requires-2-clause-lent
 reserve-requires-2-clause-lent c =
-    subst (λ (e : Entry). LendsTouched c.args.rest.now.plan (has_line c.args.lines.now) e.change.act) (sym c.into_entry-entry.ensures) c.requires.lent
+    subst (λ (e : Entry). LendsTouched c.args.rest.now.plan (has_line c.args.lines.now) e.change.act) (sym c.entry_of-entry.ensures) c.requires.lent
 
 pub reserve-requires-2-clause-adds : goal.reserve-requires-2-clause-adds
 reserve-requires-2-clause-adds c =
     let plan = c.args.rest.now.plan in
     let h = c.args.rest.now.entries in
-    subst (Adds plan h) (sym c.into_entry-entry.ensures) (adds_accepted plan h c.args.change c.args.drawn c.requires.form c.requires.accepted)
+    subst (Adds plan h) (sym c.entry_of-entry.ensures) (adds_accepted plan h c.args.change c.args.drawn c.requires.form c.requires.accepted)

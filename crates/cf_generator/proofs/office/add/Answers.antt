@@ -7,4 +7,4 @@ pub accept-requires : goal.accept-requires
 accept-requires c =
     let plan = c.args.office.now.plan in
     let h = c.args.office.now.entries in
-    subst (Adds plan h) (sym c.into_entry-entry.ensures) (adds_accepted plan h c.args.change c.args.drawn c.requires.form c.requires.accepted)
+    subst (Adds plan h) (sym c.entry_of-entry.ensures) (adds_accepted plan h c.args.change c.args.drawn c.requires.form c.requires.accepted)
