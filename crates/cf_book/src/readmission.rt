@@ -6,7 +6,7 @@ ghost use Rattle.cf_calls.specs.Form.{IsEntryInForm};
 ghost use Rattle.cf_registers.specs.Lines.{LendsTouched};
 ghost use Rattle.cf_book.specs.Recovery as spec;
 
-use cf_calls::{Drawn, Entry, Verdict, number};
+use cf_calls::{Drawn, Entry, Verdict};
 use cf_office::{History, judge};
 
 /// Whether the office draws these numbers for an entry.
@@ -24,7 +24,7 @@ pub(crate) fn refusal_of(history: &History, entry: &Entry) -> Option<u8>
 {
     match judge(history, &entry.change) {
         Verdict::Accept(drawn) if is_drawn(entry, drawn) => None,
-        Verdict::Refuse(refusal) => Some(number(&refusal)),
+        Verdict::Refuse(refusal) => Some(refusal.number()),
         Verdict::Accept(_) | Verdict::Repeat { .. } => Some(0),
     }
 }

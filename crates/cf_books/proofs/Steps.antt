@@ -1,7 +1,8 @@
 -- One step of a loop over a list.
 use Rattle.std.proofs.Common.{◌≡◌, ℕ, zero, suc, ◌+◌, ◌<◌, Bool, true, false, refl, List, [], ◌∷◌, ◌++◌, Some, length, drop, get_or, sym, ap, ◌∙◌, subst, append_assoc, append-nil, add-one, drop-cons, arith}
 use Rattle.std.specs.Prelude.{Vec, ◌-◌, codes, decimal, slice_get, slice_index_or}
-use Rattle.cf_books.specs.Notices.{refusal_names, refusal_text}
+use Rattle.cf_calls.specs.Refusals.{refusal_names}
+use Rattle.cf_books.specs.Notices.{refusal_text}
 use Rattle.std.specs.Global.{Global}
 use Rattle.csv.specs.declared.Writer.{Writer}
 use Rattle.csv.specs.Writing.{row_text}

@@ -4,6 +4,7 @@ use Rattle.cf_chart.specs.Faults.{word_of}
 use Rattle.cf_chart.specs.declared.fault.ChartFault.{ChartFault}
 use Rattle.cf_chart.specs.declared.fault.ChartFault.TheVariants as fault
 use Rattle.cf_chart.specs.declared.fault.TableName.{TableName}
+use Rattle.cf_calls.specs.Refusals.{refusal_names}
 use Rattle.cf_books_grants.specs.Faults.{fault_text as grant_fault_text}
 use Rattle.cf_books.specs.FaultRows.{table_word}
 use Rattle.cf_books.specs.declared.status.RefusedEntry.{RefusedEntry}
@@ -33,10 +34,6 @@ fault_text (fault.Window source days) id = codes "source " ++ (decimal source ++
 fault_text (fault.General n) id = decimal n ++ codes " general funds"
 
 -- ---- a journal's damage
-
--- the names of the refusals, in the order of the rules
-abbrev pub refusal_names : List (List ℕ)
-refusal_names = codes "DeskUnknown" ∷ codes "Ahead" ∷ codes "KeyReused" ∷ codes "NotThisDesk" ∷ codes "HistoryFull" ∷ codes "AmountRange" ∷ codes "UnknownName" ∷ codes "PeriodClosed" ∷ codes "YearNotOpen" ∷ codes "YearClosed" ∷ codes "Adopted" ∷ codes "NotAdopted" ∷ codes "DocState" ∷ codes "SameHand" ∷ codes "NotOnOrder" ∷ codes "OverOpen" ∷ codes "OverReceivable" ∷ codes "AssetState" ∷ codes "NotDue" ∷ codes "LeaveShort" ∷ codes "MonthOrder" ∷ codes "DebtDue" ∷ codes "WindowOpen" ∷ codes "Exceeds" ∷ codes "CashShort" ∷ []
 
 -- why the office doesn't take an entry: the number and name of the refusal, or 0 for a repeat and for other numbers
 abbrev pub refusal_text : ℕ → List ℕ

@@ -1,12 +1,13 @@
 //! What is said on standard error.
 
-ghost use Rattle.std.specs.Prelude.{◌≡◌, ◌++◌, ◌-◌, ◌≤◌, [], slice_index_or, Some, OnOk};
+ghost use Rattle.std.specs.Prelude.{◌≡◌, ◌++◌, Some, OnOk};
 ghost use Rattle.cf_chart.specs.Faults.{word_of};
 ghost use Rattle.cf_books.specs.Notices as spec;
 
 use crate::fault_rows::table_word;
 use crate::status::{RefusedEntry, Status};
 use cf_books_lists::put_between;
+use cf_calls::refusal_name;
 use cf_chart::{ChartFault, KeyName, TableName};
 use cf_members::parts::put_number;
 use std::alloc::AllocError;
@@ -74,41 +75,6 @@ fn put_fault(out: &mut Vec<u8>, fault: ChartFault, id: Option<u16>) -> Result<()
             put_between(out, "", days as u64, " days")
         }
         ChartFault::General { count } => put_between(out, "", count, " general funds"),
-    }
-}
-
-/// The name of the refusal of a number.
-fn refusal_name(number: u8) -> &'static str
-    requires { 1 ≤ number }
-    ensures { result.now ≡ slice_index_or spec.refusal_names (number - 1) [] }
-{
-    match number {
-        1 => "DeskUnknown",
-        2 => "Ahead",
-        3 => "KeyReused",
-        4 => "NotThisDesk",
-        5 => "HistoryFull",
-        6 => "AmountRange",
-        7 => "UnknownName",
-        8 => "PeriodClosed",
-        9 => "YearNotOpen",
-        10 => "YearClosed",
-        11 => "Adopted",
-        12 => "NotAdopted",
-        13 => "DocState",
-        14 => "SameHand",
-        15 => "NotOnOrder",
-        16 => "OverOpen",
-        17 => "OverReceivable",
-        18 => "AssetState",
-        19 => "NotDue",
-        20 => "LeaveShort",
-        21 => "MonthOrder",
-        22 => "DebtDue",
-        23 => "WindowOpen",
-        24 => "Exceeds",
-        25 => "CashShort",
-        _ => "",
     }
 }
 

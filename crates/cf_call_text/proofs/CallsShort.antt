@@ -80,27 +80,7 @@ key_bytes-ascii (b ∷ bs) h = let p = and_parts (is_key_byte b) (list_all is_ke
 
 word-ascii : (a : Act) → are_ascii (call_word a) ≡ true
 word-ascii (Adopt x) = refl
-word-ascii (Amend x) = refl
-word-ascii (Transfer x) = refl
-word-ascii (Requisition x) = refl
-word-ascii (Withdraw x) = refl
-word-ascii (Order x) = refl
-word-ascii (ChangeOrder x) = refl
-word-ascii (CancelOrder x) = refl
-word-ascii (Voucher x) = refl
-word-ascii (VoidVoucher x) = refl
-word-ascii (Pay x) = refl
-word-ascii (Bill x) = refl
-word-ascii (Collect x) = refl
-word-ascii (Receive x) = refl
-word-ascii (WriteOff x) = refl
-word-ascii (Asset x) = refl
-word-ascii (Issue x) = refl
-word-ascii (PayDue x) = refl
-word-ascii (Leave x) = refl
-word-ascii (Interfund x) = refl
-word-ascii (Close x) = refl
-word-ascii (Lease x) = refl
+word-ascii _ = refl
 
 first-short : (c : Change) → IsN16 c.desk → is_key c.key ≡ true → IsShort (first_fields c)
 first-short c desk key =

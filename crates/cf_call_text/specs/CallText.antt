@@ -32,6 +32,7 @@ use Rattle.cf_calls.specs.declared.acts.Period.{Period}
 use Rattle.cf_calls.specs.declared.acts.Period.TheVariants as period
 use Rattle.cf_calls.specs.declared.items.SourceAmount.{SourceAmount}
 use Rattle.cf_calls.specs.declared.call.Change.{Change}
+use Rattle.cf_calls.specs.Kinds.{kind_of, word_of}
 use Rattle.cf_members.specs.Objects.{fields, count, day, month, text_of, list_of}
 use Rattle.cf_call_text.specs.Values.{signed, line_amount_data, source_amount_data, account_fields, account_item_data, voucher_item_data}
 
@@ -148,28 +149,7 @@ own_fields (Lease l) = lease_fields l
 
 -- the word of an act's call
 abbrev pub call_word : Act → List ℕ
-call_word (Adopt a) = codes "adopt"
-call_word (Amend a) = codes "amend"
-call_word (Transfer t) = codes "transfer"
-call_word (Requisition r) = codes "requisition"
-call_word (Withdraw n) = codes "withdraw"
-call_word (Order o) = codes "order"
-call_word (ChangeOrder c) = codes "change_order"
-call_word (CancelOrder n) = codes "cancel_order"
-call_word (Voucher v) = codes "voucher"
-call_word (VoidVoucher n) = codes "void_voucher"
-call_word (Pay p) = codes "pay"
-call_word (Bill b) = codes "bill"
-call_word (Collect a) = codes "collect"
-call_word (Receive r) = codes "receive"
-call_word (WriteOff a) = codes "write_off"
-call_word (Asset a) = codes "asset"
-call_word (Issue i) = codes "issue"
-call_word (PayDue p) = codes "pay_due"
-call_word (Leave l) = codes "leave"
-call_word (Interfund m) = codes "interfund"
-call_word (Close p) = codes "close"
-call_word (Lease l) = codes "lease"
+call_word a = word_of (kind_of a)
 
 -- ---- the call
 

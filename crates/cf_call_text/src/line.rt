@@ -21,30 +21,7 @@ pub fn call_word(act: &Act) -> &'static str
     ensures value { result.now ≡ spec.call_word act.now }
     ensures plain { list_all is_plain result.now ≡ true }
 {
-    match act {
-        Act::Adopt(_) => "adopt",
-        Act::Amend(_) => "amend",
-        Act::Transfer(_) => "transfer",
-        Act::Requisition(_) => "requisition",
-        Act::Withdraw(_) => "withdraw",
-        Act::Order(_) => "order",
-        Act::ChangeOrder(_) => "change_order",
-        Act::CancelOrder(_) => "cancel_order",
-        Act::Voucher(_) => "voucher",
-        Act::VoidVoucher(_) => "void_voucher",
-        Act::Pay(_) => "pay",
-        Act::Bill(_) => "bill",
-        Act::Collect(_) => "collect",
-        Act::Receive(_) => "receive",
-        Act::WriteOff(_) => "write_off",
-        Act::Asset(_) => "asset",
-        Act::Issue(_) => "issue",
-        Act::PayDue(_) => "pay_due",
-        Act::Leave(_) => "leave",
-        Act::Interfund(_) => "interfund",
-        Act::Close(_) => "close",
-        Act::Lease(_) => "lease",
-    }
+    act.kind().row().word
 }
 
 /// Appends the fields that every changing call has.

@@ -1,1 +1,2 @@
+pub mod KindsFound
 pub mod SameCalls

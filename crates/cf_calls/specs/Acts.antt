@@ -2,7 +2,7 @@
 use Rattle.std.specs.Prelude.{ℕ, ◌*◌, Bool, false, ◌==◌, ◌&&◌, List, [], length, Option, Some, None}
 use Rattle.cf_base.specs.declared.calendar.Month.{Month}
 use Rattle.cf_calls.specs.declared.acts.Act.{Act}
-use Rattle.cf_calls.specs.declared.acts.Act.TheVariants.{Adopt, Amend, Transfer, Requisition, Withdraw, Order, ChangeOrder, CancelOrder, Voucher, VoidVoucher, Pay, Bill, Collect, Receive, WriteOff, Asset, Issue, PayDue, Leave, Interfund, Close, Lease}
+use Rattle.cf_calls.specs.declared.acts.Act.TheVariants.{Adopt, Amend, Transfer, Requisition, Order, Voucher, Close}
 use Rattle.cf_calls.specs.declared.acts.Adoption.{Adoption}
 use Rattle.cf_calls.specs.declared.acts.Amendment.{Amendment}
 use Rattle.cf_calls.specs.declared.acts.BondIssue.{BondIssue}
@@ -12,32 +12,11 @@ use Rattle.cf_calls.specs.declared.acts.Period.TheVariants as period
 use Rattle.cf_calls.specs.declared.items.AccountItem.{AccountItem}
 use Rattle.cf_calls.specs.declared.items.VoucherItem.{VoucherItem}
 use Rattle.cf_calls.specs.declared.role.Role.{Role}
-use Rattle.cf_calls.specs.declared.role.Role.TheVariants as role
+use Rattle.cf_calls.specs.Kinds.{kind_of, row_of}
 
 -- the role that an act needs
 abbrev pub role_of : Act → Role
-role_of (Adopt a) = role.Council
-role_of (Amend a) = role.Council
-role_of (Transfer a) = role.Council
-role_of (Requisition a) = role.Dept
-role_of (Withdraw a) = role.Dept
-role_of (Order a) = role.Purchasing
-role_of (ChangeOrder a) = role.Purchasing
-role_of (CancelOrder a) = role.Purchasing
-role_of (Voucher a) = role.Payables
-role_of (VoidVoucher a) = role.Payables
-role_of (Pay a) = role.Treasury
-role_of (Bill a) = role.Revenue
-role_of (Collect a) = role.Treasury
-role_of (Receive a) = role.Treasury
-role_of (WriteOff a) = role.Revenue
-role_of (Asset a) = role.Assets
-role_of (Issue a) = role.Treasury
-role_of (PayDue a) = role.Treasury
-role_of (Leave a) = role.Payroll
-role_of (Interfund a) = role.Treasury
-role_of (Close a) = role.Controller
-role_of (Lease a) = role.Treasury
+role_of a = (row_of (kind_of a)).role
 
 -- the adoption, the amendment or the transfer that an act is
 abbrev pub adoption_of : Act → Option Adoption

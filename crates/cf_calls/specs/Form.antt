@@ -28,6 +28,9 @@ use Rattle.cf_calls.specs.declared.call.Look.{Look}
 use Rattle.cf_calls.specs.declared.acts.AssetAct.TheVariants.{Donate, Dispose}
 use Rattle.cf_calls.specs.declared.acts.LeaveAct.TheVariants.{Earn, Use, Mature}
 use Rattle.cf_calls.specs.declared.entry.Drawn.{Drawn}
+use Rattle.cf_calls.specs.declared.kind.Draws.{Draws}
+use Rattle.cf_calls.specs.declared.kind.Draws.TheVariants.{Nothing, Number, Both, Payment}
+use Rattle.cf_calls.specs.Kinds.{draws_of}
 use Rattle.cf_calls.specs.declared.entry.Entry.{Entry}
 use Rattle.cf_calls.specs.declared.read.Read.{Read}
 use Rattle.cf_calls.specs.declared.read.Read.TheVariants as read
@@ -196,17 +199,15 @@ abbrev pub IsPaymentNumber : Act → Drawn → Type 0
 IsPaymentNumber (PayDue p) d = d.number < 65536
 IsPaymentNumber _ d = Unit {0}
 
--- which numbers an act draws: two for a voucher and a lease, none or one for the others
+-- a number that isn't drawn is 0
+abbrev pub HasDrawn : Draws → Drawn → Type 0
+HasDrawn Nothing d = (d.number ≡ 0) × (d.second ≡ 0)
+HasDrawn Number d = d.second ≡ 0
+HasDrawn Both d = Unit {0}
+HasDrawn Payment d = d.second ≡ 0
+
 abbrev pub IsDrawn : Act → Drawn → Type 0
-IsDrawn (Voucher v) d = Unit {0}
-IsDrawn (Requisition r) d = d.second ≡ 0
-IsDrawn (Order o) d = d.second ≡ 0
-IsDrawn (Bill b) d = d.second ≡ 0
-IsDrawn (Asset (Donate a)) d = d.second ≡ 0
-IsDrawn (Issue i) d = d.second ≡ 0
-IsDrawn (PayDue p) d = d.second ≡ 0
-IsDrawn (Lease l) d = Unit {0}
-IsDrawn _ d = (d.number ≡ 0) × (d.second ≡ 0)
+IsDrawn a d = HasDrawn (draws_of a) d
 
 -- an entry in form: its change is, has no `after` and keeps the limits, and its drawn numbers are those of its kind
 pub record IsEntryInForm (e : Entry) : Type 0 where

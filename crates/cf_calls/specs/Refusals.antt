@@ -1,5 +1,5 @@
--- The place of each refusal in the order of the rules, and the refusal of a control line that has too little room.
-use Rattle.std.specs.Prelude.{ℕ, ℤ, pos, int_lt, Bool, if◌then◌else◌, ◌&&◌, Option, Some, None}
+-- The place of each refusal in the order of the rules, its name, and the refusal of a control line that has too little room.
+use Rattle.std.specs.Prelude.{ℕ, ◌-◌, ℤ, pos, int_lt, Bool, if◌then◌else◌, ◌&&◌, List, [], ◌∷◌, slice_index_or, codes, Option, Some, None}
 use Rattle.cf_calls.specs.declared.refusal.Refusal.{Refusal}
 use Rattle.cf_calls.specs.declared.refusal.Refusal.TheVariants as refusal
 
@@ -29,6 +29,21 @@ number_of (refusal.DebtDue b d) = 22
 number_of (refusal.WindowOpen m) = 23
 number_of (refusal.Exceeds l a r) = 24
 number_of (refusal.CashShort f c a) = 25
+
+-- the names of the refusals, in that order
+abbrev pub refusal_names : List (List ℕ)
+refusal_names =
+    codes "DeskUnknown" ∷ codes "Ahead" ∷ codes "KeyReused" ∷ codes "NotThisDesk" ∷ codes "HistoryFull" ∷ codes "AmountRange" ∷ codes "UnknownName"
+    ∷ codes "PeriodClosed" ∷ codes "YearNotOpen" ∷ codes "YearClosed" ∷ codes "Adopted" ∷ codes "NotAdopted" ∷ codes "DocState" ∷ codes "SameHand"
+    ∷ codes "NotOnOrder" ∷ codes "OverOpen" ∷ codes "OverReceivable" ∷ codes "AssetState" ∷ codes "NotDue" ∷ codes "LeaveShort" ∷ codes "MonthOrder"
+    ∷ codes "DebtDue" ∷ codes "WindowOpen" ∷ codes "Exceeds" ∷ codes "CashShort" ∷ []
+
+-- the name at a place, counted from 1
+abbrev pub name_at : ℕ → List ℕ
+name_at n = slice_index_or refusal_names (n - 1) []
+
+abbrev pub name_of : Refusal → List ℕ
+name_of r = name_at (number_of r)
 
 -- ---- room (GASB Codification 1700: budgetary control)
 

@@ -1,7 +1,7 @@
 //! Refusals, each with the values that it states. Nothing changes where a call is refused.
 
-ghost use Rattle.std.specs.Prelude.{◌≡◌};
-ghost use Rattle.cf_calls.specs.Refusals.{number_of};
+ghost use Rattle.std.specs.Prelude.{◌≡◌, ◌≤◌, length};
+ghost use Rattle.cf_calls.specs.Refusals.{name_at, name_of, number_of};
 
 use crate::names::{DocumentKind, NameKind};
 use crate::role::Role;
@@ -149,35 +149,82 @@ pub enum Refusal {
     },
 }
 
-/// The number of a refusal, from 1 to 25, which is its place in the order of the rules.
-pub fn number(refusal: &Refusal) -> u8
-    ensures { result ≡ number_of refusal.now }
+impl Refusal {
+    /// The number of the refusal, from 1 to 25, which is its place in the order of the rules.
+    pub fn number(&self) -> u8
+        ensures value { result ≡ number_of self.now }
+        ensures range { (1 ≤ result) × (result ≤ 25) }
+    {
+        match self {
+            Refusal::DeskUnknown { .. } => 1,
+            Refusal::Ahead { .. } => 2,
+            Refusal::KeyReused { .. } => 3,
+            Refusal::NotThisDesk { .. } => 4,
+            Refusal::HistoryFull { .. } => 5,
+            Refusal::AmountRange { .. } => 6,
+            Refusal::UnknownName { .. } => 7,
+            Refusal::PeriodClosed { .. } => 8,
+            Refusal::YearNotOpen { .. } => 9,
+            Refusal::YearClosed { .. } => 10,
+            Refusal::Adopted { .. } => 11,
+            Refusal::NotAdopted { .. } => 12,
+            Refusal::DocState { .. } => 13,
+            Refusal::SameHand { .. } => 14,
+            Refusal::NotOnOrder { .. } => 15,
+            Refusal::OverOpen { .. } => 16,
+            Refusal::OverReceivable { .. } => 17,
+            Refusal::AssetState { .. } => 18,
+            Refusal::NotDue { .. } => 19,
+            Refusal::LeaveShort { .. } => 20,
+            Refusal::MonthOrder { .. } => 21,
+            Refusal::DebtDue { .. } => 22,
+            Refusal::WindowOpen { .. } => 23,
+            Refusal::Exceeds { .. } => 24,
+            Refusal::CashShort { .. } => 25,
+        }
+    }
+
+    /// The name of the refusal, in replies and notices.
+    pub fn name(&self) -> &'static str
+        ensures value { result.now ≡ name_of self.now }
+        ensures short { length result.now ≤ 14 }
+    {
+        refusal_name(self.number())
+    }
+}
+
+/// The name of the refusal of a number: of one above 25, none.
+pub fn refusal_name(number: u8) -> &'static str
+    requires { 1 ≤ number }
+    ensures value { result.now ≡ name_at number }
+    ensures short { length result.now ≤ 14 }
 {
-    match refusal {
-        Refusal::DeskUnknown { .. } => 1,
-        Refusal::Ahead { .. } => 2,
-        Refusal::KeyReused { .. } => 3,
-        Refusal::NotThisDesk { .. } => 4,
-        Refusal::HistoryFull { .. } => 5,
-        Refusal::AmountRange { .. } => 6,
-        Refusal::UnknownName { .. } => 7,
-        Refusal::PeriodClosed { .. } => 8,
-        Refusal::YearNotOpen { .. } => 9,
-        Refusal::YearClosed { .. } => 10,
-        Refusal::Adopted { .. } => 11,
-        Refusal::NotAdopted { .. } => 12,
-        Refusal::DocState { .. } => 13,
-        Refusal::SameHand { .. } => 14,
-        Refusal::NotOnOrder { .. } => 15,
-        Refusal::OverOpen { .. } => 16,
-        Refusal::OverReceivable { .. } => 17,
-        Refusal::AssetState { .. } => 18,
-        Refusal::NotDue { .. } => 19,
-        Refusal::LeaveShort { .. } => 20,
-        Refusal::MonthOrder { .. } => 21,
-        Refusal::DebtDue { .. } => 22,
-        Refusal::WindowOpen { .. } => 23,
-        Refusal::Exceeds { .. } => 24,
-        Refusal::CashShort { .. } => 25,
+    match number {
+        1 => "DeskUnknown",
+        2 => "Ahead",
+        3 => "KeyReused",
+        4 => "NotThisDesk",
+        5 => "HistoryFull",
+        6 => "AmountRange",
+        7 => "UnknownName",
+        8 => "PeriodClosed",
+        9 => "YearNotOpen",
+        10 => "YearClosed",
+        11 => "Adopted",
+        12 => "NotAdopted",
+        13 => "DocState",
+        14 => "SameHand",
+        15 => "NotOnOrder",
+        16 => "OverOpen",
+        17 => "OverReceivable",
+        18 => "AssetState",
+        19 => "NotDue",
+        20 => "LeaveShort",
+        21 => "MonthOrder",
+        22 => "DebtDue",
+        23 => "WindowOpen",
+        24 => "Exceeds",
+        25 => "CashShort",
+        _ => "",
     }
 }

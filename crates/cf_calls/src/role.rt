@@ -25,30 +25,7 @@ pub enum Role {
 pub fn role_of(act: &Act) -> Role
     ensures { result ≡ acts.role_of act.now }
 {
-    match act {
-        Act::Adopt(_) => Role::Council,
-        Act::Amend(_) => Role::Council,
-        Act::Transfer(_) => Role::Council,
-        Act::Requisition(_) => Role::Dept,
-        Act::Withdraw(_) => Role::Dept,
-        Act::Order(_) => Role::Purchasing,
-        Act::ChangeOrder(_) => Role::Purchasing,
-        Act::CancelOrder(_) => Role::Purchasing,
-        Act::Voucher(_) => Role::Payables,
-        Act::VoidVoucher(_) => Role::Payables,
-        Act::Pay(_) => Role::Treasury,
-        Act::Bill(_) => Role::Revenue,
-        Act::Collect(_) => Role::Treasury,
-        Act::Receive(_) => Role::Treasury,
-        Act::WriteOff(_) => Role::Revenue,
-        Act::Asset(_) => Role::Assets,
-        Act::Issue(_) => Role::Treasury,
-        Act::PayDue(_) => Role::Treasury,
-        Act::Leave(_) => Role::Payroll,
-        Act::Interfund(_) => Role::Treasury,
-        Act::Close(_) => Role::Controller,
-        Act::Lease(_) => Role::Treasury,
-    }
+    act.kind().row().role
 }
 
 fn is_same_role(role: Role, other: Role) -> bool

@@ -21,7 +21,9 @@ use Rattle.cf_calls.specs.declared.kind.ActKind.{ActKind}
 use Rattle.cf_calls.specs.declared.kind.ActKind.TheVariants as kind
 use Rattle.cf_fields.specs.Formats.{Format, and_then, kept}
 use Rattle.cf_fields.specs.Fields.{byte, half, word, one_of, flag, year, amount, most_amount, signed, month}
-use Rattle.cf_fields.specs.Kinds.{kind_of, value_in, kinds, kind_value, kind_code, kind, moves, move_value, move_code, move_kind}
+use Rattle.cf_calls.specs.Kinds.{kind_of, kind_value, kind_code}
+use Rattle.cf_calls.proofs.KindsFound.{by_code, code_is}
+use Rattle.cf_fields.specs.Kinds.{value_in, kind, moves, move_value, move_code, move_kind}
 use Rattle.cf_codec.specs.Acts.{source_amount, account_item, line_amounts, source_amounts, account_items, voucher_items, voucher_numbers, principals, adoption, amendment, other_than, transfer, new_requisition, optional_by, optional, new_order, order_change, new_voucher, payment, new_bill, bill_amount, donation, disposal, issue, lease, lease_principals, debt_payment, leave_amount, maturity, fund_move, made, asset_act_by, asset_act, leave_act_by, leave_act, period_by, closed_period, act_bytes, act_fits, act_at, act_for}
 use Rattle.cf_fields.proofs.Exact.{IsBytes, Takes, IsExact, IsWhole, Any, step, last, same, ok_is, then_ok, then_err, kept-exact, converted-exact}
 use Rattle.cf_fields.proofs.FieldsExact.{byte-exact, half-exact, word-exact, one_of-exact, flag-exact, year-exact, amount-exact, most_amount-exact, signed-exact, month-exact}
@@ -52,17 +54,8 @@ move_from = value_from move_code moves (refl, (refl, (refl, tt)))
 move_kind-exact : IsWhole move_kind Any
 move_kind-exact = converted-exact move_value move_code byte Any Any byte-exact (λ k fits form. (move_to k, tt)) (λ n k fits form e. (move_from n k e, tt))
 
-kind_to : (k : ActKind) → kind_value (kind_code k) ≡ Some k
-unfolding kind_value
-kind_to kind.Adopt = refl
-kind_to _ = refl
-
-kind_from : (n : ℕ) (k : ActKind) → kind_value n ≡ Some k → kind_code k ≡ n
-unfolding kind_value
-kind_from = value_from kind_code kinds (refl, (refl, (refl, (refl, (refl, (refl, (refl, (refl, (refl, (refl, (refl, (refl, (refl, (refl, (refl, (refl, (refl, (refl, (refl, (refl, (refl, (refl, tt))))))))))))))))))))))
-
 pub kind-exact : IsWhole kind Any
-kind-exact = converted-exact kind_value kind_code byte Any Any byte-exact (λ k fits form. (kind_to k, tt)) (λ n k fits form e. (kind_from n k e, tt))
+kind-exact = converted-exact kind_value kind_code byte Any Any byte-exact (λ k fits form. (by_code k, tt)) (λ n k fits form e. (code_is n k e, tt))
 
 -- ---- fields with a rule
 

@@ -6,18 +6,21 @@ use Rattle.std.proofs.lemmas.List.{length-append, append-nil, take_at, nil_from_
 use Rattle.cf_base.specs.declared.calendar.Day.{Day}
 use Rattle.cf_base.specs.Calendar.{is_day}
 use Rattle.cf_calls.specs.declared.acts.Act.{Act}
-use Rattle.cf_calls.specs.declared.acts.Act.TheVariants.{Requisition, Order, Voucher, Bill, Asset, Issue, PayDue, Lease}
-use Rattle.cf_calls.specs.declared.acts.AssetAct.TheVariants.{Donate}
+use Rattle.cf_calls.specs.declared.acts.Act.TheVariants.{Asset, Issue, PayDue, Lease}
+use Rattle.cf_calls.specs.declared.acts.AssetAct.TheVariants.{Donate, Dispose}
 use Rattle.cf_calls.specs.declared.entry.Drawn.{Drawn}
 use Rattle.cf_calls.specs.declared.entry.Entry.{Entry}
-use Rattle.cf_calls.specs.Form.{is_key, IsActInForm, IsDrawn, IsPaymentNumber, IsEntryInForm}
+use Rattle.cf_calls.specs.Form.{is_key, HasDrawn, IsActInForm, IsDrawn, IsPaymentNumber, IsEntryInForm}
 use Rattle.cf_calls.specs.declared.kind.ActKind.{ActKind}
 use Rattle.cf_calls.specs.declared.kind.ActKind.TheVariants as kind
+use Rattle.cf_calls.specs.declared.kind.Draws.{Draws}
+use Rattle.cf_calls.specs.declared.kind.Draws.TheVariants.{Nothing, Number, Both, Payment}
 use Rattle.cf_fields.specs.Formats.{Format}
 use Rattle.cf_fields.specs.Fields.{half, word, key, day}
-use Rattle.cf_fields.specs.Kinds.{kind_of, kind, kind_in, is_of}
+use Rattle.cf_calls.specs.Kinds.{draws_of, kind_of}
+use Rattle.cf_fields.specs.Kinds.{kind, kind_in, is_of}
 use Rattle.cf_codec.specs.Acts.{act_for}
-use Rattle.cf_codec.specs.Entries.{may_be_on, on_for, none_drawn, one_drawn, two_drawn, payment_drawn, drawn_for, entry, entry_in, payload, placed, read_of, HasPayload, BeginsWith, IsOf}
+use Rattle.cf_codec.specs.Entries.{may_be_on, on_for, none_drawn, one_drawn, two_drawn, payment_drawn, drawn_as, drawn_for, entry, entry_in, payload, placed, read_of, HasPayload, BeginsWith, IsDrawnShort, IsOf}
 use Rattle.cf_codec.specs.declared.fault.CodecRefused.{CodecRefused}
 use Rattle.cf_codec.specs.Answers.{Answers}
 use Rattle.cf_fields.proofs.Exact.{IsBytes, IsWhole, Any, step, last, same, whole, ok_is, kept-exact}
@@ -70,20 +73,34 @@ payment-exact =
 abbrev DrawnForm : Act → Drawn → Type 0
 DrawnForm a d = IsDrawn a d × IsPaymentNumber a d
 
--- one of these formats, for the numbers of an act
-drawn_as : (f : Format Drawn) (Form Other : Drawn → Type 0) → IsWhole f Form → ((d : Drawn) → Other d → Form d) → ((d : Drawn) → Form d → Other d) → IsWhole f Other
-drawn_as f Form Other exact to from = same f Any Form Other exact (λ d known fits form. to d form) (λ d known fits form. from d form)
+abbrev FormAs : Draws → Drawn → Type 0
+FormAs k d = HasDrawn k d × IsDrawnShort k d
+
+-- one of these formats
+drawn_by : (f : Format Drawn) (Form Other : Drawn → Type 0) → IsWhole f Form → ((d : Drawn) → Other d → Form d) → ((d : Drawn) → Form d → Other d) → IsWhole f Other
+drawn_by f Form Other exact to from = same f Any Form Other exact (λ d known fits form. to d form) (λ d known fits form. from d form)
+
+as-exact : (k : Draws) → IsWhole (drawn_as k) (FormAs k)
+as-exact Nothing = drawn_by none_drawn IsNone (FormAs Nothing) none-exact (λ d form. form.0) (λ d form. (form, tt))
+as-exact Number = drawn_by one_drawn IsOne (FormAs Number) one-exact (λ d form. form.0) (λ d form. (form, tt))
+as-exact Both = drawn_by two_drawn Any (FormAs Both) two-exact (λ d form. tt) (λ d form. (tt, tt))
+as-exact Payment = drawn_by payment_drawn IsPayment (FormAs Payment) payment-exact (λ d form. form) (λ d form. form)
+
+-- a debt payment's number is short, and no other call's need be
+pub short_drawn : (a : Act) (d : Drawn) → IsPaymentNumber a d → IsDrawnShort (draws_of a) d
+short_drawn (PayDue x) d few = few
+short_drawn (Asset (Donate x)) d few = tt
+short_drawn (Asset (Dispose x)) d few = tt
+short_drawn _ d few = tt
+
+payment_number : (a : Act) (d : Drawn) → IsDrawnShort (draws_of a) d → IsPaymentNumber a d
+payment_number (PayDue x) d few = few
+payment_number _ d few = tt
 
 drawn-exact : (a : Act) → IsWhole (drawn_for a) (DrawnForm a)
-drawn-exact (Requisition x) = drawn_as one_drawn IsOne (DrawnForm (Requisition x)) one-exact (λ d form. form.0) (λ d form. (form, tt))
-drawn-exact (Order x) = drawn_as one_drawn IsOne (DrawnForm (Order x)) one-exact (λ d form. form.0) (λ d form. (form, tt))
-drawn-exact (Voucher x) = drawn_as two_drawn Any (DrawnForm (Voucher x)) two-exact (λ d form. tt) (λ d form. (tt, tt))
-drawn-exact (Bill x) = drawn_as one_drawn IsOne (DrawnForm (Bill x)) one-exact (λ d form. form.0) (λ d form. (form, tt))
-drawn-exact (Asset (Donate x)) = drawn_as one_drawn IsOne (DrawnForm (Asset (Donate x))) one-exact (λ d form. form.0) (λ d form. (form, tt))
-drawn-exact (Issue x) = drawn_as one_drawn IsOne (DrawnForm (Issue x)) one-exact (λ d form. form.0) (λ d form. (form, tt))
-drawn-exact (PayDue x) = drawn_as payment_drawn IsPayment (DrawnForm (PayDue x)) payment-exact (λ d form. form) (λ d form. form)
-drawn-exact (Lease x) = drawn_as two_drawn Any (DrawnForm (Lease x)) two-exact (λ d form. tt) (λ d form. (tt, tt))
-drawn-exact _ = drawn_as none_drawn IsNone _ none-exact (λ d form. form.0) (λ d form. (form, tt))
+drawn-exact a =
+    drawn_by (drawn_for a) (FormAs (draws_of a)) (DrawnForm a) (as-exact (draws_of a))
+    (λ d form. (form.0, short_drawn a d form.1)) (λ d form. (form.0, payment_number a d form.1))
 
 -- ---- entries
 

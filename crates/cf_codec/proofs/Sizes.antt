@@ -14,12 +14,15 @@ use Rattle.cf_calls.specs.declared.items.Liquidation.TheVariants.{Lesser, Record
 use Rattle.cf_calls.specs.declared.entry.Drawn.{Drawn}
 use Rattle.cf_calls.specs.declared.entry.Entry.{Entry}
 use Rattle.cf_calls.specs.declared.kind.ActKind.{ActKind}
+use Rattle.cf_calls.specs.declared.kind.Draws.{Draws}
+use Rattle.cf_calls.specs.declared.kind.Draws.TheVariants.{Nothing}
 use Rattle.cf_fields.specs.Formats.{Format, number_bytes, kept, each_bytes, each_size, list, field, ◌>>=◌, done}
 use Rattle.cf_fields.specs.Fields.{byte, half, word, flag, year, amount, most_amount}
-use Rattle.cf_fields.specs.Kinds.{kind_of, kind, kind_in}
+use Rattle.cf_calls.specs.Kinds.{draws_of, kind_of}
+use Rattle.cf_fields.specs.Kinds.{kind, kind_in}
 use Rattle.cf_fields.specs.Fields.{key}
 use Rattle.cf_codec.specs.Acts.{line_amount, source_amount, account_item, charge, voucher_item, line_amounts, source_amounts, account_items, voucher_items, voucher_numbers, principals, adoption, new_requisition, optional, new_order, new_voucher, payment, issue, lease, lease_principals, act_bytes, act_size, act_for}
-use Rattle.cf_codec.specs.Entries.{drawn_for, on_for, entry, payload}
+use Rattle.cf_codec.specs.Entries.{drawn_as, drawn_for, on_for, entry, payload}
 
 record IsSized {A : Type 0} (f : Format A) : Type 0 where
   len : (a : A) → length (f.bytes a) ≡ f.size a
@@ -153,10 +156,9 @@ act_sized on (Close (period.Month m)) = refl
 act_sized on (Close (period.Year y)) = refl
 act_sized on _ = refl
 
-drawn_len : (a : Act) (d : Drawn) → length ((drawn_for a).bytes d) ≡ (drawn_for a).size d
+drawn_len : (k : Draws) (d : Drawn) → length ((drawn_as k).bytes d) ≡ (drawn_as k).size d
 unfolding number_bytes
-drawn_len (Asset (Donate x)) d = refl
-drawn_len (Asset (Dispose x)) d = refl
+drawn_len Nothing d = refl
 drawn_len _ d = refl
 
 on_sized : (k : ActKind) → IsSized (on_for k)
@@ -167,7 +169,7 @@ act_for_sized : (k : ActKind) (on : Day) → IsSized (act_for k on)
 act_for_sized k on = record { len = act_sized on }
 
 drawn_sized : (a : Act) → IsSized (drawn_for a)
-drawn_sized a = record { len = drawn_len a }
+drawn_sized a = record { len = drawn_len (draws_of a) }
 
 kind_sized : IsSized kind
 unfolding number_bytes

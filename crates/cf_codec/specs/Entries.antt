@@ -1,17 +1,18 @@
 -- The payload of an entry, and the entry whose payload stands at the front of bytes.
-use Rattle.std.specs.Prelude.{◌≡◌, ℕ, ◌-◌, Bool, true, nat_le, List, length, take, None, Result, Ok, Err}
+use Rattle.std.specs.Prelude.{◌≡◌, ℕ, ◌-◌, ◌<◌, Bool, true, nat_le, List, length, take, None, Result, Ok, Err}
 use Rattle.cf_base.specs.declared.calendar.Day.{Day}
 use Rattle.cf_calls.specs.declared.acts.Act.{Act}
-use Rattle.cf_calls.specs.declared.acts.Act.TheVariants.{Requisition, Order, Voucher, Bill, Asset, Issue, PayDue, Lease}
-use Rattle.cf_calls.specs.declared.acts.AssetAct.TheVariants.{Donate}
 use Rattle.cf_calls.specs.declared.entry.Drawn.{Drawn}
 use Rattle.cf_calls.specs.declared.entry.Entry.{Entry}
 use Rattle.cf_calls.specs.Form.{IsEntryInForm}
 use Rattle.cf_calls.specs.declared.kind.ActKind.{ActKind}
 use Rattle.cf_calls.specs.declared.kind.ActKind.TheVariants as kind
+use Rattle.cf_calls.specs.declared.kind.Draws.{Draws}
+use Rattle.cf_calls.specs.declared.kind.Draws.TheVariants.{Nothing, Number, Both, Payment}
+use Rattle.cf_calls.specs.Kinds.{draws_of, kind_of}
 use Rattle.cf_fields.specs.Formats.{Format, kept, field, ◌>>=◌, done}
 use Rattle.cf_fields.specs.Fields.{half, word, key, day}
-use Rattle.cf_fields.specs.Kinds.{kind_of, kind_in, is_of}
+use Rattle.cf_fields.specs.Kinds.{kind_in, is_of}
 use Rattle.cf_codec.specs.Acts.{act_for}
 
 -- a bond is issued, and a lease begins, on a day from 1 to 28 of a month
@@ -44,16 +45,19 @@ payment_drawn = do
   number ← field (λ d. d.number) half
   done (record { number = number; second = 0 })
 
+abbrev pub drawn_as : Draws → Format Drawn
+drawn_as Nothing = none_drawn
+drawn_as Number = one_drawn
+drawn_as Both = two_drawn
+drawn_as Payment = payment_drawn
+
+-- a debt payment's number fits its 2 bytes
+abbrev pub IsDrawnShort : Draws → Drawn → Type 0
+IsDrawnShort Payment d = d.number < 65536
+IsDrawnShort _ d = Unit {0}
+
 abbrev pub drawn_for : Act → Format Drawn
-drawn_for (Requisition r) = one_drawn
-drawn_for (Order o) = one_drawn
-drawn_for (Voucher v) = two_drawn
-drawn_for (Bill b) = one_drawn
-drawn_for (Asset (Donate d)) = one_drawn
-drawn_for (Issue i) = one_drawn
-drawn_for (PayDue p) = payment_drawn
-drawn_for (Lease l) = two_drawn
-drawn_for _ = none_drawn
+drawn_for a = drawn_as (draws_of a)
 
 -- ---- entries
 

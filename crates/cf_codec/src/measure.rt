@@ -10,7 +10,7 @@ use crate::items::{
 };
 use cf_base::Day;
 use cf_calls::acts::{Adoption, AssetAct, LeaveAct, Period};
-use cf_calls::{Act, Entry};
+use cf_calls::{Act, Draws, Entry};
 use cf_fields::lists::list_len;
 
 fn adoption_len(adoption: &Adoption) -> u64
@@ -72,16 +72,11 @@ fn drawn_len(entry: &Entry) -> u64
     ensures size { result ≡ (entries.drawn_for entry.now.change.act).size entry.now.drawn }
     ensures small { result ≤ 8 }
 {
-    match &entry.change.act {
-        Act::Requisition(_) => 4,
-        Act::Order(_) => 4,
-        Act::Voucher(_) => 8,
-        Act::Bill(_) => 4,
-        Act::Asset(AssetAct::Donate(_)) => 4,
-        Act::Issue(_) => 4,
-        Act::PayDue(_) => 2,
-        Act::Lease(_) => 8,
-        _ => 0,
+    match entry.change.act.draws() {
+        Draws::Nothing => 0,
+        Draws::Number => 4,
+        Draws::Both => 8,
+        Draws::Payment => 2,
     }
 }
 

@@ -3,7 +3,7 @@
 ghost use Rattle.std.specs.Prelude.{◌≡◌, ◌<◌, true, length};
 ghost use Rattle.cf_calls.specs.Form.{IsActInForm, IsAdoptionForm, is_period};
 ghost use Rattle.cf_codec.specs.Acts as spec;
-ghost use Rattle.cf_fields.specs.Kinds.{kind_of};
+ghost use Rattle.cf_calls.specs.Kinds.{kind_of};
 ghost use Rattle.cf_fields.specs.Puts.{Adds, HasRoom, Puts};
 
 use crate::items::{

@@ -11,8 +11,7 @@ ghost use Rattle.cf_fields.specs.Kinds.{kind_in};
 use crate::fault::{CodecFault, CodecRefused};
 use crate::take_acts::take_act;
 use cf_base::Day;
-use cf_calls::acts::AssetAct;
-use cf_calls::{Act, ActKind, Change, Drawn, Entry};
+use cf_calls::{ActKind, Change, Drawn, Draws, Entry};
 use cf_fields::Refused;
 use cf_fields::kind::is_of;
 use cf_fields::take::{faulty, take_day, take_half, take_key, take_kind, take_word};
@@ -75,26 +74,21 @@ fn take_payment_drawn(bytes: &[u8]) -> Result<(Drawn, &[u8]), Refused>
     Ok((Drawn { number, second: 0 }, rest))
 }
 
-/// The numbers that an act draws.
-fn take_drawn<'a>(act: &Act, bytes: &'a [u8]) -> Result<(Drawn, &'a [u8]), Refused>
-    ensures { Gives (λ x. (x.0, x.1.now)) result ((spec.drawn_for act.now).read bytes.now) }
+/// Drawn numbers.
+fn take_drawn(draws: Draws, bytes: &[u8]) -> Result<(Drawn, &[u8]), Refused>
+    ensures { Gives (λ x. (x.0, x.1.now)) result ((spec.drawn_as draws).read bytes.now) }
 {
-    match act {
-        Act::Requisition(_) => take_one_drawn(bytes),
-        Act::Order(_) => take_one_drawn(bytes),
-        Act::Voucher(_) => take_two_drawn(bytes),
-        Act::Bill(_) => take_one_drawn(bytes),
-        Act::Asset(AssetAct::Donate(_)) => take_one_drawn(bytes),
-        Act::Issue(_) => take_one_drawn(bytes),
-        Act::PayDue(_) => take_payment_drawn(bytes),
-        Act::Lease(_) => take_two_drawn(bytes),
-        _ => {
+    match draws {
+        Draws::Nothing => {
             let none = Drawn {
                 number: 0,
                 second: 0,
             };
             Ok((none, bytes))
         }
+        Draws::Number => take_one_drawn(bytes),
+        Draws::Both => take_two_drawn(bytes),
+        Draws::Payment => take_payment_drawn(bytes),
     }
 }
 
@@ -106,7 +100,7 @@ fn take_entry(alloc: Global, bytes: &[u8], version: u8) -> Result<(Entry, &[u8])
     let (key, rest) = take_key(alloc, rest)?;
     let (on, rest) = take_on(kind, rest)?;
     let (act, rest) = take_act(alloc, kind, on, rest)?;
-    let (drawn, rest) = take_drawn(&act, rest)?;
+    let (drawn, rest) = take_drawn(act.draws(), rest)?;
     let change = Change {
         desk,
         key,

@@ -1,41 +1,31 @@
 //! An entry written as its payload.
 
 ghost use Rattle.std.specs.Prelude.{◌≡◌, ◌+◌, ◌≤◌, ◌++◌, true, length, IsOk, OnOk, OnErr, vec_len, vec_capacity};
-ghost use Rattle.cf_calls.specs.Form.{IsEntryInForm, IsPaymentNumber};
-ghost use Rattle.cf_codec.specs.Entries.{HasPayload, drawn_for, payload};
+ghost use Rattle.cf_calls.specs.Form.{IsEntryInForm};
+ghost use Rattle.cf_codec.specs.Entries.{HasPayload, IsDrawnShort, drawn_as, payload};
 ghost use Rattle.cf_codec.specs.Entries as spec;
 ghost use Rattle.cf_fields.specs.Puts.{HasRoom, Puts};
 
 use crate::fault::NoMemory;
 use crate::measure::entry_len;
 use crate::put_acts::put_act;
-use cf_calls::acts::AssetAct;
-use cf_calls::{Act, Drawn, Entry};
-use cf_fields::kind::kind_of;
+use cf_calls::{Drawn, Draws, Entry};
 use cf_fields::put::{put_day, put_half, put_key, put_kind, put_word};
 
-/// Writes the numbers that an act draws.
-fn put_drawn(out: &mut Vec<u8>, act: &Act, drawn: Drawn)
-    requires payment { IsPaymentNumber act.now drawn }
-    requires room { HasRoom (drawn_for act.now) drawn out.old }
-    ensures { Puts (drawn_for act.now) drawn out.old out.new }
+/// Writes drawn numbers.
+fn put_drawn(out: &mut Vec<u8>, draws: Draws, drawn: Drawn)
+    requires payment { IsDrawnShort draws drawn }
+    requires room { HasRoom (drawn_as draws) drawn out.old }
+    ensures { Puts (drawn_as draws) drawn out.old out.new }
 {
-    match act {
-        Act::Requisition(_) => put_word(out, drawn.number),
-        Act::Order(_) => put_word(out, drawn.number),
-        Act::Voucher(_) => {
+    match draws {
+        Draws::Nothing => {}
+        Draws::Number => put_word(out, drawn.number),
+        Draws::Both => {
             put_word(out, drawn.number);
             put_word(out, drawn.second);
         }
-        Act::Bill(_) => put_word(out, drawn.number),
-        Act::Asset(AssetAct::Donate(_)) => put_word(out, drawn.number),
-        Act::Issue(_) => put_word(out, drawn.number),
-        Act::PayDue(_) => put_half(out, drawn.number as u16),
-        Act::Lease(_) => {
-            put_word(out, drawn.number);
-            put_word(out, drawn.second);
-        }
-        _ => {}
+        Draws::Payment => put_half(out, drawn.number as u16),
     }
 }
 
@@ -45,12 +35,12 @@ fn put_entry(out: &mut Vec<u8>, e: &Entry)
     requires room { HasRoom spec.entry e.now out.old }
     ensures { Puts spec.entry e.now out.old out.new }
 {
-    put_kind(out, kind_of(&e.change.act));
+    put_kind(out, e.change.act.kind());
     put_half(out, e.change.desk);
     put_key(out, &e.change.key);
     put_day(out, e.change.on);
     put_act(out, e.change.on, &e.change.act);
-    put_drawn(out, &e.change.act, e.drawn);
+    put_drawn(out, e.change.act.draws(), e.drawn);
 }
 
 /// How many bytes the payload of an entry in form has: from 12 to 43,576, which is the longest adoption.

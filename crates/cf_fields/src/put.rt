@@ -7,7 +7,7 @@ ghost use Rattle.cf_fields.specs.Fields as spec;
 ghost use Rattle.cf_fields.specs.Kinds as kinds;
 ghost use Rattle.cf_fields.specs.Puts.{HasRoom, Puts};
 
-use crate::kind::{kind_code, move_code};
+use crate::kind::move_code;
 use cf_base::{Day, Month};
 use cf_calls::acts::FundMoveKind;
 use cf_calls::{ActKind, Key};
@@ -100,7 +100,7 @@ pub fn put_kind(out: &mut Vec<u8>, kind: ActKind)
     requires { HasRoom kinds.kind kind out.old }
     ensures { Puts kinds.kind kind out.old out.new }
 {
-    put_byte(out, kind_code(kind));
+    put_byte(out, kind.row().code);
 }
 
 /// The number of the kind of a movement of cash.

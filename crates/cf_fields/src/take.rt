@@ -10,7 +10,7 @@ ghost use Rattle.cf_fields.specs.Fields as spec;
 ghost use Rattle.cf_fields.specs.Kinds as kinds;
 
 use crate::fault::Refused;
-use crate::kind::{kind_value, move_value};
+use crate::kind::move_value;
 use cf_base::{Cents, Day, LAST_YEAR, MOST_CENTS, Month};
 use cf_calls::acts::FundMoveKind;
 use cf_calls::{ActKind, Key};
@@ -229,7 +229,7 @@ pub fn take_kind(bytes: &[u8]) -> Result<(ActKind, &[u8]), Refused>
     ensures { Gives (λ x. (x.0, x.1.now)) result (kinds.kind.read bytes.now) }
 {
     let (n, rest) = take_byte(bytes)?;
-    or_faulty(kind_value(n), rest, bytes)
+    or_faulty(ActKind::of_code(n), rest, bytes)
 }
 
 /// The kind of a movement of cash.

@@ -17,7 +17,7 @@ use crate::steps::write_synced;
 use cf_calls::{Act, Entry};
 use cf_codec::{NoMemory, payload_len, write_entry};
 use cf_disk::Disk;
-use cf_fields::kind::{is_of, kind_of};
+use cf_fields::kind::is_of;
 use std::alloc::Global;
 
 /// The end of a journal, where the next entry is written.
@@ -195,7 +195,7 @@ impl Journal {
     pub fn has(&self, act: &Act) -> bool
         ensures { result ≡ has_act self.now act.now }
     {
-        is_of(self.version, kind_of(act))
+        is_of(self.version, act.kind())
     }
 
     /// The number of entries of the history.

@@ -13,7 +13,7 @@ use Rattle.cf_json.specs.declared.words.LookWord.{LookWord}
 use Rattle.cf_members.specs.Faults.{◌>>=◌}
 use Rattle.cf_members.specs.Fields.{field, optional, only}
 use Rattle.cf_members.specs.Kinds.{as_n16, as_count, as_key, as_day, as_word}
-use Rattle.cf_json.specs.Words.{change_words, look_words}
+use Rattle.cf_json.specs.Words.{as_change, look_words}
 use Rattle.cf_json.specs.Acts.{act_of, own_names}
 use Rattle.cf_json.specs.Reads.{read_of, look_names}
 
@@ -54,7 +54,7 @@ call_by None (Some l) d = look_of l d
 call_by (Some w) (Some l) d = if has_hand d then change_of w d else look_of l d
 
 abbrev pub named_call_of : Data → Result Call FormFault
-named_call_of d = call_by (option_and_then (as_word change_words) (get (codes "call") d)) (option_and_then (as_word look_words) (get (codes "call") d)) d
+named_call_of d = call_by (option_and_then as_change (get (codes "call") d)) (option_and_then (as_word look_words) (get (codes "call") d)) d
 
 abbrev pub object_call_of : Data → Result Call FormFault
 object_call_of d = if is_none (as_object d) then Err fault.Json else named_call_of d

@@ -1,6 +1,8 @@
 -- The words of calls and of their fields.
-use Rattle.std.specs.Prelude.{ℕ, List, [], ◌∷◌, map, codes}
+use Rattle.std.specs.Prelude.{ℕ, List, [], ◌∷◌, map, codes, Option, option_and_then}
 use Rattle.std.specs.Borrow.{Bor}
+use Rattle.serde_json.specs.Data.{Data}
+use Rattle.serde_json.specs.Find.{as_str}
 use Rattle.cf_base.specs.declared.statement.Kind.{Kind}
 use Rattle.cf_base.specs.declared.statement.Kind.TheVariants as kind
 use Rattle.cf_calls.specs.declared.read.Basis.{Basis}
@@ -14,7 +16,7 @@ use Rattle.cf_json.specs.declared.words.LeaveWord.TheVariants as leave
 use Rattle.cf_json.specs.declared.words.PeriodWord.{PeriodWord}
 use Rattle.cf_json.specs.declared.words.PeriodWord.TheVariants as period
 use Rattle.cf_calls.specs.declared.kind.ActKind.{ActKind}
-use Rattle.cf_calls.specs.declared.kind.ActKind.TheVariants.{Adopt, Amend, Transfer, Requisition, Withdraw, Order, ChangeOrder, CancelOrder, Voucher, VoidVoucher, Pay, Bill, Collect, Receive, WriteOff, Asset, Issue, PayDue, Leave, Interfund, Close, Lease}
+use Rattle.cf_calls.specs.Kinds.{kind_named}
 use Rattle.cf_json.specs.declared.words.LookWord.{LookWord}
 use Rattle.cf_json.specs.declared.words.LookWord.TheVariants as look
 
@@ -22,14 +24,9 @@ use Rattle.cf_json.specs.declared.words.LookWord.TheVariants as look
 abbrev pub plain_words : {A : Type 0} → List (Bor (List ℕ) × A) → List (List ℕ × A)
 plain_words words = map (λ w. ((w.0).now, w.1)) words
 
--- the words of the changing calls
-abbrev pub change_words : List (List ℕ × ActKind)
-change_words =
-    (codes "adopt", Adopt) ∷ (codes "amend", Amend) ∷ (codes "transfer", Transfer) ∷ (codes "requisition", Requisition) ∷ (codes "withdraw", Withdraw)
-    ∷ (codes "order", Order) ∷ (codes "change_order", ChangeOrder) ∷ (codes "cancel_order", CancelOrder) ∷ (codes "voucher", Voucher) ∷ (codes "void_voucher", VoidVoucher)
-    ∷ (codes "pay", Pay) ∷ (codes "bill", Bill) ∷ (codes "collect", Collect) ∷ (codes "receive", Receive) ∷ (codes "write_off", WriteOff) ∷ (codes "asset", Asset)
-    ∷ (codes "issue", Issue) ∷ (codes "pay_due", PayDue) ∷ (codes "leave", Leave) ∷ (codes "interfund", Interfund) ∷ (codes "close", Close)
-    ∷ (codes "lease", Lease) ∷ []
+-- the changing call of a word
+abbrev pub as_change : Data → Option ActKind
+as_change d = option_and_then kind_named (as_str d)
 
 -- the words of the looks
 abbrev pub look_words : List (List ℕ × LookWord)

@@ -1,11 +1,11 @@
-//! The words of calls and of their fields, each set a table.
+//! The words of calls and of their fields, each set a table: that of changing calls is the table of calls.
 
 ghost use Rattle.std.specs.Prelude.{◌≡◌, find, option_copied};
 ghost use Rattle.std.specs.Str.{bytes_eq};
 ghost use Rattle.cf_json.specs.Words as spec;
 ghost use Rattle.serde_json.specs.View.{view};
 ghost use Rattle.cf_members.specs.Kinds.{as_word, word_in};
-ghost use Rattle.cf_json.specs.Words.{change_words, look_words, asset_words, leave_words, move_words, period_words, basis_words, statement_words};
+ghost use Rattle.cf_json.specs.Words.{look_words, asset_words, leave_words, move_words, period_words, basis_words, statement_words};
 
 use cf_base::Kind;
 use cf_calls::acts::FundMoveKind;
@@ -50,31 +50,6 @@ pub enum PeriodWord {
     Month,
     Year,
 }
-
-const CHANGES: [(&str, ActKind); 22] = [
-    ("adopt", ActKind::Adopt),
-    ("amend", ActKind::Amend),
-    ("transfer", ActKind::Transfer),
-    ("requisition", ActKind::Requisition),
-    ("withdraw", ActKind::Withdraw),
-    ("order", ActKind::Order),
-    ("change_order", ActKind::ChangeOrder),
-    ("cancel_order", ActKind::CancelOrder),
-    ("voucher", ActKind::Voucher),
-    ("void_voucher", ActKind::VoidVoucher),
-    ("pay", ActKind::Pay),
-    ("bill", ActKind::Bill),
-    ("collect", ActKind::Collect),
-    ("receive", ActKind::Receive),
-    ("write_off", ActKind::WriteOff),
-    ("asset", ActKind::Asset),
-    ("issue", ActKind::Issue),
-    ("pay_due", ActKind::PayDue),
-    ("leave", ActKind::Leave),
-    ("interfund", ActKind::Interfund),
-    ("close", ActKind::Close),
-    ("lease", ActKind::Lease),
-];
 
 const LOOKS: [(&str, LookWord); 11] = [
     ("line", LookWord::Line),
@@ -156,9 +131,12 @@ fn read_word<W: Copy>(words: &[(&'static str, W)], value: &Value) -> Option<W>
 
 /// The changing call of a word.
 pub fn change_word(word: &Value) -> Option<ActKind>
-    ensures { result ≡ as_word change_words (view word.now) }
+    ensures { result ≡ spec.as_change (view word.now) }
 {
-    read_word(&CHANGES, word)
+    match word.as_str() {
+        Some(text) => ActKind::of_word(text),
+        None => None,
+    }
 }
 
 /// The look of a word.

@@ -11,6 +11,7 @@ use Rattle.cf_calls.specs.declared.refusal.DocumentState.{DocumentState}
 use Rattle.cf_calls.specs.declared.refusal.DocumentState.TheVariants as state
 use Rattle.cf_calls.specs.declared.refusal.AssetFault.{AssetFault}
 use Rattle.cf_calls.specs.declared.refusal.AssetFault.TheVariants as asset
+use Rattle.cf_calls.specs.Refusals.{name_of, number_of}
 use Rattle.cf_calls.specs.declared.refusal.Refusal.{Refusal}
 use Rattle.cf_calls.specs.declared.refusal.Refusal.TheVariants.{DeskUnknown, Ahead, KeyReused, NotThisDesk, HistoryFull, AmountRange, UnknownName, PeriodClosed, YearNotOpen, YearClosed, Adopted, NotAdopted, DocState, SameHand, NotOnOrder, OverOpen, OverReceivable, AssetState, NotDue, LeaveShort, MonthOrder, DebtDue, WindowOpen, Exceeds, CashShort}
 use Rattle.cf_members.specs.Objects.{fields, count, cents, signed_cents, day, month}
@@ -65,33 +66,40 @@ fault_word asset.Charged = codes "charged"
 fault_word asset.Leased = codes "leased"
 fault_word asset.Later = codes "later"
 
--- the field that names a refusal
-abbrev pub named : List ℕ → List ℕ × Data
-named text = (codes "name", string text)
+-- the fields of a refusal's number and name
+abbrev pub numbered : Refusal → List ℕ × Data
+numbered r = (codes "code", count (number_of r))
+
+abbrev pub named : Refusal → List ℕ × Data
+named r = (codes "name", string (name_of r))
+
+-- the fields of a refusal, in the order of their names, with these two among them
+abbrev pub fields_of : List ℕ × Data → List ℕ × Data → Refusal → List (List ℕ × Data)
+fields_of code name (DeskUnknown desk) = code ∷ (codes "desk", count desk) ∷ name ∷ []
+fields_of code name (Ahead after len) = (codes "after", count after) ∷ code ∷ (codes "length", count len) ∷ name ∷ []
+fields_of code name (KeyReused was) = code ∷ name ∷ (codes "was", count was) ∷ []
+fields_of code name (NotThisDesk r) = code ∷ name ∷ (codes "role", string (role_word r)) ∷ []
+fields_of code name (HistoryFull limit) = code ∷ (codes "limit", count limit) ∷ name ∷ []
+fields_of code name (AmountRange amount) = (codes "amount", cents amount) ∷ code ∷ name ∷ []
+fields_of code name (UnknownName kind id) = code ∷ (codes "id", count id) ∷ (codes "kind", string (name_word kind)) ∷ name ∷ []
+fields_of code name (PeriodClosed m) = code ∷ (codes "month", month m) ∷ name ∷ []
+fields_of code name (YearNotOpen year) = code ∷ name ∷ (codes "year", count year) ∷ []
+fields_of code name (YearClosed year) = code ∷ name ∷ (codes "year", count year) ∷ []
+fields_of code name (Adopted was) = code ∷ name ∷ (codes "was", count was) ∷ []
+fields_of code name (NotAdopted fund year) = code ∷ (codes "fund", count fund) ∷ name ∷ (codes "year", count year) ∷ []
+fields_of code name (DocState kind number state) = code ∷ (codes "kind", string (document_word kind)) ∷ name ∷ (codes "number", count number) ∷ (codes "state", string (state_word state)) ∷ []
+fields_of code name (SameHand desk) = code ∷ (codes "desk", count desk) ∷ name ∷ []
+fields_of code name (NotOnOrder order place) = code ∷ (codes "item", count place) ∷ name ∷ (codes "order", count order) ∷ []
+fields_of code name (OverOpen open_cents) = code ∷ name ∷ (codes "open", cents open_cents) ∷ []
+fields_of code name (OverReceivable left) = code ∷ (codes "left", cents left) ∷ name ∷ []
+fields_of code name (AssetState asset state) = (codes "asset", count asset) ∷ code ∷ name ∷ (codes "state", string (fault_word state)) ∷ []
+fields_of code name (NotDue next) = code ∷ name ∷ (codes "next", day next) ∷ []
+fields_of code name (LeaveShort left) = code ∷ (codes "left", cents left) ∷ name ∷ []
+fields_of code name (MonthOrder next) = code ∷ name ∷ (codes "next", month next) ∷ []
+fields_of code name (DebtDue bond d) = (codes "bond", count bond) ∷ code ∷ (codes "day", day d) ∷ name ∷ []
+fields_of code name (WindowOpen m) = code ∷ (codes "month", month m) ∷ name ∷ []
+fields_of code name (Exceeds line asked room) = (codes "asked", signed_cents asked) ∷ code ∷ (codes "line", count line) ∷ name ∷ (codes "room", signed_cents room) ∷ []
+fields_of code name (CashShort fund cash asked) = (codes "asked", signed_cents asked) ∷ (codes "cash", signed_cents cash) ∷ code ∷ (codes "fund", count fund) ∷ name ∷ []
 
 abbrev pub refusal_data : Refusal → Data
-refusal_data (DeskUnknown desk) = fields ((codes "code", count 1) ∷ (codes "desk", count desk) ∷ named (codes "DeskUnknown") ∷ [])
-refusal_data (Ahead after len) = fields ((codes "after", count after) ∷ (codes "code", count 2) ∷ (codes "length", count len) ∷ named (codes "Ahead") ∷ [])
-refusal_data (KeyReused was) = fields ((codes "code", count 3) ∷ named (codes "KeyReused") ∷ (codes "was", count was) ∷ [])
-refusal_data (NotThisDesk r) = fields ((codes "code", count 4) ∷ named (codes "NotThisDesk") ∷ (codes "role", string (role_word r)) ∷ [])
-refusal_data (HistoryFull limit) = fields ((codes "code", count 5) ∷ (codes "limit", count limit) ∷ named (codes "HistoryFull") ∷ [])
-refusal_data (AmountRange amount) = fields ((codes "amount", cents amount) ∷ (codes "code", count 6) ∷ named (codes "AmountRange") ∷ [])
-refusal_data (UnknownName kind id) = fields ((codes "code", count 7) ∷ (codes "id", count id) ∷ (codes "kind", string (name_word kind)) ∷ named (codes "UnknownName") ∷ [])
-refusal_data (PeriodClosed m) = fields ((codes "code", count 8) ∷ (codes "month", month m) ∷ named (codes "PeriodClosed") ∷ [])
-refusal_data (YearNotOpen year) = fields ((codes "code", count 9) ∷ named (codes "YearNotOpen") ∷ (codes "year", count year) ∷ [])
-refusal_data (YearClosed year) = fields ((codes "code", count 10) ∷ named (codes "YearClosed") ∷ (codes "year", count year) ∷ [])
-refusal_data (Adopted was) = fields ((codes "code", count 11) ∷ named (codes "Adopted") ∷ (codes "was", count was) ∷ [])
-refusal_data (NotAdopted fund year) = fields ((codes "code", count 12) ∷ (codes "fund", count fund) ∷ named (codes "NotAdopted") ∷ (codes "year", count year) ∷ [])
-refusal_data (DocState kind number state) = fields ((codes "code", count 13) ∷ (codes "kind", string (document_word kind)) ∷ named (codes "DocState") ∷ (codes "number", count number) ∷ (codes "state", string (state_word state)) ∷ [])
-refusal_data (SameHand desk) = fields ((codes "code", count 14) ∷ (codes "desk", count desk) ∷ named (codes "SameHand") ∷ [])
-refusal_data (NotOnOrder order place) = fields ((codes "code", count 15) ∷ (codes "item", count place) ∷ named (codes "NotOnOrder") ∷ (codes "order", count order) ∷ [])
-refusal_data (OverOpen open_cents) = fields ((codes "code", count 16) ∷ named (codes "OverOpen") ∷ (codes "open", cents open_cents) ∷ [])
-refusal_data (OverReceivable left) = fields ((codes "code", count 17) ∷ (codes "left", cents left) ∷ named (codes "OverReceivable") ∷ [])
-refusal_data (AssetState asset state) = fields ((codes "asset", count asset) ∷ (codes "code", count 18) ∷ named (codes "AssetState") ∷ (codes "state", string (fault_word state)) ∷ [])
-refusal_data (NotDue next) = fields ((codes "code", count 19) ∷ named (codes "NotDue") ∷ (codes "next", day next) ∷ [])
-refusal_data (LeaveShort left) = fields ((codes "code", count 20) ∷ (codes "left", cents left) ∷ named (codes "LeaveShort") ∷ [])
-refusal_data (MonthOrder next) = fields ((codes "code", count 21) ∷ named (codes "MonthOrder") ∷ (codes "next", month next) ∷ [])
-refusal_data (DebtDue bond d) = fields ((codes "bond", count bond) ∷ (codes "code", count 22) ∷ (codes "day", day d) ∷ named (codes "DebtDue") ∷ [])
-refusal_data (WindowOpen m) = fields ((codes "code", count 23) ∷ (codes "month", month m) ∷ named (codes "WindowOpen") ∷ [])
-refusal_data (Exceeds line asked room) = fields ((codes "asked", signed_cents asked) ∷ (codes "code", count 24) ∷ (codes "line", count line) ∷ named (codes "Exceeds") ∷ (codes "room", signed_cents room) ∷ [])
-refusal_data (CashShort fund cash asked) = fields ((codes "asked", signed_cents asked) ∷ (codes "cash", signed_cents cash) ∷ (codes "code", count 25) ∷ (codes "fund", count fund) ∷ named (codes "CashShort") ∷ [])
+refusal_data r = fields (fields_of (numbered r) (named r) r)

@@ -2,6 +2,7 @@
 
 ghost use Rattle.std.specs.Prelude.{◌≡◌, ◌+◌, ◌≤◌, [], ◌∷◌, ◌++◌, ◌&&◌, true, codes, length, IsOk, OnOk, vec_len, vec_capacity};
 ghost use Rattle.std.specs.List.{list_all};
+ghost use Rattle.cf_calls.specs.Refusals.{name_of};
 ghost use Rattle.cf_calls.specs.declared.refusal.Refusal.TheVariants as refused;
 ghost use Rattle.cf_members.specs.Objects.{fields, count, text_of};
 ghost use Rattle.cf_members.specs.Parts.{part_data, part_room, is_plain, is_plain_part};
@@ -35,6 +36,14 @@ fn role_word(role: Role) -> &'static str
         Role::Payroll => "payroll",
         Role::Controller => "controller",
     }
+}
+
+fn refusal_word(refusal: &Refusal) -> &'static str
+    ensures value { result.now ≡ name_of refusal.now }
+    ensures plain { list_all is_plain result.now ≡ true }
+    ensures short { length result.now ≤ 14 }
+{
+    refusal.name()
 }
 
 fn name_word(kind: NameKind) -> &'static str
@@ -107,44 +116,48 @@ fn fault_word(fault: AssetFault) -> &'static str
 /// Appends a refusal with one value, where its field stands between the number and the name.
 fn put_middle<'a>(
     out: &mut Vec<u8>,
-    code: u64,
+    refusal: &Refusal,
     field: &'a str,
     part: &Part<'a>,
-    name: &'a str,
 ) -> Result<(), AllocError>
     requires field { list_all is_plain field.now ≡ true }
     requires part { is_plain_part part.now ≡ true }
-    requires name { list_all is_plain name.now ≡ true }
-    ensures text { OnOk result (out.new.items ≡ out.old.items ++ text_of (fields ((codes "code", count code) ∷ (field.now, part_data part.now) ∷ spec.named name.now ∷ []))) }
-    ensures longer { vec_len out.new ≤ vec_len out.old + (length field.now + part_room part.now + length name.now + 64) }
-    ensures room { vec_len out.old + (length field.now + part_room part.now + length name.now + 64) ≤ vec_capacity out.old → IsOk result }
+    ensures text { OnOk result (out.new.items ≡ out.old.items ++ text_of (fields (spec.numbered refusal.now ∷ (field.now, part_data part.now) ∷ spec.named refusal.now ∷ []))) }
+    ensures longer { vec_len out.new ≤ vec_len out.old + (length field.now + part_room part.now + 78) }
+    ensures room { vec_len out.old + (length field.now + part_room part.now + 78) ≤ vec_capacity out.old → IsOk result }
     ensures capacity { vec_capacity out.old ≤ vec_capacity out.new }
 {
     put_object(
         out,
-        &[("code", Number(code)), (field, *part), ("name", Word(name))],
+        &[
+            ("code", Number(u64::from(refusal.number()))),
+            (field, *part),
+            ("name", Word(refusal_word(refusal))),
+        ],
     )
 }
 
 /// The same, where its field stands after the name.
 fn put_last<'a>(
     out: &mut Vec<u8>,
-    code: u64,
-    name: &'a str,
+    refusal: &Refusal,
     field: &'a str,
     part: &Part<'a>,
 ) -> Result<(), AllocError>
     requires field { list_all is_plain field.now ≡ true }
     requires part { is_plain_part part.now ≡ true }
-    requires name { list_all is_plain name.now ≡ true }
-    ensures text { OnOk result (out.new.items ≡ out.old.items ++ text_of (fields ((codes "code", count code) ∷ spec.named name.now ∷ (field.now, part_data part.now) ∷ []))) }
-    ensures longer { vec_len out.new ≤ vec_len out.old + (length field.now + part_room part.now + length name.now + 64) }
-    ensures room { vec_len out.old + (length field.now + part_room part.now + length name.now + 64) ≤ vec_capacity out.old → IsOk result }
+    ensures text { OnOk result (out.new.items ≡ out.old.items ++ text_of (fields (spec.numbered refusal.now ∷ spec.named refusal.now ∷ (field.now, part_data part.now) ∷ []))) }
+    ensures longer { vec_len out.new ≤ vec_len out.old + (length field.now + part_room part.now + 78) }
+    ensures room { vec_len out.old + (length field.now + part_room part.now + 78) ≤ vec_capacity out.old → IsOk result }
     ensures capacity { vec_capacity out.old ≤ vec_capacity out.new }
 {
     put_object(
         out,
-        &[("code", Number(code)), ("name", Word(name)), (field, *part)],
+        &[
+            ("code", Number(u64::from(refusal.number()))),
+            ("name", Word(refusal_word(refusal))),
+            (field, *part),
+        ],
     )
 }
 
@@ -154,13 +167,17 @@ fn put_ahead(out: &mut Vec<u8>, after: u64, seen: u64) -> Result<(), AllocError>
     ensures room { vec_len out.old + 256 ≤ vec_capacity out.old → IsOk result }
     ensures capacity { vec_capacity out.old ≤ vec_capacity out.new }
 {
+    let refusal = Ahead {
+        after,
+        length: seen,
+    };
     put_object(
         out,
         &[
             ("after", Number(after)),
-            ("code", Number(2)),
+            ("code", Number(u64::from(refusal.number()))),
             ("length", Number(seen)),
-            ("name", Word("Ahead")),
+            ("name", Word(refusal_word(&refusal))),
         ],
     )
 }
@@ -171,12 +188,13 @@ fn put_amount_range(out: &mut Vec<u8>, amount: u64) -> Result<(), AllocError>
     ensures room { vec_len out.old + 256 ≤ vec_capacity out.old → IsOk result }
     ensures capacity { vec_capacity out.old ≤ vec_capacity out.new }
 {
+    let refusal = AmountRange { amount };
     put_object(
         out,
         &[
             ("amount", Cents(amount)),
-            ("code", Number(6)),
-            ("name", Word("AmountRange")),
+            ("code", Number(u64::from(refusal.number()))),
+            ("name", Word(refusal_word(&refusal))),
         ],
     )
 }
@@ -187,13 +205,14 @@ fn put_unknown_name(out: &mut Vec<u8>, kind: NameKind, id: u32) -> Result<(), Al
     ensures room { vec_len out.old + 256 ≤ vec_capacity out.old → IsOk result }
     ensures capacity { vec_capacity out.old ≤ vec_capacity out.new }
 {
+    let refusal = UnknownName { kind, id };
     put_object(
         out,
         &[
-            ("code", Number(7)),
+            ("code", Number(u64::from(refusal.number()))),
             ("id", Number(id as u64)),
             ("kind", Word(name_word(kind))),
-            ("name", Word("UnknownName")),
+            ("name", Word(refusal_word(&refusal))),
         ],
     )
 }
@@ -204,12 +223,13 @@ fn put_not_adopted(out: &mut Vec<u8>, fund: u16, year: u16) -> Result<(), AllocE
     ensures room { vec_len out.old + 256 ≤ vec_capacity out.old → IsOk result }
     ensures capacity { vec_capacity out.old ≤ vec_capacity out.new }
 {
+    let refusal = NotAdopted { fund, year };
     put_object(
         out,
         &[
-            ("code", Number(12)),
+            ("code", Number(u64::from(refusal.number()))),
             ("fund", Number(fund as u64)),
-            ("name", Word("NotAdopted")),
+            ("name", Word(refusal_word(&refusal))),
             ("year", Number(year as u64)),
         ],
     )
@@ -226,12 +246,17 @@ fn put_document_state(
     ensures room { vec_len out.old + 256 ≤ vec_capacity out.old → IsOk result }
     ensures capacity { vec_capacity out.old ≤ vec_capacity out.new }
 {
+    let refusal = DocState {
+        kind,
+        number,
+        state,
+    };
     put_object(
         out,
         &[
-            ("code", Number(13)),
+            ("code", Number(u64::from(refusal.number()))),
             ("kind", Word(document_word(kind))),
-            ("name", Word("DocState")),
+            ("name", Word(refusal_word(&refusal))),
             ("number", Number(number as u64)),
             ("state", Word(state_word(state))),
         ],
@@ -244,12 +269,13 @@ fn put_not_on_order(out: &mut Vec<u8>, order: u32, item: u16) -> Result<(), Allo
     ensures room { vec_len out.old + 256 ≤ vec_capacity out.old → IsOk result }
     ensures capacity { vec_capacity out.old ≤ vec_capacity out.new }
 {
+    let refusal = NotOnOrder { order, item };
     put_object(
         out,
         &[
-            ("code", Number(15)),
+            ("code", Number(u64::from(refusal.number()))),
             ("item", Number(item as u64)),
-            ("name", Word("NotOnOrder")),
+            ("name", Word(refusal_word(&refusal))),
             ("order", Number(order as u64)),
         ],
     )
@@ -261,12 +287,13 @@ fn put_asset_state(out: &mut Vec<u8>, asset: u32, state: AssetFault) -> Result<(
     ensures room { vec_len out.old + 256 ≤ vec_capacity out.old → IsOk result }
     ensures capacity { vec_capacity out.old ≤ vec_capacity out.new }
 {
+    let refusal = AssetState { asset, state };
     put_object(
         out,
         &[
             ("asset", Number(asset as u64)),
-            ("code", Number(18)),
-            ("name", Word("AssetState")),
+            ("code", Number(u64::from(refusal.number()))),
+            ("name", Word(refusal_word(&refusal))),
             ("state", Word(fault_word(state))),
         ],
     )
@@ -278,13 +305,14 @@ fn put_debt_due(out: &mut Vec<u8>, bond: u32, day: Day) -> Result<(), AllocError
     ensures room { vec_len out.old + 256 ≤ vec_capacity out.old → IsOk result }
     ensures capacity { vec_capacity out.old ≤ vec_capacity out.new }
 {
+    let refusal = DebtDue { bond, day };
     put_object(
         out,
         &[
             ("bond", Number(bond as u64)),
-            ("code", Number(22)),
+            ("code", Number(u64::from(refusal.number()))),
             ("day", Date(day)),
-            ("name", Word("DebtDue")),
+            ("name", Word(refusal_word(&refusal))),
         ],
     )
 }
@@ -295,13 +323,14 @@ fn put_exceeds(out: &mut Vec<u8>, line: u16, asked: i128, room: i128) -> Result<
     ensures room { vec_len out.old + 256 ≤ vec_capacity out.old → IsOk result }
     ensures capacity { vec_capacity out.old ≤ vec_capacity out.new }
 {
+    let refusal = Exceeds { line, asked, room };
     put_object(
         out,
         &[
             ("asked", Signed(asked)),
-            ("code", Number(24)),
+            ("code", Number(u64::from(refusal.number()))),
             ("line", Number(line as u64)),
-            ("name", Word("Exceeds")),
+            ("name", Word(refusal_word(&refusal))),
             ("room", Signed(room)),
         ],
     )
@@ -313,14 +342,15 @@ fn put_cash_short(out: &mut Vec<u8>, fund: u16, cash: i128, asked: i128) -> Resu
     ensures room { vec_len out.old + 256 ≤ vec_capacity out.old → IsOk result }
     ensures capacity { vec_capacity out.old ≤ vec_capacity out.new }
 {
+    let refusal = CashShort { fund, cash, asked };
     put_object(
         out,
         &[
             ("asked", Signed(asked)),
             ("cash", Signed(cash)),
-            ("code", Number(25)),
+            ("code", Number(u64::from(refusal.number()))),
             ("fund", Number(fund as u64)),
-            ("name", Word("CashShort")),
+            ("name", Word(refusal_word(&refusal))),
         ],
     )
 }
@@ -333,33 +363,33 @@ pub fn put_refusal(out: &mut Vec<u8>, refusal: &Refusal) -> Result<(), AllocErro
     ensures capacity { vec_capacity out.old ≤ vec_capacity out.new }
 {
     match *refusal {
-        DeskUnknown { desk } => put_middle(out, 1, "desk", &Number(desk as u64), "DeskUnknown"),
+        DeskUnknown { desk } => put_middle(out, refusal, "desk", &Number(desk as u64)),
         Ahead { after, length } => put_ahead(out, after, length),
-        KeyReused { was } => put_last(out, 3, "KeyReused", "was", &Number(was)),
-        NotThisDesk { role } => put_last(out, 4, "NotThisDesk", "role", &Word(role_word(role))),
-        HistoryFull { limit } => put_middle(out, 5, "limit", &Number(limit), "HistoryFull"),
+        KeyReused { was } => put_last(out, refusal, "was", &Number(was)),
+        NotThisDesk { role } => put_last(out, refusal, "role", &Word(role_word(role))),
+        HistoryFull { limit } => put_middle(out, refusal, "limit", &Number(limit)),
         AmountRange { amount } => put_amount_range(out, amount),
         UnknownName { kind, id } => put_unknown_name(out, kind, id),
-        PeriodClosed { month } => put_middle(out, 8, "month", &YearMonth(month), "PeriodClosed"),
-        YearNotOpen { year } => put_last(out, 9, "YearNotOpen", "year", &Number(year as u64)),
-        YearClosed { year } => put_last(out, 10, "YearClosed", "year", &Number(year as u64)),
-        Adopted { was } => put_last(out, 11, "Adopted", "was", &Number(was)),
+        PeriodClosed { month } => put_middle(out, refusal, "month", &YearMonth(month)),
+        YearNotOpen { year } => put_last(out, refusal, "year", &Number(year as u64)),
+        YearClosed { year } => put_last(out, refusal, "year", &Number(year as u64)),
+        Adopted { was } => put_last(out, refusal, "was", &Number(was)),
         NotAdopted { fund, year } => put_not_adopted(out, fund, year),
         DocState {
             kind,
             number,
             state,
         } => put_document_state(out, kind, number, state),
-        SameHand { desk } => put_middle(out, 14, "desk", &Number(desk as u64), "SameHand"),
+        SameHand { desk } => put_middle(out, refusal, "desk", &Number(desk as u64)),
         NotOnOrder { order, item } => put_not_on_order(out, order, item),
-        OverOpen { open_cents } => put_last(out, 16, "OverOpen", "open", &Cents(open_cents)),
-        OverReceivable { left } => put_middle(out, 17, "left", &Cents(left), "OverReceivable"),
+        OverOpen { open_cents } => put_last(out, refusal, "open", &Cents(open_cents)),
+        OverReceivable { left } => put_middle(out, refusal, "left", &Cents(left)),
         AssetState { asset, state } => put_asset_state(out, asset, state),
-        NotDue { next } => put_last(out, 19, "NotDue", "next", &Date(next)),
-        LeaveShort { left } => put_middle(out, 20, "left", &Cents(left), "LeaveShort"),
-        MonthOrder { next } => put_last(out, 21, "MonthOrder", "next", &YearMonth(next)),
+        NotDue { next } => put_last(out, refusal, "next", &Date(next)),
+        LeaveShort { left } => put_middle(out, refusal, "left", &Cents(left)),
+        MonthOrder { next } => put_last(out, refusal, "next", &YearMonth(next)),
         DebtDue { bond, day } => put_debt_due(out, bond, day),
-        WindowOpen { month } => put_middle(out, 23, "month", &YearMonth(month), "WindowOpen"),
+        WindowOpen { month } => put_middle(out, refusal, "month", &YearMonth(month)),
         Exceeds { line, asked, room } => put_exceeds(out, line, asked, room),
         CashShort { fund, cash, asked } => put_cash_short(out, fund, cash, asked),
     }

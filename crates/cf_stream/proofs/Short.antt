@@ -12,11 +12,14 @@ use Rattle.cf_calls.specs.declared.items.Charge.TheVariants.{Direct, OnOrder}
 use Rattle.cf_calls.specs.declared.items.Liquidation.TheVariants.{Lesser, Recorded, Final}
 use Rattle.cf_calls.specs.declared.entry.Drawn.{Drawn}
 use Rattle.cf_calls.specs.declared.entry.Entry.{Entry}
+use Rattle.cf_calls.specs.declared.kind.Draws.{Draws}
+use Rattle.cf_calls.specs.declared.kind.Draws.TheVariants.{Nothing}
 use Rattle.cf_calls.specs.Form.{is_key, IsActInForm, IsEntryInForm}
+use Rattle.cf_calls.specs.Kinds.{draws_of}
 use Rattle.cf_fields.specs.Formats.{Format, each_size}
 use Rattle.cf_fields.specs.Fields.{word, most_amount}
 use Rattle.cf_codec.specs.Acts.{line_amount, source_amount, account_item, charge, voucher_item, optional, act_size}
-use Rattle.cf_codec.specs.Entries.{drawn_for, entry, payload}
+use Rattle.cf_codec.specs.Entries.{drawn_as, drawn_for, entry, payload}
 use Rattle.cf_codec.proofs.Sizes.{entry_sized}
 use Rattle.cf_journal.specs.Records.{HasRecord}
 use Rattle.cf_stream.specs.Streams.{HasFrame}
@@ -66,16 +69,8 @@ act_most on (Close (period.Month m)) form = omega arith
 act_most on (Close (period.Year y)) form = omega arith
 act_most on (Lease l) form = omega (arith, form.schedule.principals.to, each_most most_amount 8 (λ p. omega arith) l.principals)
 
-drawn_most : (a : Act) (d : Drawn) → (drawn_for a).size d ≤ 8
-drawn_most (Requisition r) d = omega arith
-drawn_most (Order o) d = omega arith
-drawn_most (Voucher v) d = omega arith
-drawn_most (Bill b) d = omega arith
-drawn_most (Asset (Donate x)) d = omega arith
-drawn_most (Asset (Dispose x)) d = omega arith
-drawn_most (Issue i) d = omega arith
-drawn_most (PayDue p) d = omega arith
-drawn_most (Lease l) d = omega arith
+drawn_most : (k : Draws) (d : Drawn) → (drawn_as k).size d ≤ 8
+drawn_most Nothing d = omega arith
 drawn_most _ d = omega arith
 
 key_most : (k : List ℕ) → is_key k ≡ true → length k ≤ 40
@@ -85,7 +80,7 @@ key_most k is = grind (arith, nat_tests)
 pub payload_most : (e : Entry) → IsEntryInForm e → length (payload e) ≤ 43584
 payload_most e form =
     let size : entry.size e ≡ 1 + (2 + (1 + length e.change.key + (4 + (act_size e.change.on e.change.act + ((drawn_for e.change.act).size e.drawn + 0))))) = refl in
-    omega (arith, entry_sized e, size, key_most e.change.key form.change.key, act_most e.change.on e.change.act form.change.act, drawn_most e.change.act e.drawn)
+    omega (arith, entry_sized e, size, key_most e.change.key form.change.key, act_most e.change.on e.change.act form.change.act, drawn_most (draws_of e.change.act) e.drawn)
 
 -- so an entry that a journal holds is one that a stream can hold
 pub framed : (e : Entry) → HasRecord e → HasFrame e

@@ -1,9 +1,9 @@
 use Rattle.std.proofs.Common.{[], ◌-◌, ◌≤◌, length, sym, arith}
 use Rattle.std.proofs.Math.ListN.{get_or-eq_default}
-use Rattle.cf_books.specs.Notices.{refusal_names}
-use Rattle.cf_books.proofs.notices.refusal_name.Goals as goal
+use Rattle.cf_calls.specs.Refusals.{refusal_names}
+use Rattle.cf_calls.proofs.refusal.refusal_name.Goals as goal
 
-pub returns-in_default : goal.returns-in_default
-returns-in_default c =
+pub returns-in_default-clause-value : goal.returns-in_default-clause-value
+returns-in_default-clause-value c =
     let far : length refusal_names ≤ c.args.number - 1 = omega arith in
     sym (get_or-eq_default refusal_names [] {n = c.args.number - 1} far)
