@@ -1,7 +1,8 @@
 #!/bin/sh
-# Tries the lists of `books` on the journals of the examples, beside the looks of a desk: balances of a basis and fund sum to
-# zero, each is the look `account` and the sum of the account's posts, and what is open is what the looks at each number say.
-# Then two lists of Rivertown's first day, worked by hand. BOOKS names another program than the one that rt built last.
+# Tries the lists of `books` on the journals of the examples (lists.py): posts and balances beside the looks of a desk and beside what
+# the independent office makes of the same talk, row by row; what is open beside the looks at each number; and each statement beside the
+# records of `report`, with the names of funds and control lines. Then that a row which is changed, lost or moved is seen; and two lists
+# of Rivertown's first day, worked by hand. BOOKS names another program than the one that rt built last.
 cd "$(dirname "$0")/.." || exit 1
 top=$(pwd)
 . tests/program.sh
@@ -10,27 +11,74 @@ if [ ! -x "$books" ]; then
     echo "there is no program books: run ./build" >&2
     exit 1
 fi
+PYTHONDONTWRITEBYTECODE=1
+export PYTHONDONTWRITEBYTECODE
+[ -w /dev/shm ] && TMPDIR=/dev/shm && export TMPDIR # where syncs cost nothing
 scratch=$(mktemp -d) || exit 1
 trap 'rm -rf "$scratch"' EXIT
 . tests/expect.sh
 tried=$books folder=$scratch
 
-for talk in examples/*.jsonl examples/*/*.jsonl; do
-    case $talk in
-    examples/*/*) chart=$(dirname "$talk")/chart.toml ;;
+# founded TALK: the journal of a talk of examples/, and `chart` names its chart.
+founded() {
+    case $1 in
+    examples/*/*) chart=$(dirname "$1")/chart.toml ;;
     *) chart=examples/rivertown/chart.toml ;;
     esac
-    [ -e "$chart" ] || continue
+    [ -e "$chart" ] || return 1
     rm -f "$scratch/fund.journal"
     cp "$chart" "$scratch/chart.toml"
-    (cd "$scratch" && "$program" found > /dev/null 2>&1 && "$program" desk < "$top/$talk" > /dev/null)
-    python3 tests/lists.py "$program" "$books" "$scratch"
+    (cd "$scratch" && "$program" found > /dev/null 2>&1 && "$program" desk < "$top/$1" > /dev/null)
+}
+
+for talk in examples/*.jsonl examples/*/*.jsonl; do
+    founded "$talk" || continue
+    python3 tests/lists.py "$program" "$books" "$scratch" "$chart" "$talk"
     verdict "the lists of $talk" $?
 done
 
-rm -f "$scratch/fund.journal"
-cp examples/rivertown/chart.toml "$scratch/chart.toml"
-(cd "$scratch" && "$program" found > /dev/null 2>&1 && "$program" desk < "$top/examples/first-day.jsonl" > /dev/null)
+# ---- a row that is changed, lost or moved
+
+# changed SCRIPT WORDS..: where the list of these words goes through sed with this script, it is named as other than what it is to be.
+changed() {
+    script=$1
+    shift
+    cat > "$scratch/changed" << PROGRAM
+#!/bin/sh
+case "\$*" in
+"$*") "$books" "\$@" | sed '$script' ;;
+*) exec "$books" "\$@" ;;
+esac
+PROGRAM
+    chmod +x "$scratch/changed"
+    (cd "$scratch" && "$books" "$@" > was && sed "$script" was > is && ! cmp -s was is)
+    verdict "$script changes $*" $?
+    said=$(python3 tests/lists.py "$program" "$scratch/changed" "$scratch" "$chart" "$talk" 2>&1)
+    status=$?
+    [ "$status" -eq 1 ] && [ "${said#"$talk: "}" != "$said" ]
+    verdict "$* with $script: status $status: $said" $?
+}
+
+talk=examples/a-year.jsonl
+founded "$talk"
+changed '5s/\.00$/.01/' posts --csv
+changed '3d' posts --csv
+changed '3s/\.00$/.01/' balances 2026 --csv
+changed '4d' balances 2026 --csv
+changed '2{h;d};3G' balances 2026 --csv
+changed '3s/Receivables/Cash/' balances 2026 --csv
+changed '2d' open --csv
+changed '3s/^General Fund/Street Fund/' statement 2026 balance --csv
+changed '4s/Administration/Streets/' statement 2026 budget --csv
+changed '4s/object 510/object 520/' statement 2026 budget --csv
+changed '5s/0\.00/0.01/' statement 2026 budget --csv
+changed '6d' statement 2026 operating --csv
+changed '3{h;d};4G' statement 2026 activities --csv
+changed '2s/\t/ /' statement 2026 reconcile
+
+# ---- two lists of Rivertown's first day
+
+founded examples/first-day.jsonl
 expect "what moved cash in the first day" 0 "4	2025-07-06	5	r1	receive		fund	2026	1	General Fund	100000	Cash	1000.00
 4	2025-07-06	5	r1	receive		gov	2026	0		100000	Cash	1000.00
 5	2025-07-06	5	p1	pay		fund	2026	1	General Fund	100000	Cash	-600.00

@@ -7,7 +7,6 @@ use Rattle.cf_debt.specs.RegisterView.{AreLeave, AreLeft}
 use Rattle.cf_debt.specs.Rows.{view_leave}
 use Rattle.cf_rows.specs.Pairs.{Pairs, PutsAmount, amount_at}
 use Rattle.cf_rows.specs.Years.{sum_through}
-use Rattle.cf_debt.proofs.RunningSums.{Rise, rise_through}
 use Rattle.cf_model.specs.Leave.{LeaveChange, leave_left, leave_through}
 use Rattle.cf_model.specs.Sums.{through}
 use Rattle.cf_model.proofs.Totals.{sum_append}
@@ -47,11 +46,15 @@ left_kept leave x old new amount was puts is fund dept =
         more (pos amount) (leave_left fund dept leave) x.by (is ∙ (λ i. pos (amount_at old (same.0 i) (same.1 i)) +ℤ x.by) ∙ ap (λ z. z +ℤ x.by) (was fund dept))
     by_test false e = none (pos (amount_at old fund dept)) (leave_left fund dept leave) (was fund dept)
 
+-- years' sums rise by an amount from a year on
+abbrev RisesFrom : List ℕ → List ℕ → ℕ → ℕ → Type 0
+RisesFrom old new year amount = (z : ℕ) → sum_through z new ≡ sum_through z old + (if nat_le year z then amount else 0)
+
 -- the sums by fiscal year
-pub years_earned : (leave : List LeaveChange) (x : LeaveChange) (amount : ℕ) (old new taken : List ℕ) → 1970 ≤ x.year → x.by ≡ pos amount → AreLeave leave old taken → Rise old new (x.year - 1970) amount →
+pub years_earned : (leave : List LeaveChange) (x : LeaveChange) (amount : ℕ) (old new taken : List ℕ) → x.by ≡ pos amount → AreLeave leave old taken → RisesFrom old new x.year amount →
     AreLeave (leave ++ x ∷ []) new taken
-years_earned leave x amount old new taken from is was rise year =
-    ap (λ n. pos n -ℤ pos (sum_through year taken)) (rise_through old new x.year amount year from rise)
+years_earned leave x amount old new taken is was rise year =
+    ap (λ n. pos n -ℤ pos (sum_through year taken)) (rise year)
     ∙ by_test (nat_le x.year year) _ _ (leave_through year leave) x.by (was year) is
     ∙ sym (through_push year leave x)
   where
@@ -59,10 +62,10 @@ years_earned leave x amount old new taken from is was rise year =
     by_test true e t l by h k = omega (arith, ints, h, k)
     by_test false e t l by h k = omega (arith, ints, h)
 
-pub years_taken : (leave : List LeaveChange) (x : LeaveChange) (amount : ℕ) (earned old new : List ℕ) → 1970 ≤ x.year → x.by ≡ pos 0 -ℤ pos amount → AreLeave leave earned old → Rise old new (x.year - 1970) amount →
+pub years_taken : (leave : List LeaveChange) (x : LeaveChange) (amount : ℕ) (earned old new : List ℕ) → x.by ≡ pos 0 -ℤ pos amount → AreLeave leave earned old → RisesFrom old new x.year amount →
     AreLeave (leave ++ x ∷ []) earned new
-years_taken leave x amount earned old new from is was rise year =
-    ap (λ n. pos (sum_through year earned) -ℤ pos n) (rise_through old new x.year amount year from rise)
+years_taken leave x amount earned old new is was rise year =
+    ap (λ n. pos (sum_through year earned) -ℤ pos n) (rise year)
     ∙ by_test (nat_le x.year year) _ _ (leave_through year leave) x.by (was year) is
     ∙ sym (through_push year leave x)
   where

@@ -28,7 +28,7 @@ use crate::schedule::add_schedule;
 use cf_base::{Day, Month};
 use cf_calls::acts::{BondIssue, DebtPayment, NewLease};
 use cf_chart::Chart;
-use cf_rows::{add_at, amount_at, number_of_day, number_of_month, put_in, year_of_day};
+use cf_rows::{add_at, amount_at, number_of_day, number_of_month, put_in, raise, year_of_day};
 
 impl Debt {
     /// Counts an act that is none of the register's own.
@@ -173,7 +173,7 @@ impl Debt {
         let key = leave_key(row.fund, row.dept);
         let left = amount_at(&self.left, key) + row.amount;
         put_in(&mut self.left, key, left);
-        add_at(&mut self.earned, row.year - 1970, u128::from(row.amount));
+        raise(&mut self.earned, row.year, row.amount);
         self.leave.push_reserved(row);
         self.acts += 1;
     }
@@ -193,7 +193,7 @@ impl Debt {
         let key = leave_key(row.fund, row.dept);
         let left = amount_at(&self.left, key) - row.amount;
         put_in(&mut self.left, key, left);
-        add_at(&mut self.taken, row.year - 1970, u128::from(row.amount));
+        raise(&mut self.taken, row.year, row.amount);
         self.leave.push_reserved(row);
         self.acts += 1;
     }

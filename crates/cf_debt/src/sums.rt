@@ -7,7 +7,7 @@ ghost use Rattle.cf_model.specs.Items as items;
 
 use crate::debt::Debt;
 use cf_chart::Chart;
-use cf_rows::{difference, total_of, years_to};
+use cf_rows::{difference, total_of, total_through, years_to};
 
 /// What bonds add to the change of a fiscal year, in cents.
 #[derive(Clone, Copy)]
@@ -28,8 +28,8 @@ impl Debt {
         ensures value { result ≡ items.bonds chart.now year (registers_with self.now.debts) }
         ensures small { unsigned_abs result < 2 ^ 100 }
     {
-        let issued = total_of(&self.issued, year.saturating_sub(1969));
-        let leased = total_of(&self.leased, year.saturating_sub(1969));
+        let issued = total_through(&self.issued, year);
+        let leased = total_through(&self.leased, year);
         let repaid = total_of(&self.repaid, years_to(chart, year));
         let leases_repaid = total_of(&self.leases_repaid, years_to(chart, year));
         difference(issued + leases_repaid, repaid + leased)
@@ -41,7 +41,7 @@ impl Debt {
         ensures value { result ≡ items.leases chart.now year (registers_with self.now.debts) }
         ensures small { unsigned_abs result < 2 ^ 100 }
     {
-        let leased = total_of(&self.leased, year.saturating_sub(1969));
+        let leased = total_through(&self.leased, year);
         let leases_repaid = total_of(&self.leases_repaid, years_to(chart, year));
         difference(leased, leases_repaid)
     }
@@ -63,8 +63,8 @@ impl Debt {
         ensures value { result ≡ items.absences year (registers_with self.now.debts) }
         ensures small { unsigned_abs result < 2 ^ 100 }
     {
-        let earned = total_of(&self.earned, year.saturating_sub(1969));
-        let taken = total_of(&self.taken, year.saturating_sub(1969));
+        let earned = total_through(&self.earned, year);
+        let taken = total_through(&self.taken, year);
         difference(earned, taken)
     }
 
@@ -74,10 +74,10 @@ impl Debt {
         requires to { year ≤ last_fiscal_year }
         ensures { result ≡ debt_changes chart.now year (registers_with self.now.debts) }
     {
-        let issued = total_of(&self.issued, year - 1969);
-        let issued_before = total_of(&self.issued, year - 1970);
-        let leased = total_of(&self.leased, year - 1969);
-        let leased_before = total_of(&self.leased, year - 1970);
+        let issued = total_through(&self.issued, year);
+        let issued_before = total_through(&self.issued, year - 1);
+        let leased = total_through(&self.leased, year);
+        let leased_before = total_through(&self.leased, year - 1);
         let repaid = total_of(&self.repaid, years_to(chart, year));
         let repaid_before = total_of(&self.repaid, years_to(chart, year).saturating_sub(1));
         DebtChanges {

@@ -8,6 +8,7 @@
 //! | `lines FILE` | the lines of a file for the next desk |
 //! | `chart FILE`, `swap OLD => NEW` | the chart for the next `found`, and a change of it |
 //! | `check OLD => NEW` | prints the exit code and the notice of `books check-chart` for that chart with a change, in which `;` is the end of a line |
+//! | `books WORD ..` | prints what the program `books` prints of the journal with these words, its exit code and its notice |
 //! | `fail N`, `stop N` | the next run's disk fails at its call N, or stops there |
 //! | `limit N` | the next run's output takes N bytes |
 //! | `feed`, `feed N` | the next run reads the stream that was shipped last, or N bytes of it |
@@ -25,6 +26,7 @@
 //! | `tears` | prints what a desk with the lines says over each image that a crash at the end of the last run may leave: first of a desk that runs on, and then of one whose disk stops at one of its first five calls |
 #![tactic(auto)]
 
+mod books;
 mod checks;
 mod cuts;
 mod doors;

@@ -1,5 +1,6 @@
 //! What each line of the script does.
 
+use crate::books::show_books;
 use crate::checks::show_check;
 use crate::cuts::show_cuts;
 use crate::doors::show_doors;
@@ -82,6 +83,7 @@ fn play_shown<R: Files + Print + AllocGlobal + Threads + Wait + Sync>(
             Ok(())
         }
         Word::Check { old, new } => { show_check(rt, stage.alloc, stage.chart.as_str(), old, new) }
+        Word::Books(words) => show_books(rt, stage, words),
         Word::Run(words) => show_run(rt, stage, words),
         Word::Meet => show_meeting(rt, stage),
         Word::Calls => show_calls(rt, stage),

@@ -58,7 +58,7 @@ fn source(alloc: Global, text: &str) -> Result<MemSource, AllocError> {
 }
 
 /// The words of a text, with a blank between two of them; none of an empty text.
-fn words_of(alloc: Global, text: &str) -> Result<Vec<String>, AllocError> {
+pub fn words_of(alloc: Global, text: &str) -> Result<Vec<String>, AllocError> {
     let mut words = Vec::new(alloc);
     if text.is_empty() {
         return Ok(words);

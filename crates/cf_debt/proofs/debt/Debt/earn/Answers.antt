@@ -1,11 +1,10 @@
-use Rattle.std.proofs.Common.{◌<◌, ◌+◌, ◌-◌, ◌*◌, map, ap, arith, sym, subst, ◌≡◌, ◌∙◌}
+use Rattle.std.proofs.Common.{◌<◌, ◌+◌, ◌*◌, map, ap, arith, sym, subst, ◌≡◌, ◌∙◌}
 use Rattle.cf_debt.specs.Rows.{view_leave}
 use Rattle.cf_rows.specs.declared.pairs.NumberPair.{NumberPair}
 use Rattle.cf_rows.specs.Pairs.{PutsValue, amount_at}
 use Rattle.cf_rows.proofs.PairFacts.{puts_amount}
 use Rattle.cf_debt.proofs.Leaving.{earned_left, earned_row, left_kept, put_small, years_earned}
 use Rattle.cf_debt.proofs.Lists.{map-push}
-use Rattle.cf_debt.proofs.RunningSums.{Rise}
 use Rattle.cf_debt.proofs.debt.Debt.earn.Goals as goal
 use Rattle.cf_base.specs.Limits.{most_entries}
 use Rattle.cf_rows.specs.Limits.{most_cents}
@@ -31,7 +30,7 @@ invariant_of-self c =
         leases_repaid = omega (arith, was.small.leases_repaid);
         coupons = omega (arith, was.small.coupons);
         charged = omega (arith, was.small.charged);
-        earned = omega (arith, was.small.earned, c.add_at.ensures.total, c.from.ensures, c.requires.amount);
+        earned = omega (arith, was.small.earned, c.raise.ensures.total, c.requires.amount);
         taken = omega (arith, was.small.taken);
         left = put_small c.self.inside.left.entries c.put_in.new.map.entries row.fund row.dept (c.amount_at.result + row.amount) (most_cents * (c.self.inside.acts + 1)) puts (omega (arith, was.small.left row.fund row.dept, at, c.requires.amount))
             (λ d e. omega (arith, was.small.left d e));
@@ -40,6 +39,6 @@ invariant_of-self c =
       sums = was.sums;
       leave = rw (c.push_reserved.ensures.items, map-push view_leave c.self.inside.leave.items row) (record {
         left = left_kept (map view_leave c.self.inside.leave.items) (view_leave row) c.self.inside.left.entries c.put_in.new.map.entries (c.amount_at.result + row.amount) was.leave.left puts (earned_left (amount_at c.self.inside.left.entries row.fund row.dept) row.amount (c.amount_at.result + row.amount) (view_leave row).by (ap (λ n. n + row.amount) at) by);
-        years = years_earned (map view_leave c.self.inside.leave.items) (view_leave row) row.amount c.self.inside.earned c.add_at.new.cells c.self.inside.taken c.requires.from by was.leave.years (subst (Rise c.self.inside.earned c.add_at.new.cells (row.year - 1970)) c.from.ensures c.add_at.ensures.years);
+        years = years_earned (map view_leave c.self.inside.leave.items) (view_leave row) row.amount c.self.inside.earned c.raise.new.cells c.self.inside.taken by was.leave.years c.raise.ensures.through;
       });
     }

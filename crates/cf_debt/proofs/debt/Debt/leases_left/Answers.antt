@@ -12,10 +12,9 @@ use Rattle.cf_debt.proofs.debt.Debt.leases_left.Goals as goal
 pub returns-clause-value : goal.returns-clause-value
 returns-clause-value c =
     let f : SFits w128 c.difference.result = search rules in
-    let leased = c.total_of-leased.ensures ∙ ap (λ n. sum_of n c.self.inside.leased) c.saturating_sub.ensures in
     let leases_repaid = c.total_of-leases_repaid.ensures ∙ ap (λ n. sum_of n c.self.inside.leases_repaid) c.years_to.ensures in
     to_z-of_z w128 c.difference.result f
     ∙ c.difference.ensures.value
-    ∙ (λ i. pos (leased i) -ℤ pos (leases_repaid i))
+    ∙ (λ i. pos (c.total_through-leased.ensures i) -ℤ pos (leases_repaid i))
     ∙ leases_is c.args.chart.now c.args.year (view_bonds (view_payments c.self.inside.payments.items) c.self.inside.bonds.items) _ _ c.self.invariant.sums.leases c.self.invariant.sums.lease_principals
     ∙ ap (λ (r : Register). items.leases c.args.chart.now c.args.year (registers_with r.debts)) c.self.view_is

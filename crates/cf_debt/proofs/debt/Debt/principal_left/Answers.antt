@@ -12,12 +12,10 @@ use Rattle.cf_debt.proofs.debt.Debt.principal_left.Goals as goal
 pub returns-clause-value : goal.returns-clause-value
 returns-clause-value c =
     let f : SFits w128 c.difference.result = search rules in
-    let issued = c.total_of-issued.ensures ∙ ap (λ n. sum_of n c.self.inside.issued) c.saturating_sub.ensures in
-    let leased = c.total_of-leased.ensures ∙ ap (λ n. sum_of n c.self.inside.leased) c.saturating_sub-2.ensures in
     let repaid = c.total_of-repaid.ensures ∙ ap (λ n. sum_of n c.self.inside.repaid) c.years_to.ensures in
     let leases_repaid = c.total_of-leases_repaid.ensures ∙ ap (λ n. sum_of n c.self.inside.leases_repaid) c.years_to-2.ensures in
     to_z-of_z w128 c.difference.result f
     ∙ c.difference.ensures.value
-    ∙ (λ i. pos (issued i + leases_repaid i) -ℤ pos (repaid i + leased i))
+    ∙ (λ i. pos (c.total_through-issued.ensures i + leases_repaid i) -ℤ pos (repaid i + c.total_through-leased.ensures i))
     ∙ bonds_is c.args.chart.now c.args.year (view_bonds (view_payments c.self.inside.payments.items) c.self.inside.bonds.items) _ _ _ _ c.self.invariant.sums.issues c.self.invariant.sums.leases c.self.invariant.sums.principals c.self.invariant.sums.lease_principals
     ∙ ap (λ (r : Register). items.bonds c.args.chart.now c.args.year (registers_with r.debts)) c.self.view_is

@@ -7,7 +7,6 @@ use Rattle.cf_rows.specs.Pairs.{PutsValue, amount_at}
 use Rattle.cf_rows.proofs.PairFacts.{puts_amount}
 use Rattle.cf_debt.proofs.Leaving.{left_kept, left_is, put_small, taken_left, taken_row, years_taken}
 use Rattle.cf_debt.proofs.Lists.{map-push}
-use Rattle.cf_debt.proofs.RunningSums.{Rise}
 use Rattle.cf_debt.proofs.debt.Debt.take.Goals as goal
 use Rattle.cf_base.specs.Limits.{most_entries}
 use Rattle.cf_rows.specs.Limits.{most_cents}
@@ -36,7 +35,7 @@ invariant_of-self c =
         coupons = omega (arith, was.small.coupons);
         charged = omega (arith, was.small.charged);
         earned = omega (arith, was.small.earned);
-        taken = omega (arith, was.small.taken, c.add_at.ensures.total, c.from.ensures, c.requires.amount);
+        taken = omega (arith, was.small.taken, c.raise.ensures.total, c.requires.amount);
         left = put_small c.self.inside.left.entries c.put_in.new.map.entries row.fund row.dept (c.amount_at.result - row.amount) (most_cents * (c.self.inside.acts + 1)) puts (omega (arith, was.small.left row.fund row.dept, at))
             (λ d e. omega (arith, was.small.left d e));
       };
@@ -44,6 +43,6 @@ invariant_of-self c =
       sums = was.sums;
       leave = rw (c.push_reserved.ensures.items, map-push view_leave c.self.inside.leave.items row) (record {
         left = left_kept (map view_leave c.self.inside.leave.items) (view_leave row) c.self.inside.left.entries c.put_in.new.map.entries (c.amount_at.result - row.amount) was.leave.left puts (taken_left (amount_at c.self.inside.left.entries row.fund row.dept) row.amount (c.amount_at.result - row.amount) (view_leave row).by (ap (λ n. n - row.amount) at) enough by);
-        years = years_taken (map view_leave c.self.inside.leave.items) (view_leave row) row.amount c.self.inside.earned c.self.inside.taken c.add_at.new.cells c.requires.from by was.leave.years (subst (Rise c.self.inside.taken c.add_at.new.cells (row.year - 1970)) c.from.ensures c.add_at.ensures.years);
+        years = years_taken (map view_leave c.self.inside.leave.items) (view_leave row) row.amount c.self.inside.earned c.self.inside.taken c.raise.new.cells by was.leave.years c.raise.ensures.through;
       });
     }

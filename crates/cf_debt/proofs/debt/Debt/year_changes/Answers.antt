@@ -1,4 +1,4 @@
-use Rattle.std.proofs.Common.{◌≡◌, ◌+◌, ◌-◌, ◌∙◌, ◌-ℤ◌, pos, arith, rules, ap}
+use Rattle.std.proofs.Common.{◌+◌, ◌-◌, ◌∙◌, ◌-ℤ◌, pos, arith, rules, ap}
 use Rattle.std.proofs.lemmas.Int.{to_z-of_z}
 use mir.Val.{SFits}
 use mir.Syntax.{w128}
@@ -14,14 +14,11 @@ returns c =
     let g : SFits w128 c.difference-2.result = search rules in
     let h : SFits w128 c.difference-3.result = search rules in
     let bonds = view_bonds (view_payments c.self.inside.payments.items) c.self.inside.bonds.items in
-    let before : c.args.year - 1970 ≡ (c.args.year - 1) - 1969 = omega arith in
-    let issued_before = c.total_of-issued_before.ensures ∙ ap (λ n. sum_of n c.self.inside.issued) before in
-    let leased_before = c.total_of-leased_before.ensures ∙ ap (λ n. sum_of n c.self.inside.leased) before in
     let repaid = c.total_of-repaid.ensures ∙ ap (λ n. sum_of n c.self.inside.repaid) c.years_to.ensures in
     let repaid_before = c.total_of-repaid_before.ensures ∙ ap (λ n. sum_of n c.self.inside.repaid) (c.saturating_sub.ensures ∙ ap (λ n. n - 1) c.years_to-2.ensures) in
-    let proceeds = to_z-of_z w128 c.difference.result f ∙ c.difference.ensures.value ∙ (λ i. pos (issued_before i + c.total_of-leased.ensures i) -ℤ pos (c.total_of-issued.ensures i + leased_before i))
+    let proceeds = to_z-of_z w128 c.difference.result f ∙ c.difference.ensures.value ∙ (λ i. pos (c.total_through-issued_before.ensures i + c.total_through-leased.ensures i) -ℤ pos (c.total_through-issued.ensures i + c.total_through-leased_before.ensures i))
     ∙ proceeds_is c.args.year bonds c.self.inside.issued c.self.inside.leased (omega (arith, c.requires.from)) c.self.invariant.sums.issues c.self.invariant.sums.leases in
-    let leases = to_z-of_z w128 c.difference-2.result g ∙ c.difference-2.ensures.value ∙ (λ i. pos (leased_before i) -ℤ pos (c.total_of-leased.ensures i))
+    let leases = to_z-of_z w128 c.difference-2.result g ∙ c.difference-2.ensures.value ∙ (λ i. pos (c.total_through-leased_before.ensures i) -ℤ pos (c.total_through-leased.ensures i))
     ∙ leases_issued_is c.args.year bonds c.self.inside.leased (omega (arith, c.requires.from)) c.self.invariant.sums.leases in
     let paid = to_z-of_z w128 c.difference-3.result h ∙ c.difference-3.ensures.value ∙ (λ i. pos (repaid i) -ℤ pos (repaid_before i))
     ∙ principal_is c.args.chart.now c.args.year bonds c.self.inside.repaid c.self.invariant.sums.principals in
