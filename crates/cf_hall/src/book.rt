@@ -167,6 +167,8 @@ impl<N: City, D: Disk + Drop> HallBook<N, D> {
                 answer
             }
             Settled::Added(reply, owed) => {
+                // A fault alone is noted with the call.
+                drop(said);
                 add_last(
                     &self.archive,
                     turns,

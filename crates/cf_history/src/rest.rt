@@ -34,8 +34,8 @@ use cf_calls::{Act, Basis, Change, Entry, Made, same_call};
 use cf_chart::Chart;
 use cf_ledger::Post;
 use cf_recon::Changes;
-use cf_registers::{Accounts, Registers, made_of, month_number, start_month, whole};
-use cf_rows::{NumberPair, put_in, reserve_in, value_in};
+use cf_registers::{Accounts, Registers, made_of, whole};
+use cf_rows::{NumberPair, is_month_closed, put_in, reserve_in, value_in};
 use std::alloc::{AllocError, Global};
 use std::collections::BTreeMap;
 use std::marker::Model;
@@ -238,8 +238,7 @@ impl Rest {
         requires { is_day on ≡ true }
         ensures { result ≡ calendar.is_month_closed self.now.plan self.now.entries (month_of_day on) }
     {
-        let first = start_month(self.chart());
-        month_number(month_of(on)) < first + u32::from(self.registers.closed())
+        is_month_closed(self.chart(), month_of(on), self.registers.closed())
     }
 
     /// The first fiscal year that isn't closed.

@@ -12,6 +12,6 @@ mod years;
 pub use amounts::difference;
 pub use calendar::{document_year, is_before, rolled_year, year_of_day};
 pub use extents::{Extent, count, extent_of};
-pub use months::{month_at, number_of_day, number_of_month, year_at, years_to};
+pub use months::{is_month_closed, month_at, number_of_day, number_of_month, year_at, years_to};
 pub use pairs::{NumberPair, amount_at, put_in, reserve_in, value_in};
 pub use years::{YEARS, add_at, amount_in, lower, no_years, raise, total_of, total_through};

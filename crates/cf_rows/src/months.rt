@@ -1,6 +1,6 @@
 //! Months by number, from the first month of the chart's first fiscal year.
 
-ghost use Rattle.std.specs.Prelude.{◌≡◌, ◌≤◌, ◌+◌, ◌-◌, ℕ, true};
+ghost use Rattle.std.specs.Prelude.{◌≡◌, ◌≤◌, ◌+◌, ◌-◌, ℕ, nat_lt, true};
 ghost use Rattle.cf_calls.specs.Form.{IsCallMonth, month_number};
 ghost use Rattle.cf_base.specs.Calendar.{is_day};
 ghost use Rattle.cf_base.specs.Limits.{last_fiscal_year, last_year};
@@ -43,6 +43,14 @@ pub fn number_of_month(chart: &Chart, month: Month) -> u16
     ensures named { (n : ℕ) → month ≡ spec_month_at chart.now n → result ≡ n }
 {
     (12 * month.year + u16::from(month.month)).saturating_sub(start_month(chart))
+}
+
+/// Whether a month is closed where the first so many months of the chart are: it is one of these, or before them.
+pub fn is_month_closed(chart: &Chart, month: Month, closed: u16) -> bool
+    ensures { result ≡ nat_lt (month_number month.year month.month) (spec.start_month chart.now + closed) }
+{
+    let number = 12 * u32::from(month.year) + u32::from(month.month);
+    number < u32::from(start_month(chart)) + u32::from(closed)
 }
 
 /// The month of a number.

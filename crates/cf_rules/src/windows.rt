@@ -11,7 +11,7 @@ use cf_calls::acts::Period;
 use cf_calls::{Act, Refusal};
 use cf_chart::Chart;
 use cf_history::History;
-use cf_registers::{month_number, start_month};
+use cf_rows::is_month_closed;
 
 /// The month that holds the last day of a fiscal year's longest availability period.
 fn window_month(chart: &Chart, year: u16) -> Month
@@ -28,8 +28,7 @@ fn is_closed(history: &History, month: Month) -> bool
     requires { IsNamed month }
     ensures { result ≡ is_month_closed history.now.plan history.now.entries month }
 {
-    let first = start_month(history.chart());
-    month_number(month) < first + u32::from(history.registers().closed())
+    is_month_closed(history.chart(), month, history.registers().closed())
 }
 
 /// A year closes while what is collected can still be revenue of it.

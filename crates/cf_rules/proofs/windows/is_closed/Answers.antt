@@ -1,4 +1,5 @@
 use Rattle.std.proofs.Common.{◌≡◌, ◌+◌, nat_lt, sym, ap, ◌∙◌}
+use Rattle.cf_calls.specs.Form.{month_number}
 use Rattle.cf_model.specs.Months.{start_month}
 use Rattle.cf_model.specs.Registers.{Registers, registers_of}
 use Rattle.cf_model.proofs.LegalMonths.{closed_are}
@@ -8,6 +9,6 @@ pub returns : goal.returns
 returns c =
     let plan = c.args.history.now.plan in
     let h = c.args.history.now.entries in
-    let first : c.start_month-first.result ≡ start_month plan = c.start_month-first.ensures.value ∙ ap start_month c.chart.ensures.value in
-    let closed : c.from.result ≡ (registers_of plan h).closed = c.from.ensures ∙ c.closed.ensures ∙ ap (λ (r : Registers). r.closed) c.registers.ensures in
-    (λ i. nat_lt (c.month_number.ensures i) (first i + closed i)) ∙ sym (closed_are plan h c.chart.ensures.whole.calendar c.chart.ensures.legal c.args.month c.requires)
+    let first = ap start_month c.chart.ensures.value in
+    let closed : c.closed.result ≡ (registers_of plan h).closed = c.closed.ensures ∙ ap (λ (r : Registers). r.closed) c.registers.ensures in
+    c.is_month_closed.ensures ∙ (λ i. nat_lt (month_number c.args.month.year c.args.month.month) (first i + closed i)) ∙ sym (closed_are plan h c.chart.ensures.whole.calendar c.chart.ensures.legal c.args.month c.requires)

@@ -15,6 +15,7 @@ use Rattle.cf_history.specs.RestView.{IsReady}
 use Rattle.cf_history.proofs.LookedUp.{known_put, adopted_put}
 use Rattle.cf_registers.proofs.Taken.{can_take_in, made_in, taken_in}
 use Rattle.cf_history.proofs.rest.Rest.apply.Goals as goal
+use Rattle.cf_base.specs.Limits.{most_entries}
 
 pub invariant_of-self-2 : goal.invariant_of-self-2
 invariant_of-self-2 c =
@@ -24,7 +25,7 @@ invariant_of-self-2 c =
     let is : c.self.inside.ready ≡ Some e = sym c.take.ensures.value ∙ c.in-Some.is in
     let ready : IsReady c.self.inside e = subst (λ (o : Option Entry). IfSome o (IsReady c.self.inside)) is c.self.invariant.ready in
     let adds : Adds plan h e = ready.adds in
-    let few : length h < 1500000 = accepted_fits plan h e adds in
+    let few : length h < most_entries = accepted_fits plan h e adds in
     let fund = ready_is Fund plan h e c.self.inside.registers.registers c.self.inside.accounts.ready_fund c.self.invariant.registers ready.posts.fund in
     let gov = ready_is Gov plan h e c.self.inside.registers.registers c.self.inside.accounts.ready_gov c.self.invariant.registers ready.posts.gov in
     let items : c.push_reserved-2.new.self.items ≡ h ++ e ∷ [] = c.push_reserved-2.ensures.items in

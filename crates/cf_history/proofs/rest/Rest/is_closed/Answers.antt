@@ -14,7 +14,7 @@ returns c =
     let h = c.self.inside.entries.items in
     let m = month_of_day c.args.on in
     let day = parts c.args.on c.requires in
-    let month : c.month_number.result ≡ month_number m.year m.month = c.month_number.ensures ∙ ap (λ (n : Month). month_number n.year n.month) c.month_of.ensures in
-    let first : c.start_month-first.result ≡ start_month plan = c.start_month-first.ensures.value ∙ ap start_month (c.chart.ensures.value ∙ ap (λ s. s.plan) (sym c.self.view_is)) in
-    let closed : c.from.result ≡ (registers_of plan h).closed = c.from.ensures ∙ c.closed.ensures ∙ ap (λ (r : Registers). r.closed) c.self.invariant.registers in
-    rw (← c.self.view_is) ((λ i. nat_lt (month i) (first i + closed i)) ∙ sym (closed_are plan h (rw (← c.self.view_is) at c.chart.ensures.whole).calendar (rw (← c.self.view_is) at c.chart.ensures.legal) m (record { first = day.first_month; last = day.last_month })))
+    let month = ap (λ (n : Month). month_number n.year n.month) c.month_of.ensures in
+    let first = ap start_month (c.chart.ensures.value ∙ ap (λ s. s.plan) (sym c.self.view_is)) in
+    let closed : c.closed.result ≡ (registers_of plan h).closed = c.closed.ensures ∙ ap (λ (r : Registers). r.closed) c.self.invariant.registers in
+    rw (← c.self.view_is) (c.is_month_closed.ensures ∙ (λ i. nat_lt (month i) (first i + closed i)) ∙ sym (closed_are plan h (rw (← c.self.view_is) at c.chart.ensures.whole).calendar (rw (← c.self.view_is) at c.chart.ensures.legal) m (record { first = day.first_month; last = day.last_month })))
