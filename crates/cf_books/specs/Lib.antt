@@ -1,6 +1,5 @@
 pub mod Again
 pub mod Calls
-pub mod Rows
 pub mod Amounts
 pub mod Payments
 pub mod Tables

@@ -5,7 +5,7 @@ use Rattle.cf_chart.specs.Plan.{Plan, fund_at, department_at}
 use Rattle.cf_chart.specs.declared.rows.Line.{Line}
 use Rattle.cf_books_lists.specs.LineNames.{later_of, part_and_years, part_name}
 use Rattle.cf_books_lists.specs.Names.{department_name, fund_name}
-use Rattle.cf_books.specs.Rows.{rows_text}
+use Rattle.cf_books_lists.specs.Records.{rows_text}
 
 abbrev pub line_row : Plan → ℕ → Line → List (List ℕ)
 line_row plan number l =

@@ -1,19 +1,15 @@
 -- A row an entry: its place, day, desk, key and call, its amount, and the numbers that it drew.
-use Rattle.std.specs.Prelude.{ℕ, ◌+◌, ◌==◌, ℤ, Bool, if◌then◌else◌, List, [], ◌∷◌, ◌++◌, Option, Some, None, codes, decimal}
+use Rattle.std.specs.Prelude.{ℕ, ◌+◌, ℤ, Bool, List, [], ◌∷◌, ◌++◌, Option, Some, None, codes, decimal}
 use Rattle.cf_base.specs.Amounts.{money_of}
 use Rattle.cf_base.specs.Calendar.{day_text}
 use Rattle.cf_calls.specs.declared.entry.Entry.{Entry}
 use Rattle.cf_call_text.specs.CallText.{call_word}
 use Rattle.cf_books.specs.Payments.{Payable, amount_after, none_payable, payable_after}
-use Rattle.cf_books.specs.Rows.{rows_text}
+use Rattle.cf_books_lists.specs.Records.{drawn_text, head_text, rows_text}
 
 abbrev pub amount_text : Option ℤ → List ℕ
 amount_text None = []
 amount_text (Some z) = money_of z
-
--- no text where nothing was drawn
-abbrev pub drawn_text : ℕ → List ℕ
-drawn_text n = if n == 0 then [] else decimal n
 
 abbrev pub entry_row : ℕ → Option ℤ → Entry → List (List ℕ)
 entry_row place amount e =
@@ -28,9 +24,5 @@ entry_rows s place (e ∷ es) = entry_row place (amount_after s e.drawn e.change
 abbrev pub header : List (List ℕ)
 header = codes "place" ∷ codes "day" ∷ codes "desk" ∷ codes "key" ∷ codes "call" ∷ codes "amount" ∷ codes "number" ∷ codes "second" ∷ []
 
--- records have a row of names before them
-abbrev pub header_rows : Bool → List (List (List ℕ))
-header_rows csv = if csv then header ∷ [] else []
-
 abbrev pub list_text : Bool → List Entry → List ℕ
-list_text csv entries = rows_text csv (header_rows csv ++ entry_rows none_payable 1 entries)
+list_text csv entries = head_text csv header ++ rows_text csv (entry_rows none_payable 1 entries)

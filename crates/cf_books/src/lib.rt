@@ -14,7 +14,6 @@ mod notices;
 mod office;
 mod payments;
 mod refused;
-mod rows;
 mod running;
 mod status;
 mod summary;

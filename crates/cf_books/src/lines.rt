@@ -1,24 +1,25 @@
 //! A row a control line.
 
-ghost use Rattle.std.specs.Prelude.{◌≡◌, false, IfOk, OnOk};
+ghost use Rattle.std.specs.Prelude.{◌≡◌, IfOk, OnOk};
 ghost use Rattle.cf_books.specs.Lines as spec;
-ghost use Rattle.cf_books.specs.Rows.{Adds};
+ghost use Rattle.cf_books_lists.specs.Records.{record_text};
+ghost use Rattle.cf_books_lists.specs.Rows.{added};
 
-use crate::rows::{decimal_text, put_row, writer, written};
-use cf_books_lists::{department_name, fund_name, later_of, part_and_years, part_name};
+use cf_books_lists::{
+    Layout, Rows, decimal_text, department_name, fund_name, later_of, part_and_years, part_name,
+};
 use cf_chart::{Chart, Line};
-use csv::Writer;
 use std::alloc::{AllocError, Global};
 
 /// Writes the row of a control line.
 fn put_line(
     alloc: Global,
-    out: &mut Writer<Vec<u8>>,
+    out: &mut Rows,
     chart: &Chart,
     number: u64,
     line: &Line,
 ) -> Result<(), AllocError>
-    ensures { OnOk result (Adds false (spec.line_row chart.now number line.now) out.old out.new) }
+    ensures { OnOk result (out.new ≡ added out.old (record_text out.old.csv (spec.line_row chart.now number line.now))) }
 {
     let at = decimal_text(alloc, number)?;
     let fund = decimal_text(alloc, line.fund as u64)?;
@@ -33,18 +34,18 @@ fn put_line(
         part.as_slice(),
         part_name(chart, line.part).as_bytes(),
     ];
-    put_row(out, false, fields.as_slice())
+    out.put(fields.as_slice())
 }
 
 /// The control lines of a chart, a row each, with tabs between the fields.
 pub fn lines_text(alloc: Global, chart: &Chart) -> Result<Vec<u8>, AllocError>
     ensures { IfOk result (λ bytes. bytes.items ≡ spec.lines_text chart.now) }
 {
-    let mut out = writer(alloc, false);
+    let mut out = Rows::new(Layout { alloc, csv: false });
     let mut number = 0;
     for line in chart.lines() {
         put_line(alloc, &mut out, chart, number, line)?;
         number += 1;
     }
-    written(out, false)
+    out.into_text()
 }

@@ -1,12 +1,13 @@
 //! A row a voucher of a grant.
 
-ghost use Rattle.std.specs.Prelude.{◌≡◌, ◌++◌, string_bytes, IfOk, OnOk};
+ghost use Rattle.std.specs.Prelude.{◌≡◌, string_bytes, IfOk, OnOk};
 ghost use Rattle.cf_books_lists.specs.Records.{record_text};
+ghost use Rattle.cf_books_lists.specs.Rows.{added};
 ghost use Rattle.cf_books_grants.specs.Vouchers as spec;
 
 use crate::document::money;
 use cf_base::day_text;
-use cf_books_lists::{Layout, decimal_text, put_names, put_record};
+use cf_books_lists::{Layout, Rows, decimal_text};
 use cf_claims::{ClaimState, GrantVoucher};
 use std::alloc::{AllocError, Global};
 
@@ -43,11 +44,10 @@ fn bill_text(alloc: Global, state: ClaimState) -> Result<Vec<u8>, AllocError>
     }
 }
 
-/// Appends the row of a voucher.
-fn put_voucher(layout: Layout, out: &mut Vec<u8>, voucher: &GrantVoucher) -> Result<(), AllocError>
-    ensures { OnOk result (out.new.items ≡ out.old.items ++ record_text layout.csv (spec.voucher_row voucher.now)) }
+/// Writes the row of a voucher.
+fn put_voucher(alloc: Global, out: &mut Rows, voucher: &GrantVoucher) -> Result<(), AllocError>
+    ensures { OnOk result (out.new ≡ added out.old (record_text out.old.csv (spec.voucher_row voucher.now))) }
 {
-    let alloc = layout.alloc;
     let number = decimal_text(alloc, voucher.number as u64)?;
     let day = day_text(voucher.on);
     let year = decimal_text(alloc, voucher.year as u64)?;
@@ -67,26 +67,22 @@ fn put_voucher(layout: Layout, out: &mut Vec<u8>, voucher: &GrantVoucher) -> Res
         bill.as_slice(),
         left.as_str().as_bytes(),
     ];
-    put_record(layout, out, fields.as_slice())
+    out.put(fields.as_slice())
 }
 
-/// Appends the rows of vouchers.
-fn put_vouchers(
-    layout: Layout,
-    out: &mut Vec<u8>,
-    vouchers: &[GrantVoucher],
-) -> Result<(), AllocError>
-    ensures { OnOk result (out.new.items ≡ out.old.items ++ spec.rows_text layout.csv vouchers.now) }
+/// Writes the rows of vouchers.
+fn put_vouchers(alloc: Global, out: &mut Rows, vouchers: &[GrantVoucher]) -> Result<(), AllocError>
+    ensures { OnOk result (out.new ≡ added out.old (spec.rows_text out.old.csv vouchers.now)) }
 {
     for voucher in vouchers {
-        put_voucher(layout, out, voucher)?;
+        put_voucher(alloc, out, voucher)?;
     }
     Ok(())
 }
 
-/// Appends the names of the columns, where records are written.
-fn put_head(layout: Layout, out: &mut Vec<u8>) -> Result<(), AllocError>
-    ensures { OnOk result (out.new.items ≡ out.old.items ++ spec.head_rows layout.csv) }
+/// Writes the names of the columns, where records are written.
+fn put_head(out: &mut Rows) -> Result<(), AllocError>
+    ensures { OnOk result (out.new ≡ added out.old (spec.head_rows out.old.csv)) }
 {
     let names: [&[u8]; 9] = [
         b"voucher",
@@ -99,15 +95,15 @@ fn put_head(layout: Layout, out: &mut Vec<u8>) -> Result<(), AllocError>
         b"bill",
         b"left",
     ];
-    put_names(layout, out, names.as_slice())
+    out.put_names(names.as_slice())
 }
 
 /// The vouchers of a grant, a row each: as records with a row of names before them, or with tabs between the fields.
 pub fn vouchers_text(layout: Layout, vouchers: &[GrantVoucher]) -> Result<Vec<u8>, AllocError>
     ensures { IfOk result (λ bytes. bytes.items ≡ spec.vouchers_text layout.csv vouchers.now) }
 {
-    let mut out = Vec::new(layout.alloc);
-    put_head(layout, &mut out)?;
-    put_vouchers(layout, &mut out, vouchers)?;
-    Ok(out)
+    let mut out = Rows::new(layout);
+    put_head(&mut out)?;
+    put_vouchers(layout.alloc, &mut out, vouchers)?;
+    out.into_text()
 }

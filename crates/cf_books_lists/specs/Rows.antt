@@ -1,21 +1,28 @@
--- What a writer of rows has written.
-use Rattle.std.specs.Prelude.{◌≡◌, ℕ, Bool, false, List, ◌++◌, Some, Vec}
+-- Rows that one writer wrote.
+use Rattle.std.specs.Prelude.{◌≡◌, ℕ, Bool, false, List, [], ◌++◌, Vec}
 use Rattle.std.specs.Global.{Global}
-use Rattle.csv.specs.Writing.{fields_written, has_written, row_text, text_written, writer_setup}
+use Rattle.csv.specs.Writing.{fields_written, has_written, writer_pending, writer_setup, writer_under}
 use Rattle.csv.specs.declared.Writer.{Writer}
 use Rattle.cf_books_lists.specs.Records.{setup}
 
--- the writer stands before a row, and wrote this text
-pub record Wrote (csv : Bool) (text : List ℕ) (w : Writer (Vec ℕ Global)) : Type 0 where
+-- what was written, as records or with tabs
+pub record Written : Type 0 where
+  pub csv : Bool
+  pub text : List ℕ
+
+abbrev pub none_written : Bool → Written
+none_written csv = record { csv = csv; text = [] }
+
+-- the same with a text more
+abbrev pub added : Written → List ℕ → Written
+added w more = record { csv = w.csv; text = w.text ++ more }
+
+-- what a writer wrote: what stands in the text, and then what it holds back
+abbrev pub text_in : Writer (Vec ℕ Global) → List ℕ
+text_in w = (writer_under w).items ++ writer_pending w
+
+-- the writer stands before a row
+pub record StandsBefore (csv : Bool) (w : Writer (Vec ℕ Global)) : Type 0 where
   pub setup_is : writer_setup w ≡ setup csv
   pub fields : fields_written w ≡ 0
   pub clean : has_written w ≡ false
-  pub held : text_written (λ v. Some v.items) w ≡ Some text
-
--- the writer wrote this text more
-abbrev pub AddsText : Bool → List ℕ → Writer (Vec ℕ Global) → Writer (Vec ℕ Global) → Type 0
-AddsText csv more old new = (text : List ℕ) → Wrote csv text old → Wrote csv (text ++ more) new
-
--- the writer wrote one row more
-abbrev pub Adds : Bool → List (List ℕ) → Writer (Vec ℕ Global) → Writer (Vec ℕ Global) → Type 0
-Adds csv row old new = (text : List ℕ) → Wrote csv text old → Wrote csv (text ++ row_text (setup csv) row) new

@@ -1,37 +1,39 @@
 //! The trial balance of a fiscal year.
 
-ghost use Rattle.std.specs.Prelude.{◌≡◌, ◌++◌, ℕ, List, Ok, IfOk, OnOk};
+ghost use Rattle.std.specs.Prelude.{◌≡◌, ℕ, List, Ok, IfOk, OnOk};
 ghost use Rattle.cf_articulation.specs.TrialBalances.{Balances};
 ghost use Rattle.cf_books_lists.specs.Balances as spec;
 ghost use Rattle.cf_books_lists.specs.Records.{head_text, record_text};
+ghost use Rattle.cf_books_lists.specs.Rows.{added};
 ghost use Rattle.cf_chart.specs.Reading.{chart_of};
 
 use crate::accounts::{fund_accounts, gov_accounts};
 use crate::names::{account_text, basis_word, fund_name};
-use crate::records::{Layout, decimal_text, put_names, put_record};
+use crate::rows::{Layout, Rows};
+use crate::texts::decimal_text;
 use cf_base::money_text;
 use cf_calls::Basis;
 use cf_chart::{Chart, Fund};
 use cf_office::Rest;
-use std::alloc::AllocError;
+use std::alloc::{AllocError, Global};
 
-/// Appends the record of a balance.
+/// Writes the record of a balance.
 fn put_balance(
-    layout: Layout,
-    out: &mut Vec<u8>,
+    alloc: Global,
+    out: &mut Rows,
     chart: &Chart,
     basis: Basis,
     fund: u16,
     account: u32,
     balance: i128,
 ) -> Result<(), AllocError>
-    ensures { OnOk result (out.new.items ≡ out.old.items ++ record_text layout.csv (spec.balance_row chart.now basis fund account balance)) }
+    ensures { OnOk result (out.new ≡ added out.old (record_text out.old.csv (spec.balance_row chart.now basis fund account balance))) }
 {
-    let word = Vec::from_slice(layout.alloc, basis_word(basis).as_bytes())?;
-    let id = decimal_text(layout.alloc, fund as u64)?;
-    let code = decimal_text(layout.alloc, account as u64)?;
-    let name = account_text(layout.alloc, chart, account)?;
-    let amount = money_text(layout.alloc, balance)?;
+    let word = Vec::from_slice(alloc, basis_word(basis).as_bytes())?;
+    let id = decimal_text(alloc, fund as u64)?;
+    let code = decimal_text(alloc, account as u64)?;
+    let name = account_text(alloc, chart, account)?;
+    let amount = money_text(alloc, balance)?;
     let fields = [
         word.as_slice(),
         id.as_slice(),
@@ -40,74 +42,74 @@ fn put_balance(
         name.as_slice(),
         amount.as_str().as_bytes(),
     ];
-    put_record(layout, out, fields.as_slice())
+    out.put(fields.as_slice())
 }
 
-/// Appends the record of a balance that isn't zero.
+/// Writes the record of a balance that isn't zero.
 fn put_some(
-    layout: Layout,
-    out: &mut Vec<u8>,
+    alloc: Global,
+    out: &mut Rows,
     chart: &Chart,
     basis: Basis,
     fund: u16,
     account: u32,
     balance: i128,
 ) -> Result<(), AllocError>
-    ensures { OnOk result (out.new.items ≡ out.old.items ++ spec.balance_text layout.csv chart.now basis fund account balance) }
+    ensures { OnOk result (out.new ≡ added out.old (spec.balance_text out.old.csv chart.now basis fund account balance)) }
 {
     if balance == 0 {
         return Ok(());
     }
-    put_balance(layout, out, chart, basis, fund, account, balance)
+    put_balance(alloc, out, chart, basis, fund, account, balance)
 }
 
-/// Appends the record of an account's balance through a fiscal year, where it isn't zero.
+/// Writes the record of an account's balance through a fiscal year, where it isn't zero.
 fn put_account(
-    layout: Layout,
-    out: &mut Vec<u8>,
+    alloc: Global,
+    out: &mut Rows,
     rest: &Rest,
     basis: Basis,
     year: u16,
     fund: u16,
     account: u32,
 ) -> Result<(), AllocError>
-    ensures { OnOk result (out.new.items ≡ out.old.items ++ spec.account_text layout.csv rest.now.plan rest.now.entries basis year fund account) }
+    ensures { OnOk result (out.new ≡ added out.old (spec.account_text out.old.csv rest.now.plan rest.now.entries basis year fund account)) }
 {
     let balance = rest.balance(basis, year, fund, account);
-    put_some(layout, out, rest.chart(), basis, fund, account, balance)
+    put_some(alloc, out, rest.chart(), basis, fund, account, balance)
 }
 
-/// Appends the balances of these accounts through a fiscal year.
+/// Writes the balances of these accounts through a fiscal year.
 fn put_accounts(
-    layout: Layout,
-    out: &mut Vec<u8>,
+    alloc: Global,
+    out: &mut Rows,
     rest: &Rest,
     basis: Basis,
     year: u16,
     fund: u16,
     accounts: &[u32],
 ) -> Result<(), AllocError>
-    ensures { OnOk result (out.new.items ≡ out.old.items ++ spec.accounts_text layout.csv rest.now.plan rest.now.entries basis year fund accounts.now) }
+    ensures { OnOk result (out.new ≡ added out.old (spec.accounts_text out.old.csv rest.now.plan rest.now.entries basis year fund accounts.now)) }
 {
     for account in accounts {
-        put_account(layout, out, rest, basis, year, fund, *account)?;
+        put_account(alloc, out, rest, basis, year, fund, *account)?;
     }
     Ok(())
 }
 
-/// Appends the balances of a fund's accounts.
+/// Writes the balances of a fund's accounts.
 fn put_fund(
-    layout: Layout,
-    out: &mut Vec<u8>,
+    alloc: Global,
+    out: &mut Rows,
     rest: &Rest,
     year: u16,
     fund: u16,
 ) -> Result<(), AllocError>
-    ensures { OnOk result (out.new.items ≡ out.old.items ++ spec.fund_text layout.csv rest.now.plan rest.now.entries year fund) }
+    ensures { OnOk result (out.new ≡ added out.old (spec.fund_text out.old.csv rest.now.plan rest.now.entries year fund)) }
 {
-    let accounts = fund_accounts(layout.alloc, rest.chart(), fund)?;
+    let accounts = fund_accounts(alloc, rest.chart(), fund)?;
     put_accounts(
-        layout,
+        alloc,
         out,
         rest,
         Basis::Fund,
@@ -117,25 +119,25 @@ fn put_fund(
     )
 }
 
-/// Appends the balances of these funds' accounts.
+/// Writes the balances of these funds' accounts.
 fn put_funds(
-    layout: Layout,
-    out: &mut Vec<u8>,
+    alloc: Global,
+    out: &mut Rows,
     rest: &Rest,
     year: u16,
     funds: &[Fund],
 ) -> Result<(), AllocError>
-    ensures { OnOk result (out.new.items ≡ out.old.items ++ spec.funds_text layout.csv rest.now.plan rest.now.entries year funds.now) }
+    ensures { OnOk result (out.new ≡ added out.old (spec.funds_text out.old.csv rest.now.plan rest.now.entries year funds.now)) }
 {
     for fund in funds {
-        put_fund(layout, out, rest, year, fund.id)?;
+        put_fund(alloc, out, rest, year, fund.id)?;
     }
     Ok(())
 }
 
-/// Appends the names of the columns.
-fn put_head(layout: Layout, out: &mut Vec<u8>) -> Result<(), AllocError>
-    ensures { OnOk result (out.new.items ≡ out.old.items ++ head_text layout.csv spec.head) }
+/// Writes the names of the columns.
+fn put_head(out: &mut Rows) -> Result<(), AllocError>
+    ensures { OnOk result (out.new ≡ added out.old (head_text out.old.csv spec.head)) }
 {
     let names: [&[u8]; 6] = [
         b"basis",
@@ -145,19 +147,19 @@ fn put_head(layout: Layout, out: &mut Vec<u8>) -> Result<(), AllocError>
         b"account_name",
         b"balance",
     ];
-    put_names(layout, out, names.as_slice())
+    out.put_names(names.as_slice())
 }
 
 /// The balances of all accounts, below the names of the columns.
 fn all_text(layout: Layout, rest: &Rest, year: u16) -> Result<Vec<u8>, AllocError>
     ensures { IfOk result (λ v. v.items ≡ spec.balances_of layout.csv year rest.now.plan rest.now.entries) }
 {
-    let mut out = Vec::new(layout.alloc);
-    put_head(layout, &mut out)?;
-    put_funds(layout, &mut out, rest, year, rest.chart().funds())?;
+    let mut out = Rows::new(layout);
+    put_head(&mut out)?;
+    put_funds(layout.alloc, &mut out, rest, year, rest.chart().funds())?;
     let accounts = gov_accounts(layout.alloc, rest.chart())?;
     put_accounts(
-        layout,
+        layout.alloc,
         &mut out,
         rest,
         Basis::Gov,
@@ -165,7 +167,7 @@ fn all_text(layout: Layout, rest: &Rest, year: u16) -> Result<Vec<u8>, AllocErro
         0,
         accounts.as_slice(),
     )?;
-    Ok(out)
+    out.into_text()
 }
 
 /// The balances of accounts through a fiscal year that aren't zero: those of each fund on the fund basis, and then those of

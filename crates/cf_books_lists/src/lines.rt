@@ -4,7 +4,7 @@ ghost use Rattle.std.specs.Prelude.{◌≡◌, ◌++◌, decimal, IfOk, OnOk};
 ghost use Rattle.std.specs.Option.{option_copied};
 ghost use Rattle.cf_books_lists.specs.LineNames as spec;
 
-use crate::records::put_between;
+use crate::texts::put_between;
 use cf_chart::{Chart, Fund, LaterLevel, Line, LinePart, Object};
 use cf_members::parts::put_number;
 use std::alloc::{AllocError, Global};

@@ -5,10 +5,12 @@ ghost use Rattle.cf_base.specs.Amounts.{money_of};
 ghost use Rattle.std.specs.Option.{option_copied};
 ghost use Rattle.cf_books_lists.specs.Open as spec;
 ghost use Rattle.cf_books_lists.specs.Records.{head_text, record_text};
+ghost use Rattle.cf_books_lists.specs.Rows.{added};
 ghost use Rattle.cf_model.specs.Registers.{registers_of};
 
 use crate::names::{department_name, fund_name};
-use crate::records::{Layout, decimal_text, drawn_text, put_names, put_record};
+use crate::rows::{Layout, Rows};
+use crate::texts::{decimal_text, drawn_text};
 use cf_base::{Day, day_text, money_text, month_text};
 use cf_call_text::call_word;
 use cf_calls::acts::Period;
@@ -134,28 +136,28 @@ fn amount_text(alloc: Global, amount: u64) -> Result<String, AllocError>
     money_text(alloc, amount as i128)
 }
 
-/// Appends the record of a part of what an entry entered.
+/// Writes the record of a part of what an entry entered.
 fn put_part(
-    layout: Layout,
-    out: &mut Vec<u8>,
+    alloc: Global,
+    out: &mut Rows,
     chart: &Chart,
     entry: &Entry,
     part: Part,
 ) -> Result<(), AllocError>
-    ensures { OnOk result (out.new.items ≡ out.old.items ++ spec.part_text layout.csv chart.now entry.now part) }
+    ensures { OnOk result (out.new ≡ added out.old (spec.part_text out.old.csv chart.now entry.now part)) }
 {
     let change = &entry.change;
-    let call = Vec::from_slice(layout.alloc, call_word(&change.act).as_bytes())?;
-    let number = decimal_text(layout.alloc, number_of(entry) as u64)?;
-    let item = drawn_text(layout.alloc, part.item)?;
+    let call = Vec::from_slice(alloc, call_word(&change.act).as_bytes())?;
+    let number = decimal_text(alloc, number_of(entry) as u64)?;
+    let item = drawn_text(alloc, part.item)?;
     let day = day_text(change.on);
-    let desk = decimal_text(layout.alloc, change.desk as u64)?;
-    let party = drawn_text(layout.alloc, party_of(&change.act) as u64)?;
-    let year = number_text(layout.alloc, part.year)?;
-    let line = number_text(layout.alloc, part.line)?;
-    let amount = amount_text(layout.alloc, part.amount)?;
-    let next = next_text(layout.alloc, part.next)?;
-    let closed = Vec::new(layout.alloc);
+    let desk = decimal_text(alloc, change.desk as u64)?;
+    let party = drawn_text(alloc, party_of(&change.act) as u64)?;
+    let year = number_text(alloc, part.year)?;
+    let line = number_text(alloc, part.line)?;
+    let amount = amount_text(alloc, part.amount)?;
+    let next = next_text(alloc, part.next)?;
+    let closed = Vec::new(alloc);
     let fields = [
         call.as_slice(),
         number.as_slice(),
@@ -172,19 +174,19 @@ fn put_part(
         next.as_slice(),
         closed.as_slice(),
     ];
-    put_record(layout, out, fields.as_slice())
+    out.put(fields.as_slice())
 }
 
-/// Appends the items of a requisition.
+/// Writes the items of a requisition.
 fn put_held(
-    layout: Layout,
-    out: &mut Vec<u8>,
+    alloc: Global,
+    out: &mut Rows,
     chart: &Chart,
     entry: &Entry,
     year: u16,
     items: &[LineAmount],
 ) -> Result<(), AllocError>
-    ensures { OnOk result (out.new.items ≡ out.old.items ++ spec.held_text layout.csv chart.now entry.now year 1 items.now) }
+    ensures { OnOk result (out.new ≡ added out.old (spec.held_text out.old.csv chart.now entry.now year 1 items.now)) }
 {
     let mut place: u64 = 0;
     for item in items {
@@ -196,21 +198,21 @@ fn put_held(
             amount: item.amount,
             next: None,
         };
-        put_part(layout, out, chart, entry, part)?;
+        put_part(alloc, out, chart, entry, part)?;
     }
     Ok(())
 }
 
-/// Appends an item of an order, where it is live.
+/// Writes an item of an order, where it is live.
 fn put_item(
-    layout: Layout,
-    out: &mut Vec<u8>,
+    alloc: Global,
+    out: &mut Rows,
     chart: &Chart,
     entry: &Entry,
     place: u64,
     item: OrderItemShown,
 ) -> Result<(), AllocError>
-    ensures { OnOk result (out.new.items ≡ out.old.items ++ spec.item_text layout.csv chart.now entry.now place item item.state) }
+    ensures { OnOk result (out.new ≡ added out.old (spec.item_text out.old.csv chart.now entry.now place item item.state)) }
 {
     match item.state {
         ItemState::Live => {
@@ -221,41 +223,41 @@ fn put_item(
                 amount: item.open_cents,
                 next: None,
             };
-            put_part(layout, out, chart, entry, part)
+            put_part(alloc, out, chart, entry, part)
         }
         _ => Ok(()),
     }
 }
 
-/// Appends the live items of an order.
+/// Writes the live items of an order.
 fn put_items(
-    layout: Layout,
-    out: &mut Vec<u8>,
+    alloc: Global,
+    out: &mut Rows,
     chart: &Chart,
     entry: &Entry,
     items: &[OrderItemShown],
 ) -> Result<(), AllocError>
-    ensures { OnOk result (out.new.items ≡ out.old.items ++ spec.items_text layout.csv chart.now entry.now 1 items.now) }
+    ensures { OnOk result (out.new ≡ added out.old (spec.items_text out.old.csv chart.now entry.now 1 items.now)) }
 {
     let mut place: u64 = 0;
     for item in items {
         place += 1;
-        put_item(layout, out, chart, entry, place, *item)?;
+        put_item(alloc, out, chart, entry, place, *item)?;
     }
     Ok(())
 }
 
-/// Appends an amount that is no item's.
+/// Writes an amount that is no item's.
 fn put_whole(
-    layout: Layout,
-    out: &mut Vec<u8>,
+    alloc: Global,
+    out: &mut Rows,
     chart: &Chart,
     entry: &Entry,
     year: Option<u16>,
     amount: u64,
     next: Option<Day>,
 ) -> Result<(), AllocError>
-    ensures { OnOk result (out.new.items ≡ out.old.items ++ spec.whole_text layout.csv chart.now entry.now year amount next) }
+    ensures { OnOk result (out.new ≡ added out.old (spec.whole_text out.old.csv chart.now entry.now year amount next)) }
 {
     let part = Part {
         item: 0,
@@ -264,18 +266,18 @@ fn put_whole(
         amount,
         next,
     };
-    put_part(layout, out, chart, entry, part)
+    put_part(alloc, out, chart, entry, part)
 }
 
-/// Appends what a look shows that is open.
+/// Writes what a look shows that is open.
 fn put_shown(
-    layout: Layout,
-    out: &mut Vec<u8>,
+    alloc: Global,
+    out: &mut Rows,
     chart: &Chart,
     entry: &Entry,
     shown: Option<&Shown>,
 ) -> Result<(), AllocError>
-    ensures { OnOk result (out.new.items ≡ out.old.items ++ spec.shown_text layout.csv chart.now entry.now (option_copied shown.entry)) }
+    ensures { OnOk result (out.new ≡ added out.old (spec.shown_text out.old.csv chart.now entry.now (option_copied shown.entry))) }
 {
     match shown {
         Some(
@@ -284,9 +286,9 @@ fn put_shown(
                 state: RequisitionState::Open,
                 year,
             },
-        ) => { put_held(layout, out, chart, entry, *year, items.as_slice()) }
+        ) => { put_held(alloc, out, chart, entry, *year, items.as_slice()) }
         Some(Shown::Order { items, vendor: _ }) => {
-            put_items(layout, out, chart, entry, items.as_slice())
+            put_items(alloc, out, chart, entry, items.as_slice())
         }
         Some(
             Shown::Voucher {
@@ -294,55 +296,54 @@ fn put_shown(
                 state: VoucherState::Open,
                 year,
             },
-        ) => { put_whole(layout, out, chart, entry, Some(*year), *amount, None) }
+        ) => { put_whole(alloc, out, chart, entry, Some(*year), *amount, None) }
         Some(
             Shown::Bill {
                 left,
                 levy_year,
                 source: _,
             },
-        ) if *left != 0 => { put_whole(layout, out, chart, entry, Some(*levy_year), *left, None) }
+        ) if *left != 0 => { put_whole(alloc, out, chart, entry, Some(*levy_year), *left, None) }
         Some(
             Shown::Bond {
                 accrued: _,
                 next: Some(next),
                 outstanding,
             },
-        ) => { put_whole(layout, out, chart, entry, None, *outstanding, Some(*next)) }
+        ) => { put_whole(alloc, out, chart, entry, None, *outstanding, Some(*next)) }
         _ => Ok(()),
     }
 }
 
-/// Appends what is open of that which an entry entered in a section.
+/// Writes what is open of that which an entry entered in a section.
 fn put_entry(
-    layout: Layout,
-    out: &mut Vec<u8>,
+    alloc: Global,
+    out: &mut Rows,
     rest: &Rest,
     section: Section,
     entry: &Entry,
 ) -> Result<(), AllocError>
-    ensures { OnOk result (out.new.items ≡ out.old.items
-        ++ spec.looked_text layout.csv rest.now.plan (registers_of rest.now.plan rest.now.entries) entry.now (spec.look_of section entry.now)) }
+    ensures { OnOk result (out.new ≡ added out.old (spec.looked_text out.old.csv rest.now.plan (registers_of rest.now.plan rest.now.entries) entry.now (spec.look_of section entry.now))) }
 {
     let Some(look) = look_of(section, entry) else {
         return Ok(());
     };
-    let shown = rest.registers().look(layout.alloc, rest.chart(), &look)?;
-    put_shown(layout, out, rest.chart(), entry, shown.as_ref())
+    let shown = rest.registers().look(alloc, rest.chart(), &look)?;
+    put_shown(alloc, out, rest.chart(), entry, shown.as_ref())
 }
 
-/// Appends what is open of a section.
+/// Writes what is open of a section.
 fn put_section(
-    layout: Layout,
-    out: &mut Vec<u8>,
+    alloc: Global,
+    out: &mut Rows,
     rest: &Rest,
     section: Section,
     entries: &[Entry],
 ) -> Result<(), AllocError>
-    ensures { OnOk result (out.new.items ≡ out.old.items ++ spec.section_text layout.csv rest.now.plan (registers_of rest.now.plan rest.now.entries) section entries.now) }
+    ensures { OnOk result (out.new ≡ added out.old (spec.section_text out.old.csv rest.now.plan (registers_of rest.now.plan rest.now.entries) section entries.now)) }
 {
     for entry in entries {
-        put_entry(layout, out, rest, section, entry)?;
+        put_entry(alloc, out, rest, section, entry)?;
     }
     Ok(())
 }
@@ -356,21 +357,21 @@ fn period_text(alloc: Global, period: Period) -> Result<Vec<u8>, AllocError>
     }
 }
 
-/// Appends the record of a month or a fiscal year that an entry closes.
+/// Writes the record of a month or a fiscal year that an entry closes.
 fn put_period(
-    layout: Layout,
-    out: &mut Vec<u8>,
+    alloc: Global,
+    out: &mut Rows,
     entry: &Entry,
     period: Period,
 ) -> Result<(), AllocError>
-    ensures { OnOk result (out.new.items ≡ out.old.items ++ record_text layout.csv (spec.close_row entry.now period)) }
+    ensures { OnOk result (out.new ≡ added out.old (record_text out.old.csv (spec.close_row entry.now period))) }
 {
     let change = &entry.change;
     let day = day_text(change.on);
-    let desk = decimal_text(layout.alloc, change.desk as u64)?;
-    let closed = period_text(layout.alloc, period)?;
-    let call = Vec::from_slice(layout.alloc, b"close")?;
-    let empty = Vec::new(layout.alloc);
+    let desk = decimal_text(alloc, change.desk as u64)?;
+    let closed = period_text(alloc, period)?;
+    let call = Vec::from_slice(alloc, b"close")?;
+    let empty = Vec::new(alloc);
     let none = empty.as_slice();
     let fields = [
         call.as_slice(),
@@ -388,32 +389,32 @@ fn put_period(
         none,
         closed.as_slice(),
     ];
-    put_record(layout, out, fields.as_slice())
+    out.put(fields.as_slice())
 }
 
-/// Appends what an entry closes.
-fn put_close(layout: Layout, out: &mut Vec<u8>, entry: &Entry) -> Result<(), AllocError>
-    ensures { OnOk result (out.new.items ≡ out.old.items ++ spec.close_by layout.csv entry.now.change.act entry.now) }
+/// Writes what an entry closes.
+fn put_close(alloc: Global, out: &mut Rows, entry: &Entry) -> Result<(), AllocError>
+    ensures { OnOk result (out.new ≡ added out.old (spec.close_by out.old.csv entry.now.change.act entry.now)) }
 {
     match entry.change.act {
-        Act::Close(period) => put_period(layout, out, entry, period),
+        Act::Close(period) => put_period(alloc, out, entry, period),
         _ => Ok(()),
     }
 }
 
-/// Appends what these entries close.
-fn put_closes(layout: Layout, out: &mut Vec<u8>, entries: &[Entry]) -> Result<(), AllocError>
-    ensures { OnOk result (out.new.items ≡ out.old.items ++ spec.closes_text layout.csv entries.now) }
+/// Writes what these entries close.
+fn put_closes(alloc: Global, out: &mut Rows, entries: &[Entry]) -> Result<(), AllocError>
+    ensures { OnOk result (out.new ≡ added out.old (spec.closes_text out.old.csv entries.now)) }
 {
     for entry in entries {
-        put_close(layout, out, entry)?;
+        put_close(alloc, out, entry)?;
     }
     Ok(())
 }
 
-/// Appends the names of the columns.
-fn put_head(layout: Layout, out: &mut Vec<u8>) -> Result<(), AllocError>
-    ensures { OnOk result (out.new.items ≡ out.old.items ++ head_text layout.csv spec.head) }
+/// Writes the names of the columns.
+fn put_head(out: &mut Rows) -> Result<(), AllocError>
+    ensures { OnOk result (out.new ≡ added out.old (head_text out.old.csv spec.head)) }
 {
     let names: [&[u8]; 14] = [
         b"call",
@@ -431,7 +432,7 @@ fn put_head(layout: Layout, out: &mut Vec<u8>) -> Result<(), AllocError>
         b"next",
         b"closed",
     ];
-    put_names(layout, out, names.as_slice())
+    out.put_names(names.as_slice())
 }
 
 /// What is open, as records below a row of names: open requisitions by item, live items of orders with what is open of each,
@@ -442,13 +443,14 @@ pub fn open_text(layout: Layout, rest: &Rest) -> Result<Vec<u8>, AllocError>
     ensures { IfOk result (λ v. v.items ≡ spec.open_text layout.csv rest.now.plan rest.now.entries) }
 {
     let entries = rest.entries();
-    let mut out = Vec::new(layout.alloc);
-    put_head(layout, &mut out)?;
-    put_section(layout, &mut out, rest, Section::Requisitions, entries)?;
-    put_section(layout, &mut out, rest, Section::Orders, entries)?;
-    put_section(layout, &mut out, rest, Section::Bills, entries)?;
-    put_section(layout, &mut out, rest, Section::Vouchers, entries)?;
-    put_section(layout, &mut out, rest, Section::Debts, entries)?;
-    put_closes(layout, &mut out, entries)?;
-    Ok(out)
+    let alloc = layout.alloc;
+    let mut out = Rows::new(layout);
+    put_head(&mut out)?;
+    put_section(alloc, &mut out, rest, Section::Requisitions, entries)?;
+    put_section(alloc, &mut out, rest, Section::Orders, entries)?;
+    put_section(alloc, &mut out, rest, Section::Bills, entries)?;
+    put_section(alloc, &mut out, rest, Section::Vouchers, entries)?;
+    put_section(alloc, &mut out, rest, Section::Debts, entries)?;
+    put_closes(alloc, &mut out, entries)?;
+    out.into_text()
 }

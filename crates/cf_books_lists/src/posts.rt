@@ -1,18 +1,17 @@
 //! Each post of each entry, on both bases.
 
-ghost use Rattle.std.specs.Prelude.{◌≡◌, ◌++◌, [], Some, IfOk, IfErr, OnOk};
+ghost use Rattle.std.specs.Prelude.{◌≡◌, ◌++◌, Some, IfOk, IfErr, OnOk};
 ghost use Rattle.cf_base.specs.Amounts.{money_of};
 ghost use Rattle.cf_book.specs.Openings.{OpensBook, OpensNone};
 ghost use Rattle.cf_book.specs.Watching.{all_posted};
 ghost use Rattle.cf_books_lists.specs.Posts as spec;
 ghost use Rattle.cf_call_text.specs.CallText.{call_word as word_of};
 ghost use Rattle.cf_books_lists.specs.Names.{account_text, basis_word as basis_text};
-ghost use Rattle.cf_books_lists.specs.Records.{head_text};
-ghost use Rattle.cf_books_lists.specs.Rows.{Adds, AddsText, Wrote};
+ghost use Rattle.cf_books_lists.specs.Records.{head_text, record_text};
+ghost use Rattle.cf_books_lists.specs.Rows.{added, none_written};
 
 use crate::names::{basis_word, fund_name, put_account};
-use crate::records::Layout;
-use crate::rows::{put_row, writer, written};
+use crate::rows::{Layout, Rows};
 use crate::texts::{digits, drawn_digits, put_money};
 use cf_base::day_text;
 use cf_book::{Book, NotOpened, Watch, open_watched};
@@ -22,7 +21,6 @@ use cf_calls::{Basis, Entry};
 use cf_chart::Chart;
 use cf_disk::Disk;
 use cf_ledger::Post;
-use csv::Writer;
 use itoa::Buffer;
 use std::alloc::{AllocError, Global};
 
@@ -108,17 +106,17 @@ fn put_placed(
 /// Where posts are written, with memory for the texts that are made anew for each.
 #[derive(Drop)]
 struct Sheet {
-    out: Writer<Vec<u8>>,
+    out: Rows,
     name: Vec<u8>,
     amount: Vec<u8>,
 }
 
 /// A sheet with nothing on it.
 fn blank_sheet(layout: Layout) -> Sheet
-    ensures { Wrote layout.csv [] result.out }
+    ensures { result.out ≡ none_written layout.csv }
 {
     Sheet {
-        out: writer(layout),
+        out: Rows::new(layout),
         name: Vec::new(layout.alloc),
         amount: Vec::new(layout.alloc),
     }
@@ -152,7 +150,6 @@ fn basis_bytes(basis: &Basis) -> &[u8]
 
 /// Writes the record of a post.
 fn put_post(
-    csv: bool,
     sheet: &mut Sheet,
     chart: &Chart,
     place: u64,
@@ -160,7 +157,7 @@ fn put_post(
     basis: Basis,
     post: &Post,
 ) -> Result<(), AllocError>
-    ensures { OnOk result (Adds csv (spec.post_row chart.now place entry.now basis post.now) sheet.old.out sheet.new.out) }
+    ensures { OnOk result (sheet.new.out ≡ added sheet.old.out (record_text sheet.old.out.csv (spec.post_row chart.now place entry.now basis post.now))) }
 {
     make_texts(sheet, chart, post)?;
     let change = &entry.change;
@@ -182,24 +179,23 @@ fn put_post(
         sheet.name.as_slice(),
         sheet.amount.as_slice(),
     ];
-    put_row(&mut sheet.out, csv, fields.as_slice())
+    sheet.out.put(fields.as_slice())
 }
 
 /// Writes the record of a post, where it is asked for.
 fn put_asked(
-    csv: bool,
     sheet: &mut Sheet,
     filter: PostFilter,
     chart: &Chart,
     entry: &Entry,
     placed: &PlacedPost,
 ) -> Result<(), AllocError>
-    ensures { OnOk result (AddsText csv (spec.entry_text csv filter chart.now (Some entry.now) placed.now) sheet.old.out sheet.new.out) }
+    ensures { OnOk result (sheet.new.out ≡ added sheet.old.out (spec.entry_text sheet.old.out.csv filter chart.now (Some entry.now) placed.now)) }
 {
     let wanted = is_wanted(filter, &placed.post);
     if wanted {
         let PlacedPost { place, basis, post } = *placed;
-        put_post(csv, sheet, chart, place, entry, basis, &post)
+        put_post(sheet, chart, place, entry, basis, &post)
     } else {
         Ok(())
     }
@@ -207,45 +203,40 @@ fn put_asked(
 
 /// Writes the record of a post of one of these entries, where it is asked for.
 fn put_placed_row(
-    csv: bool,
     sheet: &mut Sheet,
     filter: PostFilter,
     chart: &Chart,
     entries: &[Entry],
     placed: &PlacedPost,
 ) -> Result<(), AllocError>
-    ensures { OnOk result (AddsText csv (spec.placed_text csv filter chart.now entries.now placed.now) sheet.old.out sheet.new.out) }
+    ensures { OnOk result (sheet.new.out ≡ added sheet.old.out (spec.placed_text sheet.old.out.csv filter chart.now entries.now placed.now)) }
 {
     match entries.get(placed.place.saturating_sub(1) as usize) {
-        Some(entry) => put_asked(csv, sheet, filter, chart, entry, placed),
+        Some(entry) => put_asked(sheet, filter, chart, entry, placed),
         None => Ok(()),
     }
 }
 
 /// Writes the records of posts of these entries that are asked for.
 fn put_rows(
-    csv: bool,
     sheet: &mut Sheet,
     filter: PostFilter,
     chart: &Chart,
     entries: &[Entry],
     posts: &[PlacedPost],
 ) -> Result<(), AllocError>
-    ensures { OnOk result (AddsText csv (spec.rows_text csv filter chart.now entries.now posts.now) sheet.old.out sheet.new.out) }
+    ensures { OnOk result (sheet.new.out ≡ added sheet.old.out (spec.rows_text sheet.old.out.csv filter chart.now entries.now posts.now)) }
 {
     for post in posts {
-        put_placed_row(csv, sheet, filter, chart, entries, post)?;
+        put_placed_row(sheet, filter, chart, entries, post)?;
     }
     Ok(())
 }
 
 /// Writes the names of the columns, where records are written.
-fn put_head(csv: bool, out: &mut Writer<Vec<u8>>) -> Result<(), AllocError>
-    ensures { OnOk result (AddsText csv (head_text csv spec.head) out.old out.new) }
+fn put_head(out: &mut Rows) -> Result<(), AllocError>
+    ensures { OnOk result (out.new ≡ added out.old (head_text out.old.csv spec.head)) }
 {
-    if !csv {
-        return Ok(());
-    }
     let names: [&[u8]; 13] = [
         b"place",
         b"day",
@@ -261,7 +252,7 @@ fn put_head(csv: bool, out: &mut Writer<Vec<u8>>) -> Result<(), AllocError>
         b"account_name",
         b"amount",
     ];
-    put_row(out, csv, names.as_slice())
+    out.put_names(names.as_slice())
 }
 
 /// The records of posts of these entries that are asked for, below the names of the columns.
@@ -274,11 +265,10 @@ fn text_of_posts(
 ) -> Result<Vec<u8>, AllocError>
     ensures { IfOk result (λ v. v.items ≡ spec.text_of layout.csv filter chart.now entries.now posts.now) }
 {
-    let csv = layout.csv;
     let mut sheet = blank_sheet(layout);
-    put_head(csv, &mut sheet.out)?;
-    put_rows(csv, &mut sheet, filter, chart, entries, posts)?;
-    written(sheet.out, csv)
+    put_head(&mut sheet.out)?;
+    put_rows(&mut sheet, filter, chart, entries, posts)?;
+    sheet.out.into_text()
 }
 
 /// Opens the book of the journal on a disk, as `cf_book::open` does, with the posts of its entries, oldest first and those on

@@ -6,6 +6,7 @@ ghost use Rattle.cf_base.specs.declared.statement.Kind.TheVariants.{Budget};
 ghost use Rattle.cf_calls.specs.Form.{IsYear};
 ghost use Rattle.cf_text.specs.Records.{field_at};
 ghost use Rattle.cf_books_lists.specs.Records.{head_text, record_text};
+ghost use Rattle.cf_books_lists.specs.Rows.{added};
 ghost use Rattle.cf_books_lists.specs.Statement as spec;
 ghost use Rattle.cf_books_lists.specs.Statement.{AreOf};
 ghost use Rattle.cf_model.specs.Report.{report_rows, sums_of};
@@ -13,7 +14,7 @@ ghost use Rattle.cf_model.specs.Report.{report_rows, sums_of};
 use crate::lines::{later_of, part_and_years, part_name};
 use crate::names::department_name;
 use crate::open::{line_of, number_text};
-use crate::records::{Layout, put_names, put_record};
+use crate::rows::{Layout, Rows};
 use cf_base::{Kind, money_text};
 use cf_book::Book;
 use cf_calls::Row;
@@ -186,22 +187,17 @@ fn amount_text(alloc: Global, amounts: &[i128], place: usize) -> Result<String, 
     }
 }
 
-/// Appends the record of a row of one amount.
-fn put_single(
-    layout: Layout,
-    out: &mut Vec<u8>,
-    section: &[u8],
-    row: &Row,
-) -> Result<(), AllocError>
-    ensures { OnOk result (out.new.items ≡ out.old.items ++ record_text layout.csv (spec.single_fields section.now row.now)) }
+/// Writes the record of a row of one amount.
+fn put_single(alloc: Global, out: &mut Rows, section: &[u8], row: &Row) -> Result<(), AllocError>
+    ensures { OnOk result (out.new ≡ added out.old (record_text out.old.csv (spec.single_fields section.now row.now))) }
 {
-    let amount = amount_text(layout.alloc, row.amounts.as_slice(), 0)?;
+    let amount = amount_text(alloc, row.amounts.as_slice(), 0)?;
     let fields = [
         section,
         row.label.as_str().as_bytes(),
         amount.as_str().as_bytes(),
     ];
-    put_record(layout, out, fields.as_slice())
+    out.put(fields.as_slice())
 }
 
 /// The name of a row: that of its line's department, or else its own.
@@ -239,26 +235,26 @@ fn row_part_name<'a>(chart: &'a Chart, line: Option<&Line>) -> &'a str
     }
 }
 
-/// Appends the record of a row of the budgetary comparison.
+/// Writes the record of a row of the budgetary comparison.
 fn put_compared(
-    layout: Layout,
-    out: &mut Vec<u8>,
+    alloc: Global,
+    out: &mut Rows,
     chart: &Chart,
     section: &[u8],
     line: Option<u16>,
     row: &Row,
 ) -> Result<(), AllocError>
-    ensures { OnOk result (out.new.items ≡ out.old.items ++ record_text layout.csv (spec.compared_fields chart.now section.now line row.now)) }
+    ensures { OnOk result (out.new ≡ added out.old (record_text out.old.csv (spec.compared_fields chart.now section.now line row.now))) }
 {
     let amounts = row.amounts.as_slice();
-    let name = row_name(layout.alloc, chart, line_of(chart, line), row)?;
-    let number = number_text(layout.alloc, line)?;
-    let part = row_part(layout.alloc, chart, line_of(chart, line))?;
-    let adopted = amount_text(layout.alloc, amounts, 0)?;
-    let last = amount_text(layout.alloc, amounts, 1)?;
-    let actual = amount_text(layout.alloc, amounts, 2)?;
-    let on_order = amount_text(layout.alloc, amounts, 3)?;
-    let left = amount_text(layout.alloc, amounts, 4)?;
+    let name = row_name(alloc, chart, line_of(chart, line), row)?;
+    let number = number_text(alloc, line)?;
+    let part = row_part(alloc, chart, line_of(chart, line))?;
+    let adopted = amount_text(alloc, amounts, 0)?;
+    let last = amount_text(alloc, amounts, 1)?;
+    let actual = amount_text(alloc, amounts, 2)?;
+    let on_order = amount_text(alloc, amounts, 3)?;
+    let left = amount_text(alloc, amounts, 4)?;
     let fields = [
         section,
         name.as_slice(),
@@ -271,7 +267,7 @@ fn put_compared(
         on_order.as_str().as_bytes(),
         left.as_str().as_bytes(),
     ];
-    put_record(layout, out, fields.as_slice())
+    out.put(fields.as_slice())
 }
 
 /// The amounts of a function, interest or the total: a row of one amount has none of them.
@@ -288,22 +284,17 @@ fn single_amount(amounts: &[i128]) -> &[i128]
     if amounts.len() == 1 { amounts } else { &[] }
 }
 
-/// Appends the record of a row of the statement of activities.
-fn put_activity(
-    layout: Layout,
-    out: &mut Vec<u8>,
-    section: &[u8],
-    row: &Row,
-) -> Result<(), AllocError>
-    ensures { OnOk result (out.new.items ≡ out.old.items ++ record_text layout.csv (spec.activity_fields section.now row.now)) }
+/// Writes the record of a row of the statement of activities.
+fn put_activity(alloc: Global, out: &mut Rows, section: &[u8], row: &Row) -> Result<(), AllocError>
+    ensures { OnOk result (out.new ≡ added out.old (record_text out.old.csv (spec.activity_fields section.now row.now))) }
 {
     let program = program_amounts(row.amounts.as_slice());
-    let expenses = amount_text(layout.alloc, program, 0)?;
-    let charges = amount_text(layout.alloc, program, 1)?;
-    let operating = amount_text(layout.alloc, program, 2)?;
-    let capital = amount_text(layout.alloc, program, 3)?;
-    let net = amount_text(layout.alloc, program, 4)?;
-    let amount = amount_text(layout.alloc, single_amount(row.amounts.as_slice()), 0)?;
+    let expenses = amount_text(alloc, program, 0)?;
+    let charges = amount_text(alloc, program, 1)?;
+    let operating = amount_text(alloc, program, 2)?;
+    let capital = amount_text(alloc, program, 3)?;
+    let net = amount_text(alloc, program, 4)?;
+    let amount = amount_text(alloc, single_amount(row.amounts.as_slice()), 0)?;
     let fields = [
         section,
         row.label.as_str().as_bytes(),
@@ -314,45 +305,45 @@ fn put_activity(
         net.as_str().as_bytes(),
         amount.as_str().as_bytes(),
     ];
-    put_record(layout, out, fields.as_slice())
+    out.put(fields.as_slice())
 }
 
-/// Appends the record of a row in a section.
+/// Writes the record of a row in a section.
 fn put_fields(
-    layout: Layout,
-    out: &mut Vec<u8>,
+    alloc: Global,
+    out: &mut Rows,
     chart: &Chart,
     kind: ReportKind,
     section: &[u8],
     line: Option<u16>,
     row: &Row,
 ) -> Result<(), AllocError>
-    ensures { OnOk result (out.new.items ≡ out.old.items ++ record_text layout.csv (spec.fields_of chart.now kind section.now line row.now)) }
+    ensures { OnOk result (out.new ≡ added out.old (record_text out.old.csv (spec.fields_of chart.now kind section.now line row.now))) }
 {
     match kind {
-        ReportKind::Look(Kind::Budget) => put_compared(layout, out, chart, section, line, row),
-        ReportKind::Look(Kind::Activities) => put_activity(layout, out, section, row),
-        _ => put_single(layout, out, section, row),
+        ReportKind::Look(Kind::Budget) => put_compared(alloc, out, chart, section, line, row),
+        ReportKind::Look(Kind::Activities) => put_activity(alloc, out, section, row),
+        _ => put_single(alloc, out, section, row),
     }
 }
 
-/// Appends the record of a row, none of a heading.
+/// Writes the record of a row, none of a heading.
 fn put_row(
-    layout: Layout,
-    out: &mut Vec<u8>,
+    alloc: Global,
+    out: &mut Rows,
     chart: &Chart,
     kind: ReportKind,
     section: &[u8],
     line: Option<u16>,
     row: &Row,
 ) -> Result<(), AllocError>
-    ensures { OnOk result (out.new.items ≡ out.old.items ++ spec.row_text layout.csv chart.now kind section.now line row.now) }
+    ensures { OnOk result (out.new ≡ added out.old (spec.row_text out.old.csv chart.now kind section.now line row.now)) }
 {
     if row.amounts.as_slice().is_empty() {
         return Ok(());
     }
     put_fields(
-        layout,
+        alloc,
         out,
         chart,
         kind,
@@ -362,55 +353,47 @@ fn put_row(
     )
 }
 
-/// Appends the records of these rows, each with the section that it stands in and its control line.
+/// Writes the records of these rows, each with the section that it stands in and its control line.
 fn put_rows(
-    layout: Layout,
-    out: &mut Vec<u8>,
+    alloc: Global,
+    out: &mut Rows,
     chart: &Chart,
     kind: ReportKind,
     lines: &[Option<u16>],
     rows: &[Row],
 ) -> Result<(), AllocError>
-    ensures { OnOk result (out.new.items ≡ out.old.items ++ spec.rows_text layout.csv chart.now kind lines.now [] 0 rows.now) }
+    ensures { OnOk result (out.new ≡ added out.old (spec.rows_text out.old.csv chart.now kind lines.now [] 0 rows.now)) }
 {
     let mut section: &[u8] = b"";
     let mut place = 0;
     for row in rows {
-        put_row(
-            layout,
-            out,
-            chart,
-            kind,
-            section,
-            line_at(lines, place),
-            row,
-        )?;
+        put_row(alloc, out, chart, kind, section, line_at(lines, place), row)?;
         section = section_below(section, row);
         place += 1;
     }
     Ok(())
 }
 
-/// Appends the names of the columns.
-fn put_head(layout: Layout, out: &mut Vec<u8>, kind: ReportKind) -> Result<(), AllocError>
-    ensures { OnOk result (out.new.items ≡ out.old.items ++ head_text layout.csv (spec.head_of kind)) }
+/// Writes the names of the columns.
+fn put_head(out: &mut Rows, kind: ReportKind) -> Result<(), AllocError>
+    ensures { OnOk result (out.new ≡ added out.old (head_text out.old.csv (spec.head_of kind))) }
 {
     match kind {
-        ReportKind::Look(Kind::Budget) => put_comparison_head(layout, out),
-        ReportKind::Look(Kind::Activities) => put_activities_head(layout, out),
-        _ => put_single_head(layout, out),
+        ReportKind::Look(Kind::Budget) => put_comparison_head(out),
+        ReportKind::Look(Kind::Activities) => put_activities_head(out),
+        _ => put_single_head(out),
     }
 }
 
-fn put_single_head(layout: Layout, out: &mut Vec<u8>) -> Result<(), AllocError>
-    ensures { OnOk result (out.new.items ≡ out.old.items ++ head_text layout.csv spec.single_head) }
+fn put_single_head(out: &mut Rows) -> Result<(), AllocError>
+    ensures { OnOk result (out.new ≡ added out.old (head_text out.old.csv spec.single_head)) }
 {
     let names: [&[u8]; 3] = [b"section", b"name", b"amount"];
-    put_names(layout, out, names.as_slice())
+    out.put_names(names.as_slice())
 }
 
-fn put_comparison_head(layout: Layout, out: &mut Vec<u8>) -> Result<(), AllocError>
-    ensures { OnOk result (out.new.items ≡ out.old.items ++ head_text layout.csv spec.comparison_head) }
+fn put_comparison_head(out: &mut Rows) -> Result<(), AllocError>
+    ensures { OnOk result (out.new ≡ added out.old (head_text out.old.csv spec.comparison_head)) }
 {
     let names: [&[u8]; 10] = [
         b"section",
@@ -424,11 +407,11 @@ fn put_comparison_head(layout: Layout, out: &mut Vec<u8>) -> Result<(), AllocErr
         b"on_order",
         b"left",
     ];
-    put_names(layout, out, names.as_slice())
+    out.put_names(names.as_slice())
 }
 
-fn put_activities_head(layout: Layout, out: &mut Vec<u8>) -> Result<(), AllocError>
-    ensures { OnOk result (out.new.items ≡ out.old.items ++ head_text layout.csv spec.activities_head) }
+fn put_activities_head(out: &mut Rows) -> Result<(), AllocError>
+    ensures { OnOk result (out.new ≡ added out.old (head_text out.old.csv spec.activities_head)) }
 {
     let names: [&[u8]; 8] = [
         b"section",
@@ -440,7 +423,7 @@ fn put_activities_head(layout: Layout, out: &mut Vec<u8>) -> Result<(), AllocErr
         b"net_expense",
         b"amount",
     ];
-    put_names(layout, out, names.as_slice())
+    out.put_names(names.as_slice())
 }
 
 /// A statement of a book as records below the names of the columns.
@@ -455,17 +438,17 @@ fn records_text<D: Disk + Drop>(
 {
     let rows = rows_of(layout.alloc, book, year, kind)?;
     let lines = row_lines(layout.alloc, book.chart(), year, kind)?;
-    let mut out = Vec::new(layout.alloc);
-    put_head(layout, &mut out, kind)?;
+    let mut out = Rows::new(layout);
+    put_head(&mut out, kind)?;
     put_rows(
-        layout,
+        layout.alloc,
         &mut out,
         book.chart(),
         kind,
         lines.as_slice(),
         rows.as_slice(),
     )?;
-    Ok(out)
+    out.into_text()
 }
 
 /// A statement of a fiscal year from 1971 to 2199: its rows, which are those that `report` prints, as records. Each has the

@@ -1,11 +1,12 @@
-//! Texts of numbers and amounts that take no memory of their own.
+//! Texts of numbers and amounts.
 
-ghost use Rattle.std.specs.Prelude.{◌≡◌, ◌++◌, decimal, OnOk};
+ghost use Rattle.std.specs.Prelude.{◌≡◌, ◌++◌, decimal, IfOk, OnOk};
 ghost use Rattle.cf_base.specs.Amounts.{money_of, sign_text};
 ghost use Rattle.cf_books_lists.specs.Records as spec;
 
+use cf_members::parts::put_number;
 use itoa::Buffer;
-use std::alloc::AllocError;
+use std::alloc::{AllocError, Global};
 
 /// The digits of a number.
 pub fn digits(buffer: &mut Buffer, n: u64) -> &[u8]
@@ -44,4 +45,32 @@ pub fn put_money(out: &mut Vec<u8>, amount: i128) -> Result<(), AllocError>
     out.push(b'0' + (size % 100 / 10) as u8)?;
     out.push(b'0' + (size % 10) as u8)?;
     Ok(())
+}
+
+/// The digits of a number.
+pub fn decimal_text(alloc: Global, n: u64) -> Result<Vec<u8>, AllocError>
+    ensures { IfOk result (λ t. t.items ≡ decimal n) }
+{
+    let mut text = Vec::new(alloc);
+    put_number(&mut text, n)?;
+    Ok(text)
+}
+
+/// The digits of a number that was drawn, none where none was.
+pub fn drawn_text(alloc: Global, n: u64) -> Result<Vec<u8>, AllocError>
+    ensures { IfOk result (λ t. t.items ≡ spec.drawn_text n) }
+{
+    if n == 0 {
+        return Ok(Vec::new(alloc));
+    }
+    decimal_text(alloc, n)
+}
+
+/// Appends a text, a number and a text.
+pub fn put_between(out: &mut Vec<u8>, before: &str, n: u64, after: &str) -> Result<(), AllocError>
+    ensures { OnOk result (out.new.items ≡ out.old.items ++ (before.now ++ (decimal n ++ after.now))) }
+{
+    out.extend_from_slice(before.as_bytes())?;
+    put_number(out, n)?;
+    out.extend_from_slice(after.as_bytes())
 }

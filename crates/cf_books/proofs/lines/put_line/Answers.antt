@@ -16,4 +16,4 @@ returns c =
     let later : c.later_of.result ≡ later_of (fund_at chart line.fund) = c.later_of.ensures ∙ ap later_of c.fund.ensures in
     let part : c.as_slice-4.result.now ≡ part_and_years line (later_of (fund_at chart line.fund)) = c.as_slice-4.ensures.value ∙ c.in_ok-part.ensures ∙ ap (part_and_years line) later in
     let part_is : c.as_bytes-3.result.now ≡ part_name chart line.part = c.as_bytes-3.ensures.value ∙ c.part_name.ensures in
-    rw (← number, ← fund, ← fund_is, ← dept, ← dept_is, ← part, ← part_is) (rw c.as_slice-5.ensures at c.put_row.ensures)
+    rw (← number, ← fund, ← fund_is, ← dept, ← dept_is, ← part, ← part_is) (rw c.as_slice-5.ensures at c.put.ensures)

@@ -1,19 +1,19 @@
-use Rattle.std.proofs.Common.{arith, ◌≡◌, ◌<◌, ◌+◌, [], ◌∷◌, ◌++◌, ◌∙◌, Some, ap, refl, length, drop}
+use Rattle.std.proofs.Common.{arith, ◌≡◌, ◌<◌, ◌+◌, ◌∷◌, ◌∙◌, Some, ap, refl, length, drop}
 use Rattle.std.specs.Prelude.{slice_get}
-use Rattle.csv.specs.Writing.{row_text}
-use Rattle.cf_books.specs.Listing.{entry_row, entry_rows, header_rows}
+use Rattle.cf_books.specs.Listing.{entry_row, entry_rows, header}
 use Rattle.cf_books.specs.Payments.{amount_after, none_payable, payable_after}
-use Rattle.cf_books.specs.Rows.{setup, rows_text}
 use Rattle.cf_books.proofs.Noted.{knows_next, knows_small}
-use Rattle.cf_books.proofs.Steps.{drop-item, get-item, header_first, row_more}
+use Rattle.cf_books.proofs.Steps.{drop-item, get-item, row_added}
+use Rattle.cf_books_lists.specs.Records.{head_text, rows_text}
+use Rattle.cf_books_lists.specs.Rows.{Written, added}
 use Rattle.cf_books.proofs.listing.list_text.Goals as goal
 
 pub loop-entry-init : goal.loop-entry-init
 loop-entry-init c = record {
-  text = rows_text c.args.csv (header_rows c.args.csv);
   payable = none_payable;
-  wrote = c.in_ok-put_header.ensures [] c.writer-out.ensures;
-  rest = header_first c.args.csv (entry_rows none_payable 1 c.args.entries.now);
+  rest =
+      ap (λ (w : Written). added w (rows_text c.args.csv (entry_rows none_payable 1 c.args.entries.now)))
+      (c.in_ok-put_header.ensures ∙ ap (λ (w : Written). added w (head_text w.csv header)) c.new-out.ensures);
   knows = c.new-known.ensures c.args.entries.now;
   place = refl;
 }
@@ -34,14 +34,15 @@ loop-entry-preserved c =
     let found : slice_get entries n ≡ Some entry = ap (slice_get entries) inv.place ∙ get-item entries i entry below c.entry-item.is in
     let amount : c.amount-amount.result ≡ amount_after inv.payable entry.drawn entry.change.act = c.amount-amount.ensures inv.payable inv.knows in
     let next = payable_after inv.payable entry in
+    let out = c.loop-entry.out in
+    let csv_is : out.csv ≡ csv = ap (λ (w : Written). w.csv) inv.rest in
+    let later = entry_rows next (n + 1 + 1) (drop (i + 1) entries) in
     record {
-      text = inv.text ++ row_text (setup csv) (entry_row (n + 1) c.amount-amount.result entry);
       payable = next;
-      wrote = c.in_ok-put_entry.ensures inv.text inv.wrote;
       rest =
-          ap (λ a. (inv.text ++ row_text (setup csv) (entry_row (n + 1) a entry)) ++ rows_text csv (entry_rows next (n + 1 + 1) (drop (i + 1) entries))) amount
-          ∙ row_more csv inv.text (entry_row (n + 1) (amount_after inv.payable entry.drawn entry.change.act) entry) (entry_rows next (n + 1 + 1) (drop (i + 1) entries))
-          ∙ ap (λ es. inv.text ++ rows_text csv (entry_rows inv.payable (n + 1) es)) rest ∙ inv.rest;
+          row_added csv out c.put_entry.new.out (entry_row (n + 1) c.amount-amount.result entry) later csv_is c.in_ok-put_entry.ensures
+          ∙ ap (λ a. added out (rows_text csv (entry_row (n + 1) a entry ∷ later))) amount
+          ∙ ap (λ es. added out (rows_text csv (entry_rows inv.payable (n + 1) es))) rest ∙ inv.rest;
       knows = knows_next entries c.loop-entry.known c.note.new.self inv.payable entry n found inv.knows c.in_ok-note.ensures.vouchers c.in_ok-note.ensures.debts;
       place = omega arith;
     }

@@ -1,7 +1,8 @@
 use Rattle.std.proofs.Common.{◌≡◌, ◌∙◌, decimal}
 use Rattle.cf_base.specs.Calendar.{day_text}
 use Rattle.cf_call_text.specs.CallText.{call_word}
-use Rattle.cf_books.specs.Listing.{amount_text, drawn_text}
+use Rattle.cf_books.specs.Listing.{amount_text}
+use Rattle.cf_books_lists.specs.Records.{drawn_text}
 use Rattle.cf_books.proofs.listing.put_entry.Goals as goal
 
 pub returns : goal.returns
@@ -15,4 +16,4 @@ returns c =
     let amount : c.as_bytes-3.result.now ≡ amount_text c.args.amount = c.as_bytes-3.ensures.value ∙ c.as_str-2.ensures.value ∙ c.in_ok-amount.ensures in
     let number : c.as_slice-5.result.now ≡ drawn_text e.drawn.number = c.as_slice-5.ensures.value ∙ c.in_ok-number.ensures in
     let second : c.as_slice-6.result.now ≡ drawn_text e.drawn.second = c.as_slice-6.ensures.value ∙ c.in_ok-second.ensures in
-    rw (← at, ← day, ← desk, ← key, ← call, ← amount, ← number, ← second) (rw c.as_slice-7.ensures at c.put_row.ensures)
+    rw (← at, ← day, ← desk, ← key, ← call, ← amount, ← number, ← second) (rw c.as_slice-7.ensures at c.put.ensures)

@@ -15,4 +15,4 @@ returns c =
     let amount : c.as_bytes-4.result.now ≡ amount_text v.state = c.as_bytes-4.ensures.value ∙ c.as_str-3.ensures.value ∙ c.in_ok-amount.ensures in
     let bill : c.as_slice-4.result.now ≡ bill_text v.state = c.as_slice-4.ensures.value ∙ c.in_ok-bill.ensures in
     let left : c.as_bytes-5.result.now ≡ money v.left = c.as_bytes-5.ensures.value ∙ c.as_str-4.ensures.value ∙ c.in_ok-left.ensures in
-    rw (← number, ← day, ← year, ← eligible, ← share, ← state, ← amount, ← bill, ← left) (rw c.as_slice-5.ensures at c.put_record.ensures)
+    rw (← number, ← day, ← year, ← eligible, ← share, ← state, ← amount, ← bill, ← left) (rw c.as_slice-5.ensures at c.put.ensures)

@@ -25,4 +25,4 @@ returns c =
     let amount : c.as_bytes-5.result.now ≡ money_of (pos p.amount) = c.as_bytes-5.ensures.value ∙ c.as_str-2.ensures.value ∙ c.in_ok-amount.ensures in
     let next : c.as_slice-9.result.now ≡ next_text p.next = c.as_slice-9.ensures.value ∙ c.in_ok-next.ensures in
     let closed : c.as_slice-10.result.now ≡ [] = c.as_slice-10.ensures.value ∙ c.new-closed.ensures.items in
-    rw (← call, ← number, ← item, ← day, ← desk, ← key, ← party, ← year, ← line, ← fund, ← dept, ← amount, ← next) (rw (c.as_slice-11.ensures, closed) at c.put_record.ensures)
+    rw (← call, ← number, ← item, ← day, ← desk, ← key, ← party, ← year, ← line, ← fund, ← dept, ← amount, ← next) (rw (c.as_slice-11.ensures, closed) at c.put.ensures)

@@ -26,4 +26,4 @@ returns c =
     let name : c.as_slice-2.result.now ≡ account_text plan p.account = c.as_slice-2.ensures.value ∙ c.in_ok-make_texts.ensures.name in
     let amount : c.as_slice-3.result.now ≡ money_of p.amount = c.as_slice-3.ensures.value ∙ c.in_ok-make_texts.ensures.amount in
     rw (← at, ← day, ← desk, ← key, ← call, ← number, ← basis, ← year, ← fund, ← fund_is, ← account, ← name, ← amount)
-    (rw (c.as_slice-4.ensures, c.make_texts.ensures.out) at c.put_row.ensures)
+    (rw (c.as_slice-4.ensures, c.make_texts.ensures.out) at c.put.ensures)
