@@ -1,6 +1,6 @@
 """The tables of docs/CALLS.md are what the program reads: its changing calls and looks by their words, the fields of each in their order,
-with types, words and counts, as the source of crates/cf_json has them; and what the stored talks of examples/ accept is in the tables,
-with each call and each word of them in some talk.
+with types, words and counts, as the sources of crates/cf_calls (the table of calls) and crates/cf_json have them; and what the stored
+talks of examples/ accept is in the tables, with each call and each word of them in some talk.
 
     python3 tests/fields.py
 """
@@ -20,9 +20,9 @@ KINDS = dict(
 )
 
 
-def source(name):
+def source(name, crate="cf_json"):
     """A source file with each call on one line, whatever the layout."""
-    with open(os.path.join(TOP, "crates", "cf_json", "src", name), encoding="utf-8") as file:
+    with open(os.path.join(TOP, "crates", crate, "src", name), encoding="utf-8") as file:
         return re.sub(r",?\s*\)", ")", re.sub(r"\(\s+", "(", file.read()))
 
 
@@ -31,6 +31,9 @@ class Source:
 
     def __init__(self):
         self.words = source("words.rt")
+        rows = re.findall(r'(ActKind::\w+) => call\("(\w+)"', source("kind.rt", "cf_calls"))
+        self.changes = {word: kind for kind, word in rows}
+        assert rows and len(self.changes) == len(rows)
         self.bodies = {}
         for file in ("acts.rt", "looks.rt", "items.rt"):
             text = source(file)
@@ -79,7 +82,7 @@ class Source:
 
     def change(self, call, what):
         """The fields of a changing call, where it has words with one of them."""
-        arm = self.arm("acts.rt", "act_of", self.table("CHANGES")[call])
+        arm = self.arm("acts.rt", "act_of", self.changes[call])
         first = next(self.fields("acts.rt", arm))
         word = self.choice_of(arm)[what] if first.type == "choice" else None
         return tuple(self.fields("acts.rt", arm, word))
@@ -126,10 +129,10 @@ def shown(fields):
 
 def differences(said, program):
     """Where the tables and the source differ."""
-    for what, docs, words in ("changing calls", said, "CHANGES"), ("looks", dict(looks()), "LOOKS"):
-        for word in sorted(docs.keys() ^ program.table(words).keys()):
+    for what, docs, words in ("changing calls", said, program.changes), ("looks", dict(looks()), program.table("LOOKS")):
+        for word in sorted(docs.keys() ^ words.keys()):
             yield f"{what}: {word} stands in {'the tables' if word in docs else 'the source'} alone"
-    for call in said.keys() & program.table("CHANGES").keys():
+    for call in said.keys() & program.changes.keys():
         for what in words_of(said[call]):
             docs, own = with_word(said[call], what), program.change(call, what)
             if docs != own:

@@ -13,7 +13,7 @@ ghost use Rattle.cf_looks.specs.Posts.{Posts};
 use crate::reports::show_report;
 use cf_calls::{Body, Look, NameKind, Posted, Read, Refusal, Reply, Shown};
 use cf_history::History;
-use cf_rules::{ahead_rule, leave_fault};
+use cf_rules::{ahead_refusal, leave_refusal};
 use std::alloc::{AllocError, Global};
 
 /// The numbers of a line and year, or that there is no such line in the year.
@@ -60,7 +60,7 @@ fn show_numbered(
 fn show_leave(history: &History, fund: u16, dept: u16) -> Body
     ensures { result ≡ step.shown_of history.now.plan history.now.entries (Read.Leave fund dept) }
 {
-    match leave_fault(history.chart(), fund, dept) {
+    match leave_refusal(history.chart(), fund, dept) {
         Some(refusal) => Body::Refused(refusal),
         None => Body::Shown(Shown::Leave {
             left: history.debt().leave_of(fund, dept),
@@ -114,7 +114,7 @@ pub fn answer(alloc: Global, history: &History, look: &Look) -> Result<Body, All
     requires lent { LendsRead (has_line history.now.lines) look.now.read }
     ensures { IfOk result (λ b. b ≡ step.look_body history.now.plan history.now.entries look.now) }
 {
-    match ahead_rule(look.after, history.len()) {
+    match ahead_refusal(look.after, history.len()) {
         Some(refusal) => Ok(Body::Refused(refusal)),
         None => show(alloc, history, &look.read),
     }

@@ -96,7 +96,7 @@ fn least_excess(history: &History, changes: &[LineChange]) -> Option<Excess>
 }
 
 /// Too much is asked by an act's moves: the least line.
-fn moves_rule(history: &History, on: Day, act: &Act) -> Option<Refusal>
+fn moves_refusal(history: &History, on: Day, act: &Act) -> Option<Refusal>
     requires lent { LendsTouched history.now.plan (has_line history.now.lines) act.now }
     requires cleared { IsCleared history.now.plan (registers_of history.now.plan history.now.entries) on act.now }
     ensures { result ≡ spec.first_below
@@ -117,7 +117,7 @@ fn refusal_of(excess: Option<Excess>) -> Option<Refusal>
 }
 
 /// More is asked of a control line than it has room for (GASB Codification 1700: budgetary control).
-pub fn exceed_rule(history: &History, change: &Change) -> Option<Refusal>
+pub fn exceed_refusal(history: &History, change: &Change) -> Option<Refusal>
     requires lent { LendsTouched history.now.plan (has_line history.now.lines) change.now.act }
     requires legal { step.IsLegal history.now.plan history.now.entries }
     requires form { IsChangeInForm change.now }
@@ -126,10 +126,10 @@ pub fn exceed_rule(history: &History, change: &Change) -> Option<Refusal>
     ensures { result ≡ spec.exceed_refusal history.now.plan history.now.entries (results.entry_with (registers_of history.now.plan history.now.entries) change.now) }
 {
     if let Some(amendment) = change.act.amendment() {
-        return amendment_rule(history, amendment);
+        return amendment_refusal(history, amendment);
     }
     if let Some(transfer) = change.act.line_transfer() {
-        return transfer_rule(history, transfer);
+        return transfer_refusal(history, transfer);
     }
     if let Act::Close(_) = change.act {
         // What the roll of a year carries has as much appropriation, and all else that a close moves lowers.
@@ -137,10 +137,10 @@ pub fn exceed_rule(history: &History, change: &Change) -> Option<Refusal>
     }
     // So that the proof knows the chart's calendar.
     let _whole = history.chart();
-    moves_rule(history, change.on, &change.act)
+    moves_refusal(history, change.on, &change.act)
 }
 
-fn amendment_rule(history: &History, amendment: &Amendment) -> Option<Refusal>
+fn amendment_refusal(history: &History, amendment: &Amendment) -> Option<Refusal>
     requires line { amendment.now.line < length history.now.plan.lines }
     requires year { amendment.now.year < 2201 }
     requires lent { has_line history.now.lines amendment.now.line ≡ true }
@@ -152,7 +152,7 @@ fn amendment_rule(history: &History, amendment: &Amendment) -> Option<Refusal>
     line_refusal(amendment.line, asked, room)
 }
 
-fn transfer_rule(history: &History, transfer: &LineTransfer) -> Option<Refusal>
+fn transfer_refusal(history: &History, transfer: &LineTransfer) -> Option<Refusal>
     requires line { transfer.now.from < length history.now.plan.lines }
     requires year { transfer.now.year < 2201 }
     requires lent { has_line history.now.lines transfer.now.from ≡ true }

@@ -11,6 +11,6 @@ mod verdict;
 mod windows;
 
 pub use posting::{refusal_reply, repeat_reply};
-pub use register_names::leave_fault;
-pub use rules::ahead_rule;
+pub use register_names::leave_refusal;
+pub use rules::ahead_refusal;
 pub use verdict::judge;

@@ -11,7 +11,7 @@ ghost use Rattle.cf_model.specs.Receivables.{bill_at};
 ghost use Rattle.cf_model.specs.RegisterRules as spec;
 ghost use Rattle.cf_model.specs.Rules as rules;
 
-use crate::names::{account_fault_if, fund_fault, undrawn, unknown};
+use crate::names::{account_refusal_if, fund_refusal, undrawn, unknown};
 use crate::rules::or;
 use cf_assets::Assets;
 use cf_base::Day;
@@ -25,7 +25,7 @@ use cf_revenue::Revenue;
 use cf_rows::year_of_day;
 
 /// Refuses a department that isn't in the chart.
-pub fn dept_fault(chart: &Chart, dept: u16) -> Option<Refusal>
+pub fn dept_refusal(chart: &Chart, dept: u16) -> Option<Refusal>
     ensures { result ≡ spec.unknown_dept chart.now dept }
 {
     match chart.dept(dept) {
@@ -34,7 +34,7 @@ pub fn dept_fault(chart: &Chart, dept: u16) -> Option<Refusal>
     }
 }
 
-fn capital_fault(chart: &Chart, object: u16) -> Option<Refusal>
+fn capital_refusal(chart: &Chart, object: u16) -> Option<Refusal>
     ensures { result ≡ rules.unknown_if (not (charted.is_capital (object_at chart.now object))) NameKind.Object object }
 {
     if is_capital(chart, object) {
@@ -71,7 +71,7 @@ fn is_interest(chart: &Chart, object: u16) -> bool
     }
 }
 
-fn bill_fault(revenue: &Revenue, number: u32) -> Option<Refusal>
+fn bill_refusal(revenue: &Revenue, number: u32) -> Option<Refusal>
     ensures { result ≡ rules.unknown_if (not (is_some (bill_at number revenue.now.receivables.bills))) NameKind.Bill number }
 {
     match revenue.bill(number) {
@@ -80,7 +80,7 @@ fn bill_fault(revenue: &Revenue, number: u32) -> Option<Refusal>
     }
 }
 
-fn asset_fault(assets: &Assets, number: u32) -> Option<Refusal>
+fn asset_refusal(assets: &Assets, number: u32) -> Option<Refusal>
     ensures { result ≡ spec.unknown_asset assets.now.assets number }
 {
     match assets.asset(number) {
@@ -89,7 +89,7 @@ fn asset_fault(assets: &Assets, number: u32) -> Option<Refusal>
     }
 }
 
-fn bond_fault(debt: &Debt, number: u32) -> Option<Refusal>
+fn bond_refusal(debt: &Debt, number: u32) -> Option<Refusal>
     ensures { result ≡ spec.unknown_bond debt.now.debts.bonds number }
 {
     if debt.has_bond(number) {
@@ -111,7 +111,7 @@ fn payment_year(chart: &Chart, debt: &Debt, on: Day, bond: u32) -> u16
 }
 
 /// The account of a payment's principal, and then that of its interest, in a fiscal year.
-fn payment_fault(chart: &Chart, year: u16, payment: &DebtPayment) -> Option<Refusal>
+fn payment_refusal(chart: &Chart, year: u16, payment: &DebtPayment) -> Option<Refusal>
     ensures { result ≡ spec.unknown_payment chart.now year payment.now }
 {
     let fund = payment.fund;
@@ -119,7 +119,7 @@ fn payment_fault(chart: &Chart, year: u16, payment: &DebtPayment) -> Option<Refu
     let principal = payment.principal;
     let interest = payment.interest;
     or(
-        account_fault_if(
+        account_refusal_if(
             chart,
             is_principal(chart, principal),
             year,
@@ -127,7 +127,7 @@ fn payment_fault(chart: &Chart, year: u16, payment: &DebtPayment) -> Option<Refu
             dept,
             principal,
         ),
-        account_fault_if(
+        account_refusal_if(
             chart,
             is_interest(chart, interest),
             year,
@@ -139,49 +139,54 @@ fn payment_fault(chart: &Chart, year: u16, payment: &DebtPayment) -> Option<Refu
 }
 
 /// A fund and a department.
-pub fn leave_fault(chart: &Chart, fund: u16, dept: u16) -> Option<Refusal>
+pub fn leave_refusal(chart: &Chart, fund: u16, dept: u16) -> Option<Refusal>
     ensures { result ≡ rules.or_else (spec.unknown_fund chart.now fund) (spec.unknown_dept chart.now dept) }
 {
-    or(fund_fault(chart, fund), dept_fault(chart, dept))
+    or(fund_refusal(chart, fund), dept_refusal(chart, dept))
 }
 
-fn asset_act_fault(chart: &Chart, registers: &Registers, act: &AssetAct) -> Option<Refusal>
+fn asset_act_refusal(chart: &Chart, registers: &Registers, act: &AssetAct) -> Option<Refusal>
     ensures { (on : OnDay) → result ≡ spec.register_name_refusal chart.now registers.now.registers on (Act.Asset act.now) }
 {
     match act {
         AssetAct::Donate(gift) => or(
-            dept_fault(chart, gift.dept),
-            capital_fault(chart, gift.object),
+            dept_refusal(chart, gift.dept),
+            capital_refusal(chart, gift.object),
         ),
         AssetAct::Dispose(disposal) => or(
-            asset_fault(registers.assets(), disposal.asset),
-            fund_fault(chart, disposal.fund),
+            asset_refusal(registers.assets(), disposal.asset),
+            fund_refusal(chart, disposal.fund),
         ),
     }
 }
 
-fn leave_act_fault(chart: &Chart, registers: &Registers, on: Day, act: &LeaveAct) -> Option<Refusal>
+fn leave_act_refusal(
+    chart: &Chart,
+    registers: &Registers,
+    on: Day,
+    act: &LeaveAct,
+) -> Option<Refusal>
     requires { is_day on ≡ true }
     ensures { result ≡ spec.register_name_refusal chart.now registers.now.registers on (Act.Leave act.now) }
 {
     match act {
-        LeaveAct::Earn(leave) => leave_fault(chart, leave.fund, leave.dept),
-        LeaveAct::Use(leave) => leave_fault(chart, leave.fund, leave.dept),
+        LeaveAct::Earn(leave) => leave_refusal(chart, leave.fund, leave.dept),
+        LeaveAct::Use(leave) => leave_refusal(chart, leave.fund, leave.dept),
         LeaveAct::Mature(leave) => {
             let is_fit = is_current(chart, leave.object);
             let year = year_of_day(chart, on);
-            account_fault_if(chart, is_fit, year, leave.fund, leave.dept, leave.object)
+            account_refusal_if(chart, is_fit, year, leave.fund, leave.dept, leave.object)
         }
     }
 }
 
 /// The account of a lease in its fiscal year, which is of a capital object.
-fn leased_fault(chart: &Chart, on: Day, account: &AccountItem) -> Option<Refusal>
+fn leased_refusal(chart: &Chart, on: Day, account: &AccountItem) -> Option<Refusal>
     requires { is_day on ≡ true }
     ensures { result ≡ rules.unknown_account chart.now charted.is_capital (calendar.year_of_day chart.now on) account.now.fund account.now.dept account.now.object }
 {
     let is_fit = is_capital(chart, account.object);
-    account_fault_if(
+    account_refusal_if(
         chart,
         is_fit,
         year_of_day(chart, on),
@@ -192,7 +197,7 @@ fn leased_fault(chart: &Chart, on: Day, account: &AccountItem) -> Option<Refusal
 }
 
 /// The first name of an act on bills, assets, debt, leave or leases that there is nothing of.
-pub fn register_name_rule(
+pub fn register_name_refusal(
     chart: &Chart,
     registers: &Registers,
     on: Day,
@@ -202,20 +207,20 @@ pub fn register_name_rule(
     ensures { result ≡ spec.register_name_refusal chart.now registers.now.registers on act.now }
 {
     match act {
-        Act::Collect(part) => bill_fault(registers.revenue(), part.bill),
-        Act::WriteOff(part) => bill_fault(registers.revenue(), part.bill),
-        Act::Asset(asset) => asset_act_fault(chart, registers, asset),
-        Act::Issue(bond) => fund_fault(chart, bond.fund),
+        Act::Collect(part) => bill_refusal(registers.revenue(), part.bill),
+        Act::WriteOff(part) => bill_refusal(registers.revenue(), part.bill),
+        Act::Asset(asset) => asset_act_refusal(chart, registers, asset),
+        Act::Issue(bond) => fund_refusal(chart, bond.fund),
         Act::PayDue(payment) => or(
-            bond_fault(registers.debt(), payment.bond),
-            payment_fault(
+            bond_refusal(registers.debt(), payment.bond),
+            payment_refusal(
                 chart,
                 payment_year(chart, registers.debt(), on, payment.bond),
                 payment,
             ),
         ),
-        Act::Leave(leave) => leave_act_fault(chart, registers, on, leave),
-        Act::Lease(lease) => leased_fault(chart, on, &lease.account),
+        Act::Leave(leave) => leave_act_refusal(chart, registers, on, leave),
+        Act::Lease(lease) => leased_refusal(chart, on, &lease.account),
         _ => None,
     }
 }

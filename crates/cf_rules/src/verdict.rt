@@ -6,21 +6,22 @@ ghost use Rattle.cf_budget.specs.Tables.{has_line};
 ghost use Rattle.cf_calls.specs.Form.{IsChangeInForm};
 ghost use Rattle.cf_model.specs.Documents.{documents_of};
 ghost use Rattle.cf_registers.specs.Lines.{LendsTouched};
-ghost use Rattle.cf_model.specs.RegisterRules.{register_name_refusal};
+ghost use Rattle.cf_model.specs.RegisterRules as register;
 ghost use Rattle.cf_model.specs.Registers.{registers_of};
 ghost use Rattle.cf_model.specs.Rules as rules;
 ghost use Rattle.cf_model.specs.Step as step;
 ghost use Rattle.cf_registers.specs.RegistersState.{register_rules};
 
-use crate::cash::cash_rule;
-use crate::exceeds::exceed_rule;
-use crate::names::name_rule;
-use crate::register_names::register_name_rule;
+use crate::cash::cash_refusal;
+use crate::exceeds::exceed_refusal;
+use crate::names::name_refusal;
+use crate::register_names::register_name_refusal;
 use crate::rules::{
-    adopted_rule, ahead_rule, amount_rule, closed_rule, closing_rule, desk_rule, full_rule,
-    levy_rule, or, payment_rule, period_rule, role_rule, unadopted_rule, year_rule,
+    adopted_refusal, ahead_refusal, amount_refusal, closed_refusal, closing_refusal, desk_refusal,
+    full_refusal, levy_refusal, or, payment_refusal, period_refusal, role_refusal,
+    unadopted_refusal, year_refusal,
 };
-use crate::windows::window_rule;
+use crate::windows::window_refusal;
 use cf_calls::{Change, Refusal, Verdict};
 use cf_history::History;
 
@@ -29,8 +30,8 @@ fn first_rules(history: &History, change: &Change) -> Option<Refusal>
     ensures { result ≡ rules.first_of (step.first_rules history.now.plan history.now.entries change.now) }
 {
     or(
-        desk_rule(history.chart(), change.desk),
-        or(ahead_rule(change.after, history.len()), None),
+        desk_refusal(history.chart(), change.desk),
+        or(ahead_refusal(change.after, history.len()), None),
     )
 }
 
@@ -41,20 +42,20 @@ fn call_rules(history: &History, change: &Change) -> Option<Refusal>
 {
     let chart = history.chart();
     let act = &change.act;
-    if let Some(refusal) = role_rule(chart, change.desk, act) {
+    if let Some(refusal) = role_refusal(chart, change.desk, act) {
         return Some(refusal);
     }
-    if let Some(refusal) = full_rule(history.len()) {
+    if let Some(refusal) = full_refusal(history.len()) {
         return Some(refusal);
     }
-    if let Some(refusal) = amount_rule(act) {
+    if let Some(refusal) = amount_refusal(act) {
         return Some(refusal);
     }
-    if let Some(refusal) = name_rule(chart, history.orders(), change.on, act) {
+    if let Some(refusal) = name_refusal(chart, history.orders(), change.on, act) {
         return Some(refusal);
     }
     or(
-        register_name_rule(chart, history.registers(), change.on, act),
+        register_name_refusal(chart, history.registers(), change.on, act),
         None,
     )
 }
@@ -64,35 +65,35 @@ fn period_rules(history: &History, change: &Change) -> Option<Refusal>
     requires { IsChangeInForm change.now }
     ensures { result ≡ rules.first_of (step.period_rules history.now.plan history.now.entries change.now) }
 {
-    if let Some(refusal) = period_rule(history, change.on) {
+    if let Some(refusal) = period_refusal(history, change.on) {
         return Some(refusal);
     }
-    if let Some(refusal) = year_rule(history, change.on, &change.act) {
+    if let Some(refusal) = year_refusal(history, change.on, &change.act) {
         return Some(refusal);
     }
-    if let Some(refusal) = closing_rule(history, change.on, &change.act) {
+    if let Some(refusal) = closing_refusal(history, change.on, &change.act) {
         return Some(refusal);
     }
-    if let Some(refusal) = levy_rule(history, change.on, &change.act) {
+    if let Some(refusal) = levy_refusal(history, change.on, &change.act) {
         return Some(refusal);
     }
-    if let Some(refusal) = closed_rule(history, change.on, &change.act) {
+    if let Some(refusal) = closed_refusal(history, change.on, &change.act) {
         return Some(refusal);
     }
-    if let Some(refusal) = adopted_rule(history, &change.act) {
+    if let Some(refusal) = adopted_refusal(history, &change.act) {
         return Some(refusal);
     }
-    if let Some(refusal) = unadopted_rule(history, change.on, &change.act) {
+    if let Some(refusal) = unadopted_refusal(history, change.on, &change.act) {
         return Some(refusal);
     }
-    if let Some(refusal) = payment_rule(history, &change.act) {
+    if let Some(refusal) = payment_refusal(history, &change.act) {
         return Some(refusal);
     }
-    or(window_rule(history, change.on, &change.act), None)
+    or(window_refusal(history, change.on, &change.act), None)
 }
 
 /// The first broken rule of the registers.
-fn register_rule(history: &History, change: &Change) -> Option<Refusal>
+fn register_refusal(history: &History, change: &Change) -> Option<Refusal>
     requires { is_day change.now.on ≡ true }
     ensures { result ≡ rules.first_of (register_rules history.now.plan (registers_of history.now.plan history.now.entries) change.now.on change.now.desk change.now.act) }
 {
@@ -108,18 +109,18 @@ fn last_rules(history: &History, change: &Change) -> Option<Refusal>
     requires lent { LendsTouched history.now.plan (has_line history.now.lines) change.now.act }
     requires form { IsChangeInForm change.now }
     requires names { rules.name_refusal history.now.plan (documents_of history.now.plan history.now.entries) change.now.on change.now.act ≡ None }
-    requires register_names { register_name_refusal history.now.plan (registers_of history.now.plan history.now.entries) change.now.on change.now.act ≡ None }
+    requires register_names { register.register_name_refusal history.now.plan (registers_of history.now.plan history.now.entries) change.now.on change.now.act ≡ None }
     ensures { result ≡ rules.first_of (step.last_rules history.now.plan history.now.entries change.now) }
 {
     // So that the proof knows that the history is legal.
     let _chart = history.chart();
-    if let Some(refusal) = register_rule(history, change) {
+    if let Some(refusal) = register_refusal(history, change) {
         return Some(refusal);
     }
-    if let Some(refusal) = exceed_rule(history, change) {
+    if let Some(refusal) = exceed_refusal(history, change) {
         return Some(refusal);
     }
-    or(cash_rule(history, change.on, &change.act), None)
+    or(cash_refusal(history, change.on, &change.act), None)
 }
 
 /// The rules after a repeat, the least broken one first.

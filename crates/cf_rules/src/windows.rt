@@ -32,7 +32,7 @@ fn is_closed(history: &History, month: Month) -> bool
 }
 
 /// A year closes while what is collected can still be revenue of it.
-pub fn window_rule(history: &History, on: Day, act: &Act) -> Option<Refusal>
+pub fn window_refusal(history: &History, on: Day, act: &Act) -> Option<Refusal>
     requires { IsActInForm on act.now }
     ensures { result ≡ spec.window_refusal history.now.plan history.now.entries act.now }
 {

@@ -1,4 +1,4 @@
-use Rattle.std.proofs.Common.{◌≡◌, drop}
+use Rattle.std.proofs.Common.{◌≡◌, false, drop}
 use Rattle.cf_books.specs.Lines.{line_rows}
 use Rattle.cf_books_lists.specs.Records.{rows_text}
 use Rattle.cf_books_lists.specs.Rows.{added, none_written}
