@@ -9,7 +9,7 @@ use Rattle.cf_chart.specs.declared.fault.TableName.{TableName}
 use Rattle.cf_chart.specs.declared.fault.TableName.TheVariants as table
 use Rattle.cf_chart.specs.Faults.{Checked, word_of}
 use Rattle.cf_chart.specs.Reading.{value_of}
-use Rattle.cf_chart.specs.Values.{within}
+use Rattle.cf_books_grants.specs.FaultIds.{id_in}
 use Rattle.cf_books.specs.declared.fault_rows.FaultRow.{FaultRow}
 
 abbrev pub table_word : TableName → List ℕ
@@ -46,10 +46,6 @@ row_of (fault.Twice t at) = row_if true t at
 row_of _ = None
 
 -- ---- its id
-
--- the id of a row, where it is in form
-abbrev pub id_in : Data → Option ℕ
-id_in row = option_and_then (within 0 65535) (get (codes "id") row)
 
 abbrev pub id_at : FaultRow → Data → Option ℕ
 id_at row d = option_and_then id_in (option_and_then (item_at row.at) (get (table_word row.table) d))

@@ -3,9 +3,9 @@
 ghost use Rattle.std.specs.Prelude.{◌≡◌, IfOk};
 ghost use Rattle.toml.specs.View.{view};
 ghost use Rattle.cf_chart.specs.Reading.{value_of};
-ghost use Rattle.cf_chart.specs.Values as values;
 ghost use Rattle.cf_books.specs.FaultRows as spec;
 
+use cf_books_grants::id_in;
 use cf_chart::{ChartFault, KeyName, TableName};
 use std::alloc::{AllocError, Global};
 use toml::Value;
@@ -68,23 +68,6 @@ fn row_of(fault: ChartFault) -> Option<FaultRow>
         ChartFault::Missing { table, at, key } => row_if(is_beside_id(table, key), table, at),
         ChartFault::Bad { table, at, key } => row_if(is_beside_id(table, key), table, at),
         ChartFault::Twice { table, at } => row_if(true, table, at),
-        _ => None,
-    }
-}
-
-/// A number that isn't negative.
-fn natural(n: i64) -> Option<u64>
-    ensures { result ≡ values.natural n }
-{
-    u64::try_from(n).ok()
-}
-
-/// The id of a row, where it is in form.
-fn id_in(row: &Value) -> Option<u16>
-    ensures { result ≡ spec.id_in (view row.now) }
-{
-    match row.get("id")?.as_integer().and_then(natural) {
-        Some(id) if id <= 65_535 => Some(id as u16),
         _ => None,
     }
 }

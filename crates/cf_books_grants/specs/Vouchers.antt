@@ -1,6 +1,6 @@
 -- A row a voucher of a grant: its number, day and fiscal year, what is eligible of it and the grantor's share, how it stands, what can
 -- be claimed or which bill claims it, and what is then left of the award.
-use Rattle.std.specs.Prelude.{ℕ, ℤ, pos, Bool, List, [], ◌∷◌, ◌++◌, flat_map, codes, decimal}
+use Rattle.std.specs.Prelude.{ℕ, pos, Bool, List, [], ◌∷◌, ◌++◌, flat_map, codes, decimal}
 use Rattle.cf_base.specs.Amounts.{money_of}
 use Rattle.cf_base.specs.Calendar.{day_text}
 use Rattle.cf_claims.specs.declared.standing.ClaimState.{ClaimState}

@@ -36,14 +36,15 @@ fn place_of(fault: GrantFault) -> Option<u64>
     }
 }
 
+/// A number that isn't negative.
 fn natural(n: i64) -> Option<u64>
     ensures { result ≡ a_natural n }
 {
     u64::try_from(n).ok()
 }
 
-/// The id of a row, where it is in form.
-fn id_in(row: &Value) -> Option<u16>
+/// The id of a row of a document, 0 to 65535, where it is in form.
+pub fn id_in(row: &Value) -> Option<u16>
     ensures { result ≡ spec.id_in (view row.now) }
 {
     match row.get("id")?.as_integer().and_then(natural) {

@@ -1,4 +1,4 @@
-use Rattle.std.proofs.Common.{◌≡◌, ◌+◌, ◌++◌, drop}
+use Rattle.std.proofs.Common.{◌≡◌, ◌+◌, drop}
 use Rattle.cf_books.specs.Listing.{entry_rows, list_text}
 use Rattle.cf_books.specs.Payments.{Payable}
 use Rattle.cf_books.specs.Tables.{Knows}
