@@ -88,6 +88,6 @@ fn main(rt: HostRuntime) -> ExitCode {
         Err(error) => wordless(&error),
     };
     let mut err = StdSink::new(rt.stderr());
-    tell(rt.alloc(), &mut err, status);
+    let _ = tell(rt.alloc(), &mut err, status);
     ExitCode::from(status.code())
 }

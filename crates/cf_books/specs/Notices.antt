@@ -1,4 +1,4 @@
--- What is said on standard error.
+-- The exit code of the program, and what it says on standard error.
 use Rattle.std.specs.Prelude.{ℕ, zero, suc, ◌+◌, List, [], ◌∷◌, ◌++◌, slice_index_or, codes, decimal, Option, Some, None}
 use Rattle.cf_chart.specs.Faults.{word_of}
 use Rattle.cf_chart.specs.declared.fault.ChartFault.{ChartFault}
@@ -49,6 +49,18 @@ abbrev pub at_text : ℕ → List ℕ
 at_text offset = codes "damaged at " ++ (decimal offset ++ codes ": ")
 
 -- ---- what is said of each end
+
+abbrev pub code_of : Status → ℕ
+code_of Done = 0
+code_of BadWords = 2
+code_of (ChartRefused f id) = 3
+code_of ReadFault = 4
+code_of WriteFault = 5
+code_of (NotFounded len) = 7
+code_of (Damaged offset entry) = 9
+code_of NoMemory = 12
+code_of (Cut offset lost) = 13
+code_of (GrantsRefused f id) = 19
 
 abbrev pub status_text : Status → List ℕ
 status_text Done = []

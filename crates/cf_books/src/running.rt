@@ -1,14 +1,16 @@
 //! A run: the files' bytes, the answer, and what is said on standard error.
 
 ghost use Rattle.std.specs.Prelude.{◌≡◌, ◌≢◌, ◌⊎◌, false, Err, IfOk, OnOk};
+ghost use Rattle.std.specs.Io.KnownBytes.{Appends};
 ghost use Rattle.cf_base.specs.Causes.{Rose};
 ghost use Rattle.cf_books.specs.Answers as spec;
 ghost use Rattle.cf_books.specs.Answers.{Ends, IsBeside};
+ghost use Rattle.cf_books.specs.Notices.{notice_of};
 
 use crate::answers::answer_of;
 use crate::notices::put_notice;
 use crate::status::Status;
-use cf_base::{Sink, Source};
+use cf_base::{Failed, Sink, Source};
 use cf_books_words::Command;
 use cf_desk::{Unread, read_all, write_all};
 use std::alloc::Global;
@@ -74,10 +76,14 @@ pub fn run<S: Source, J: Source, K: Sink>(
     }
 }
 
-/// Says on standard error how a run ended, where there is something to say. A failure there is let be.
-pub fn tell<E: Sink>(alloc: Global, err: &mut E, status: Status) {
+/// Says how a run ended, in a line after the program's name. Where all went well nothing is said. `Failed` where a write
+/// fails, or there is no memory for the line.
+pub fn tell<E: Sink>(alloc: Global, err: &mut E, status: Status) -> Result<(), Failed>
+    ensures { OnOk result (Appends (E.held err.old) (E.held err.new) (notice_of status)) }
+{
     let mut notice = Vec::new(alloc);
-    if put_notice(&mut notice, status).is_ok() {
-        let _ = write_all(err, notice.as_slice());
+    match put_notice(&mut notice, status) {
+        Ok(()) => write_all(err, notice.as_slice()),
+        Err(_) => Err(Failed),
     }
 }

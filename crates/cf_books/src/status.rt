@@ -1,5 +1,8 @@
 //! How a run ends.
 
+ghost use Rattle.std.specs.Prelude.{◌≡◌};
+ghost use Rattle.cf_books.specs.Notices.{code_of};
+
 use cf_chart::ChartFault;
 use cf_grants::GrantFault;
 
@@ -56,7 +59,9 @@ pub enum Status {
 
 impl Status {
     /// The exit code of the program, which is that of `cityfund` where both end so.
-    pub fn code(self) -> u8 {
+    pub fn code(self) -> u8
+        ensures { result ≡ code_of self }
+    {
         match self {
             Status::Done => 0,
             Status::BadWords => 2,

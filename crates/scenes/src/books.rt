@@ -43,7 +43,7 @@ impl BooksRun {
 /// Prints an exit code, and what is said on standard error.
 pub fn print_status(rt: &impl Print, alloc: Global, status: Status) -> io::Result<()> {
     let mut err = MemSink::new(alloc);
-    tell(alloc, &mut err, status);
+    let _ = tell(alloc, &mut err, status);
     let notice = str::from_utf8(err.bytes()).unwrap_or("no text");
     match notice.trim_end() {
         "" => println!(rt; "  {}", status.code()),
