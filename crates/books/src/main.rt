@@ -26,7 +26,7 @@ books claims GRANT [FILE] [--csv]
 books --help                prints this
 books --version             prints the version
 
-list, posts, balances, open and statement print records below a row of names with --csv.
+list, posts, balances, open, statement and claims print records below a row of names with --csv.
 Each command only reads. docs/BOOKS.md says how a run ends, and what to do then.
 ";
 
