@@ -25,7 +25,7 @@ use Rattle.cf_model.specs.Documents.{is_number}
 use Rattle.cf_model.specs.RegisterRules.{voided_asset, disposed_asset, asset_refusal}
 use Rattle.cf_model.specs.Registers.{Registers, no_registers}
 use Rattle.cf_model.specs.Rules.{Amount, amount, bad_amount, first_refusal, refuse_if, or_else}
-use Rattle.cf_rows.specs.Limits.{most_cents}
+use Rattle.cf_base.specs.Limits.{most_cents}
 
 -- registers with these assets
 with_assets : Register → Registers

@@ -4,7 +4,7 @@ use Rattle.std.proofs.lemmas.List.Sums.{sum_by-cons}
 use Rattle.cf_rows.specs.Years.{AreYears, cell_of, with_cell}
 use Rattle.cf_rows.proofs.Cells.{year_is, years_same, years_set}
 use Rattle.cf_model.specs.Assets.{Asset}
-use Rattle.cf_rows.specs.Limits.{most_cents}
+use Rattle.cf_base.specs.Limits.{most_cents}
 
 -- ---- sums
 

@@ -7,7 +7,7 @@ use Rattle.cf_assets.specs.Rows.{view_asset, AreSmall}
 use Rattle.cf_model.specs.Assets.{Asset, Stage, held, void, disposed, counted, depreciated, depreciation, charge}
 use Rattle.cf_model.proofs.CloseBounds.{depreciated_most}
 use Rattle.cf_model.proofs.Depreciated.{depreciated_le, not_depreciated}
-use Rattle.cf_rows.specs.Limits.{most_cents}
+use Rattle.cf_base.specs.Limits.{most_cents}
 
 pub fits : (cost life months : ℕ) → cost ≤ most_cents → life < 65536 → cost * min months life < 18446744073709551616
 fits cost life months l m = omega (arith, mul-le cost (min months life) most_cents 65535 l (omega arith))

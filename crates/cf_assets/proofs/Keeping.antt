@@ -18,7 +18,8 @@ use Rattle.cf_rows.proofs.Cells.{years_same}
 use Rattle.cf_assets.proofs.Charging.{not_yet, never_falls, total_next, total_first, total_most}
 use Rattle.cf_model.specs.Assets.{Asset, held, counted, depreciated, depreciation, charge, Origin, purchase, gift, lease, voucher_of, is_given}
 use Rattle.cf_model.specs.Changes.{is_void, is_disposed_in}
-use Rattle.cf_rows.specs.Limits.{most_cents, most_items, most_total}
+use Rattle.cf_base.specs.Limits.{most_cents}
+use Rattle.cf_rows.specs.Limits.{most_items, most_total}
 
 pub less_or_not : (a b : ℕ) → (a < b) ⊎ (b ≤ a)
 less_or_not a b = grind arith

@@ -26,7 +26,7 @@ use Rattle.cf_model.specs.Rules.{first_refusal, refuse_if}
 use Rattle.cf_model.proofs.First.{or_else_none, refuse_none}
 use Rattle.cf_model.proofs.Lawful.{passed}
 use Rattle.cf_model.proofs.Totals.{all_so}
-use Rattle.cf_rows.specs.Limits.{most_cents}
+use Rattle.cf_base.specs.Limits.{most_cents}
 
 -- ---- sums that a step leaves, or that new assets leave
 

@@ -8,7 +8,7 @@ use Rattle.cf_model.specs.Assets.{Asset, void, disposed, voucher_of}
 use Rattle.cf_model.specs.Documents.{is_number}
 use Rattle.cf_model.specs.Months.{number_of_day}
 use Rattle.cf_model.specs.RegisterRules.{voided_asset}
-use Rattle.cf_rows.specs.Limits.{most_cents}
+use Rattle.cf_base.specs.Limits.{most_cents}
 
 -- no amount is above the largest one
 abbrev pub AreMost : List VoucherItem → Type 0

@@ -1,7 +1,7 @@
 //! Depreciation of assets, and what the close of a month charges.
 
 ghost use Rattle.std.specs.Prelude.{◌≡◌, ◌≤◌, ◌<◌, ◌+◌, ℕ, map, sum_by, length, slice_index_or, ◌==◌, ◌^◌, if◌then◌else◌, true, MatchOption, replicate};
-ghost use Rattle.cf_base.specs.Limits.{most_entries};
+ghost use Rattle.cf_base.specs.Limits.{most_entries, most_cents};
 ghost use Rattle.cf_chart.specs.Rising.{is_rising};
 ghost use Rattle.cf_chart.specs.declared.rows.Function.{Function as FunctionRow};
 ghost use Rattle.cf_model.specs.Assets as spec;
@@ -10,7 +10,7 @@ ghost use Rattle.cf_assets.specs.Charges.{charge_in, of_kind};
 ghost use Rattle.cf_assets.specs.Rows.{view_asset, AreRows};
 ghost use Rattle.cf_assets.specs.Serving.{ServeAll};
 ghost use Rattle.cf_assets.specs.Charges.{AreCharges, HasNot, StandsAt};
-ghost use Rattle.cf_rows.specs.Limits.{most_cents, most_items, most_total};
+ghost use Rattle.cf_rows.specs.Limits.{most_items, most_total};
 
 use crate::rows::{Acquired, AssetRow, StageNow};
 use cf_chart::Function;

@@ -3,7 +3,7 @@
 ghost use Rattle.std.specs.Prelude.{◌≡◌, ◌≤◌, ◌<◌, ◌+◌, ◌∷◌, ◌++◌, ℕ, [], true, is_some, length, sum_by, slice_index_or, OnOk, IfSome, option_map, option_to_list, ◌==◌, vec_len};
 ghost use Rattle.std.specs.List.{filter};
 ghost use Rattle.std.specs.Vec.{vec_capacity};
-ghost use Rattle.cf_base.specs.Limits.{last_fiscal_year, most_entries};
+ghost use Rattle.cf_base.specs.Limits.{last_fiscal_year, most_entries, most_cents};
 ghost use Rattle.cf_chart.specs.Rising.{is_rising};
 ghost use Rattle.cf_assets.specs.Charges.{AreCharges, charge_in, of_kind};
 ghost use Rattle.cf_assets.specs.Inventory.{AreCheap, AreNumbered, StagesOne, accumulated_at};
@@ -12,7 +12,7 @@ ghost use Rattle.cf_assets.specs.declared.rows.Acquired.TheVariants.{Given, Leas
 ghost use Rattle.cf_assets.specs.Inventory as spec;
 ghost use Rattle.cf_model.specs.Assets.{Asset, held, void, disposed, depreciation, voucher_of};
 ghost use Rattle.cf_model.specs.RegisterRules.{asset_at};
-ghost use Rattle.cf_rows.specs.Limits.{most_cents, most_items, most_total};
+ghost use Rattle.cf_rows.specs.Limits.{most_items, most_total};
 
 use crate::charges::{
     MOST_FUNCTIONS, depreciation_of, function_charges, leased_charge, total_charge,

@@ -11,7 +11,7 @@ ghost use Rattle.cf_model.specs.Registers.{Registers};
 ghost use Rattle.cf_model.specs.RegisterRules as spec;
 ghost use Rattle.cf_model.specs.RegisterRules.{asset_refusal};
 ghost use Rattle.cf_model.specs.Rules.{first_refusal};
-ghost use Rattle.cf_rows.specs.Limits.{most_cents};
+ghost use Rattle.cf_base.specs.Limits.{most_cents};
 
 use crate::assets::Assets;
 use crate::charges::{depreciation_of, is_leased};

@@ -9,7 +9,7 @@ ghost use Rattle.cf_assets.specs.Rows.{view_asset, view_origin};
 ghost use Rattle.cf_assets.specs.declared.rows.Acquired.TheVariants.{Bought};
 ghost use Rattle.cf_assets.specs.Inventory.{StagesOne};
 ghost use Rattle.cf_base.specs.Calendar.{is_day};
-ghost use Rattle.cf_base.specs.Limits.{last_fiscal_year, most_entries};
+ghost use Rattle.cf_base.specs.Limits.{last_fiscal_year, most_entries, most_cents};
 ghost use Rattle.cf_model.specs.Assets as spec;
 ghost use Rattle.cf_calls.specs.Form.{IsLeaseForm};
 ghost use Rattle.cf_model.specs.Assets.{void, new_asset, bought, life_of, leased_life, voucher_of};
@@ -21,7 +21,7 @@ ghost use Rattle.cf_model.specs.RegisterRules as rules;
 ghost use Rattle.cf_model.specs.Rules.{first_refusal};
 ghost use Rattle.cf_base.specs.declared.calendar.Day.{Day};
 ghost use Rattle.cf_chart.specs.Plan.{object_at};
-ghost use Rattle.cf_rows.specs.Limits.{most_cents, most_items};
+ghost use Rattle.cf_rows.specs.Limits.{most_items};
 
 use crate::assets::Assets;
 use crate::inventory::{Inventory, accumulated_after};

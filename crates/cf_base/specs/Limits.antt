@@ -12,3 +12,7 @@ last_fiscal_year = 2200
 -- the most entries that a history may have (own rule)
 abbrev pub most_entries : ℕ
 most_entries = 1500000
+
+-- the most cents of one amount (own rule)
+abbrev pub most_cents : ℕ
+most_cents = 10000000000000

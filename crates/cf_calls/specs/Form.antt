@@ -5,7 +5,7 @@ use Rattle.cf_base.specs.declared.calendar.Day.{Day}
 use Rattle.cf_base.specs.declared.calendar.Month.{Month}
 use Rattle.cf_base.specs.Calendar.{is_day}
 use Rattle.cf_base.specs.Money.{is_amount}
-use Rattle.cf_base.specs.Limits.{last_year}
+use Rattle.cf_base.specs.Limits.{last_year, most_cents}
 use Rattle.cf_calls.specs.declared.acts.Act.{Act}
 use Rattle.cf_calls.specs.declared.acts.Act.TheVariants.{Adopt, Amend, Transfer, Requisition, Order, ChangeOrder, Voucher, Pay, Bill, Collect, Receive, WriteOff, Asset, Issue, PayDue, Leave, Interfund, Close, Lease}
 use Rattle.cf_calls.specs.declared.acts.Adoption.{Adoption}
@@ -170,7 +170,7 @@ IsCallInForm (call.Look l) = IsReadInForm l.read
 -- the amounts of an act keep the limits: from 1 to 10^13 cents each, for a signed change its size, and for proceeds and
 -- principals at most 10^13
 abbrev pub is_most : ℕ → Bool
-is_most n = nat_le n 10000000000000
+is_most n = nat_le n most_cents
 
 abbrev pub IsWithinLimits : Act → Type 0
 IsWithinLimits (Adopt a) = (list_all (λ x. is_amount x.amount) a.lines ≡ true) × (list_all (λ x. is_amount x.amount) a.estimates ≡ true)

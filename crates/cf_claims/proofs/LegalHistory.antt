@@ -2,6 +2,7 @@
 use Rattle.std.proofs.Common.{◌≡◌, ℕ, ◌+◌, ◌*◌, ◌<◌, ◌≤◌, ◌^◌, true, ◌&&◌, nat_lt, if◌then◌else◌, List, [], ◌∷◌, ◌++◌, length, map, None, sum_by, refl, subst, ap, ◌∙◌, arith, lt-ltb}
 use Rattle.std.specs.List.{AllByRecursion}
 use Rattle.std.proofs.lemmas.List.Sums.{sum_by-cons}
+use Rattle.cf_base.specs.Limits.{most_cents}
 use Rattle.cf_calls.specs.Acts.{voucher_items}
 use Rattle.cf_calls.specs.Form.{IsActInForm}
 use Rattle.cf_calls.specs.declared.acts.Act.{Act}
@@ -27,7 +28,7 @@ use Rattle.cf_model.proofs.Tidy.{documents_push}
 
 -- amounts that aren't refused
 items_small : (items : List VoucherItem) → first_refusal bad_amount (map (λ i. amount i.account.amount) items) ≡ None
-    → sum_by (λ (i : VoucherItem). i.account.amount) items ≤ length items * 10000000000000
+    → sum_by (λ (i : VoucherItem). i.account.amount) items ≤ length items * most_cents
 items_small [] none = omega arith
 items_small (i ∷ items) none =
     let both = or_else_none (bad_amount (amount i.account.amount)) (first_refusal bad_amount (map (λ i. amount i.account.amount) items)) none in

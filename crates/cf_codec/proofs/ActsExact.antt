@@ -4,6 +4,7 @@ use Rattle.std.specs.Prelude.{⊤, nat_lt, find, is_some, unwrap_or, unsigned_ab
 use Rattle.std.specs.List.{AllByRecursion, list_all}
 use Rattle.std.proofs.lemmas.Bool.{leb-true, le-leb, lt-ltb, and_parts, eqb-true, eqb-false, ne_eqb, not-true}
 use Rattle.std.proofs.lemmas.List.{length-append}
+use Rattle.cf_base.specs.Limits.{most_cents}
 use Rattle.cf_base.specs.declared.calendar.Day.{Day}
 use Rattle.cf_base.specs.Money.{is_amount}
 use Rattle.cf_calls.specs.declared.acts.Act.{Act}
@@ -61,7 +62,7 @@ kind-exact = converted-exact kind_value kind_code byte Any Any byte-exact (λ k 
 
 by_is : (z : ℤ) → is_amount (unsigned_abs z) ≡ true → is_by z ≡ true
 by_is (pos n) e = refl
-by_is (negsuc n) e = let most : suc n ≤ 10000000000000 = leb-true (suc n) 10000000000000 (and_parts (leb 1 (suc n)) (leb (suc n) 10000000000000) e).1 in lt-ltb n 9223372036854775807 (omega arith)
+by_is (negsuc n) e = let most : suc n ≤ most_cents = leb-true (suc n) most_cents (and_parts (leb 1 (suc n)) (leb (suc n) most_cents) e).1 in lt-ltb n 9223372036854775807 (omega arith)
 
 other_than-exact : (n : ℕ) → IsWhole (other_than n) (λ m. n ≢ m)
 other_than-exact n =

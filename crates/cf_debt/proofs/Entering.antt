@@ -20,7 +20,7 @@ use Rattle.cf_model.specs.Bonds.{Bond, Due, coupon, dues, dues_from}
 use Rattle.cf_model.specs.Calendar.{year_of_day}
 use Rattle.cf_model.specs.Months.{number_of_day}
 use Rattle.cf_model.proofs.Debt.{early_dues}
-use Rattle.cf_rows.specs.Limits.{most_cents}
+use Rattle.cf_base.specs.Limits.{most_cents}
 
 months_between : (n : ℕ) → is_period n ≡ true → IsCount 1 12 n
 months_between n e = record { from = grind (arith, common_steps); to = grind (arith, common_steps) }

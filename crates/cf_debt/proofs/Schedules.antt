@@ -8,7 +8,7 @@ use Rattle.cf_debt.specs.declared.rows.Payment.{Payment}
 use Rattle.cf_debt.specs.Rows.{IsBond, IsSmallDue, schedule, view_bond, view_payment, view_payments}
 use Rattle.cf_debt.proofs.Lists.{map-push}
 use Rattle.cf_model.specs.Bonds.{Bond, Due, dues, dues_from, next_due}
-use Rattle.cf_rows.specs.Limits.{most_cents}
+use Rattle.cf_base.specs.Limits.{most_cents}
 
 pub length_dues : (every from owed : ℕ) (principals : List ℕ) → length (dues_from every from owed principals) ≡ length principals
 length_dues every from owed [] = refl

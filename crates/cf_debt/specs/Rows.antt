@@ -6,7 +6,7 @@ use Rattle.cf_debt.specs.declared.rows.LeaveRow.{LeaveRow}
 use Rattle.cf_debt.specs.declared.rows.Payment.{Payment}
 use Rattle.cf_model.specs.Bonds.{Bond, Due, dues}
 use Rattle.cf_model.specs.Leave.{LeaveChange}
-use Rattle.cf_rows.specs.Limits.{most_cents}
+use Rattle.cf_base.specs.Limits.{most_cents}
 
 abbrev pub view_payment : Payment → Due
 view_payment p = record { from = p.from; month = p.month; owed = p.owed; principal = p.principal }

@@ -3,7 +3,7 @@
 ghost use Rattle.std.specs.Prelude.{◌≡◌, ◌≤◌, ◌<◌, ◌+◌, ◌∷◌, ◌++◌, ℕ, [], length, None, true, false, map, slice_index_or, slice_set};
 ghost use Rattle.std.specs.Vec.{vec_capacity};
 ghost use Rattle.cf_base.specs.Calendar.{is_day};
-ghost use Rattle.cf_base.specs.Limits.{last_fiscal_year, most_entries};
+ghost use Rattle.cf_base.specs.Limits.{last_fiscal_year, most_entries, most_cents};
 ghost use Rattle.cf_calls.specs.Form.{IsCallMonth, IsIssueForm};
 ghost use Rattle.cf_calls.specs.declared.acts.Act.TheVariants as act;
 ghost use Rattle.cf_debt.specs.Register.{HasRoomToIssue, HasRoomForLeave, unpaid_of};
@@ -19,7 +19,6 @@ ghost use Rattle.cf_model.specs.Leave.{leave_of};
 ghost use Rattle.cf_model.specs.Months.{number_of_day};
 ghost use Rattle.cf_model.specs.RegisterRules.{month_at};
 ghost use Rattle.cf_model.specs.Rules.{first_refusal};
-ghost use Rattle.cf_rows.specs.Limits.{most_cents};
 
 use crate::debt::{Debt, interest_of, leave_key};
 use crate::interest::coupon;

@@ -1,7 +1,7 @@
 -- Stripes at rest, and stripes that were taken and owe nothing.
 use Rattle.std.proofs.Common.{◌≡◌, ℕ, ◌<◌, true, false, List, [], Option, Some, None, is_some, refl, sym, ap, subst, ◌∙◌}
+use Rattle.std.specs.Prelude.{unwrap_or}
 use Rattle.atomic_table.specs.Seated.{TableId}
-use Rattle.cf_rows.specs.Pairs.{or_else}
 use Rattle.cf_budget.specs.Tables.{Table, Tables, table_of, row_at, row_in, zero_row, value_on}
 use Rattle.cf_budget.proofs.Rows.{plus_zero}
 use Rattle.cf_chart.specs.Plan.{Plan}
@@ -13,7 +13,7 @@ use Rattle.cf_hall.specs.TakenState.{IsTakenStripe, AreTakenStripes}
 
 -- the row of a line is that of its stripe's table
 row_there : (lines : Tables) (k : ℕ) (rows : Table) (line year : ℕ) → table_of lines k ≡ Some rows → stripe_of line ≡ k → row_at lines line year ≡ row_in rows line year
-row_there lines k rows line year is at = ap (λ (o : Option Table). or_else zero_row (value_on o line year)) (ap (table_of lines) at ∙ is)
+row_there lines k rows line year is at = ap (λ (o : Option Table). unwrap_or (value_on o line year) zero_row) (ap (table_of lines) at ∙ is)
 
 module _ (table : TableId) (plan : Plan) where
   taken_one : (lines : Tables) (k : ℕ) (o : Option Table) (t : Option PassState) → table_of lines k ≡ o → IsStripe table plan k o t → (p : PassState) → t ≡ Some p → IsTakenStripe table plan k lines [] p

@@ -1,5 +1,5 @@
 -- The office's state, but for line numbers, as contracts see it.
-use Rattle.std.specs.Prelude.{◌≡◌, ◌≤◌, ◌<◌, ℕ, Bool, true, if◌then◌else◌, List, length, Option, Some, None, IfSome}
+use Rattle.std.specs.Prelude.{◌≡◌, ◌≤◌, ◌<◌, ℕ, Bool, true, if◌then◌else◌, List, length, Option, Some, None, IfSome, unwrap_or}
 use Rattle.std.specs.Vec.{vec_len, vec_capacity}
 use Rattle.cf_base.specs.Limits.{last_fiscal_year, most_entries}
 use Rattle.cf_calls.specs.declared.acts.Act.{Act}
@@ -8,7 +8,7 @@ use Rattle.cf_calls.specs.declared.entry.Entry.{Entry}
 use Rattle.cf_calls.specs.declared.read.Basis.TheVariants.{Fund, Gov}
 use Rattle.cf_calls.specs.Acts.{adopts, adoption_of}
 use Rattle.cf_calls.specs.Same.{same_key}
-use Rattle.cf_rows.specs.Pairs.{Pairs, value_of, has_value, or_else}
+use Rattle.cf_rows.specs.Pairs.{Pairs, value_of, has_value}
 use Rattle.cf_model.specs.Calendar.{open_year}
 use Rattle.cf_model.specs.Registers.{registers_of}
 use Rattle.cf_model.specs.Results.{results_of}
@@ -32,7 +32,7 @@ has_budget table (Some a) = has_value table a.fund a.year
 -- each fund's budget of a year reads as before, or this place where the act adopts it
 abbrev pub PutsBudget : Pairs ℕ → Pairs ℕ → Act → ℕ → Type 0
 PutsBudget old new act place =
-    (fund year : ℕ) → or_else 0 (value_of new fund year) ≡ (if adopts fund year act then place else or_else 0 (value_of old fund year))
+    (fund year : ℕ) → unwrap_or (value_of new fund year) 0 ≡ (if adopts fund year act then place else unwrap_or (value_of old fund year) 0)
 
 -- the memory of an entry is taken
 pub record IsReady (a : Inside) (e : Entry) : Type 0 where
@@ -49,7 +49,7 @@ pub record StandsForHistory (a : Inside) : Type 0 where
   pub legal : IsLegal a.chart a.entries.items
   pub few : length a.entries.items ≤ most_entries
   pub known : (desk : ℕ) (key : List ℕ) → place_of (key_number a.known desk key) ≡ place_from 1 (λ e. same_key desk key e.change) a.entries.items
-  pub adopted : (fund year : ℕ) → place_of (or_else 0 (value_of a.adopted.entries fund year)) ≡ adopted_at fund year a.entries.items
+  pub adopted : (fund year : ℕ) → place_of (unwrap_or (value_of a.adopted.entries fund year) 0) ≡ adopted_at fund year a.entries.items
   pub results : a.results.items ≡ results_of a.chart a.entries.items
   pub registers : a.registers.registers ≡ registers_of a.chart a.entries.items
   pub taken : HaveTaken (length a.entries.items) a.registers

@@ -1,6 +1,6 @@
 //! The office's state but for line numbers: the history, and what is looked up in it.
 
-ghost use Rattle.std.specs.Prelude.{◌≡◌, ◌<◌, ◌≤◌, ◌+◌, ◌-◌, slice_get, ◌++◌, ◌∷◌, [], true, ℕ, All, length, vec_len, vec_capacity, None, Some, IsSome, IfSome, OnOk, OnErr};
+ghost use Rattle.std.specs.Prelude.{◌≡◌, ◌<◌, ◌≤◌, ◌+◌, ◌-◌, slice_get, ◌++◌, ◌∷◌, [], true, ℕ, All, length, vec_len, vec_capacity, None, Some, IsSome, IfSome, OnOk, OnErr, unwrap_or};
 ghost use Rattle.std.specs.Option.{option_copied};
 ghost use Rattle.cf_calls.specs.Acts.{adoption_of};
 ghost use Rattle.cf_calls.specs.Form.{IsYear};
@@ -11,7 +11,7 @@ ghost use Rattle.cf_model.specs.Calendar as calendar;
 ghost use Rattle.cf_model.specs.Deeds.{deeds_of};
 ghost use Rattle.cf_model.specs.Registers.{registers_of};
 ghost use Rattle.cf_model.specs.Results as results;
-ghost use Rattle.cf_rows.specs.Pairs.{value_of, or_else, ReadsSame};
+ghost use Rattle.cf_rows.specs.Pairs.{value_of, ReadsSame};
 ghost use Rattle.cf_model.specs.Postings.{act_posts, balance_of};
 ghost use Rattle.cf_model.specs.Estimates.{estimate};
 ghost use Rattle.cf_model.specs.ReconShown.{recon_shown};
@@ -419,7 +419,7 @@ fn place_or_none(place: u64) -> Option<u64>
 }
 
 fn adopted_place(adopted: &BTreeMap<NumberPair, u64>, fund: u16, year: u16) -> Option<u64>
-    ensures { result ≡ place_of (or_else 0 (value_of adopted.now.entries fund year)) }
+    ensures { result ≡ place_of (unwrap_or (value_of adopted.now.entries fund year) 0) }
 {
     let place = value_in(
         adopted,

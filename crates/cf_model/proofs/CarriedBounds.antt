@@ -4,6 +4,7 @@ use Rattle.std.specs.List.{AllByRecursion}
 use Rattle.std.proofs.lemmas.Int.{ints}
 use Rattle.std.proofs.lemmas.List.{length-map}
 use Rattle.std.proofs.lemmas.List.Sums.{sum_by-cons}
+use Rattle.cf_base.specs.Limits.{most_cents, most_entries}
 use Rattle.cf_calls.specs.declared.acts.Act.{Act}
 use Rattle.cf_calls.specs.declared.acts.Act.TheVariants.{Order, ChangeOrder, CancelOrder, Voucher, VoidVoucher, Close}
 use Rattle.cf_calls.specs.declared.entry.Entry.{Entry}
@@ -48,14 +49,14 @@ open_base i = by_test (is_live i) i.base (liquidated_sum i.taken)
     by_test true x y = omega arith
     by_test false x y = omega arith
 
-shifted_most : (n : ℕ) (by : ℤ) → unsigned_abs by ≤ 10000000000000 → shifted n by ≤ n + 10000000000000
+shifted_most : (n : ℕ) (by : ℤ) → unsigned_abs by ≤ most_cents → shifted n by ≤ n + most_cents
 shifted_most n (pos m) l = l_sum n m l
   where
-    l_sum : (n m : ℕ) → m ≤ 10000000000000 → n + m ≤ n + 10000000000000
+    l_sum : (n m : ℕ) → m ≤ most_cents → n + m ≤ n + most_cents
     l_sum n m l = omega (arith, l)
 shifted_most n (negsuc m) l = below n (pos n +ℤ negsuc m) (omega (arith, ints))
   where
-    below : (n : ℕ) (z : ℤ) → z ≤ℤ pos n → nonnegative z ≤ n + 10000000000000
+    below : (n : ℕ) (z : ℤ) → z ≤ℤ pos n → nonnegative z ≤ n + most_cents
     below n (pos k) l = omega (arith, ints, l)
     below n (negsuc k) l = omega arith
 
@@ -64,21 +65,21 @@ if_base true i j most k l = l
 if_base false i j most k l = k
 
 -- an act raises the base of an item by at most the greatest amount
-step_base : (plan : Plan) (number : ℕ) (act : Act) (i : OrderItem) → amount_refusal act ≡ None → (item_step plan number act i).base ≤ i.base + 10000000000000
+step_base : (plan : Plan) (number : ℕ) (act : Act) (i : OrderItem) → amount_refusal act ≡ None → (item_step plan number act i).base ≤ i.base + most_cents
 step_base plan number (ChangeOrder c) i none =
-    if_base (is_named c.order c.item i && is_live i) i (record i { base = shifted i.base c.by }) (i.base + 10000000000000) (omega arith)
+    if_base (is_named c.order c.item i && is_live i) i (record i { base = shifted i.base c.by }) (i.base + most_cents) (omega arith)
     (shifted_most i.base c.by (small (unsigned_abs c.by) (or_else_none (bad_amount (amount (unsigned_abs c.by))) None none).0))
-step_base plan number (CancelOrder n) i none = if_base ((i.order == n) && is_live i) i (record i { stage = cancelled }) (i.base + 10000000000000) (omega arith) (omega arith)
+step_base plan number (CancelOrder n) i none = if_base ((i.order == n) && is_live i) i (record i { stage = cancelled }) (i.base + most_cents) (omega arith) (omega arith)
 step_base plan number (Voucher v) i none = omega (arith, charges_base number v.items i)
 step_base plan number (VoidVoucher n) i none = omega arith
 step_base plan number (Close p) i none =
-    if_base (rolls plan i.year (Close p) && is_live i) i (rolled plan i) (i.base + 10000000000000) (omega arith)
-    (if_base (lapses plan i) (record i { year = i.year + 1; base = open_of i; taken = [] }) (record i { stage = lapsed }) (i.base + 10000000000000) (omega (arith, open_base i)) (omega arith))
+    if_base (rolls plan i.year (Close p) && is_live i) i (rolled plan i) (i.base + most_cents) (omega arith)
+    (if_base (lapses plan i) (record i { year = i.year + 1; base = open_of i; taken = [] }) (record i { stage = lapsed }) (i.base + most_cents) (omega (arith, open_base i)) (omega arith))
 step_base plan number _ i none = omega arith
 
 -- ---- all items of a history
 
-items_low : (order vendor year place : ℕ) (accounts : List AccountItem) (most : ℕ) → first_refusal bad_amount (map (λ i. amount i.amount) accounts) ≡ None → 10000000000000 ≤ most → AllByRecursion (λ i. i.base ≤ most) (items_from order vendor year place accounts)
+items_low : (order vendor year place : ℕ) (accounts : List AccountItem) (most : ℕ) → first_refusal bad_amount (map (λ i. amount i.amount) accounts) ≡ None → most_cents ≤ most → AllByRecursion (λ i. i.base ≤ most) (items_from order vendor year place accounts)
 items_low order vendor year place [] most none l = tt
 items_low order vendor year place (a ∷ accounts) most none l =
     let both = or_else_none (bad_amount (amount a.amount)) (first_refusal bad_amount (map (λ i. amount i.amount) accounts)) none in
@@ -88,7 +89,7 @@ items_many : (order vendor year place : ℕ) (accounts : List AccountItem) → l
 items_many order vendor year place [] = refl
 items_many order vendor year place (a ∷ accounts) = ap suc (items_many order vendor year (place + 1) accounts)
 
-new_low : (order year : ℕ) (act : Act) (most : ℕ) → amount_refusal act ≡ None → 10000000000000 ≤ most → AllByRecursion (λ i. i.base ≤ most) (items_by order year act)
+new_low : (order year : ℕ) (act : Act) (most : ℕ) → amount_refusal act ≡ None → most_cents ≤ most → AllByRecursion (λ i. i.base ≤ most) (items_by order year act)
 new_low order year (Order o) most none l = items_low order o.vendor year 1 o.items most none l
 new_low order year _ most none l = tt
 
@@ -98,7 +99,7 @@ new_many order year on _ form = omega arith
 
 -- the items of a history of so many entries
 pub record AreLow (plan : Plan) (h : List Entry) : Type 0 where
-  pub bases : AllByRecursion (λ i. i.base ≤ length h * 10000000000000) (documents_of plan h).items
+  pub bases : AllByRecursion (λ i. i.base ≤ length h * most_cents) (documents_of plan h).items
   pub few : length (documents_of plan h).items ≤ length h * 32
 
 low_push : (plan : Plan) (h : List Entry) (e : Entry) → AreLow plan h → Adds plan h e → AreLow plan (h ++ e ∷ [])
@@ -110,10 +111,10 @@ low_push plan h e are adds =
     let pushed : (documents_of plan (h ++ e ∷ [])).items ≡ map (item_step plan number e.change.act) items ++ items_by number year e.change.act = ap (λ (s : Documents). s.items) (documents_push plan no_documents h e) in
     let more : length (h ++ e ∷ []) ≡ length h + 1 = length-append h (e ∷ []) in
     record {
-      bases = subst (λ (xs : List OrderItem). AllByRecursion (λ i. i.base ≤ length (h ++ e ∷ []) * 10000000000000) xs) (sym pushed)
-          (all_append (λ i. i.base ≤ length (h ++ e ∷ []) * 10000000000000) (map (item_step plan number e.change.act) items) (items_by number year e.change.act)
-          (all_map (λ i. i.base ≤ length h * 10000000000000) (λ i. i.base ≤ length (h ++ e ∷ []) * 10000000000000) (item_step plan number e.change.act) (λ i l. omega (arith, l, more, step_base plan number e.change.act i a.amounts)) items are.bases)
-          (new_low number year e.change.act (length (h ++ e ∷ []) * 10000000000000) a.amounts (omega (arith, more))));
+      bases = subst (λ (xs : List OrderItem). AllByRecursion (λ i. i.base ≤ length (h ++ e ∷ []) * most_cents) xs) (sym pushed)
+          (all_append (λ i. i.base ≤ length (h ++ e ∷ []) * most_cents) (map (item_step plan number e.change.act) items) (items_by number year e.change.act)
+          (all_map (λ i. i.base ≤ length h * most_cents) (λ i. i.base ≤ length (h ++ e ∷ []) * most_cents) (item_step plan number e.change.act) (λ i l. omega (arith, l, more, step_base plan number e.change.act i a.amounts)) items are.bases)
+          (new_low number year e.change.act (length (h ++ e ∷ []) * most_cents) a.amounts (omega (arith, more))));
       few = rw (pushed, length-append (map (item_step plan number e.change.act) items) (items_by number year e.change.act), length-map items (item_step plan number e.change.act))
           (omega (arith, more, are.few, new_many number year e.change.on e.change.act adds.form.act));
     }
@@ -139,7 +140,7 @@ carried_low plan line year act (i ∷ items) all = by_test (rolls plan i.year ac
     by_test true rest = rw (sum_by-cons (amount_on plan line year) carry (carried_of plan act items)) (omega (arith, rest, at_most (counts plan line year i.account (i.year + 1))))
     by_test false rest = omega (arith, rest)
 
-weaker : (n : ℕ) (items : List OrderItem) → n ≤ 1500000 → AllByRecursion (λ i. i.base ≤ n * 10000000000000) items → AllByRecursion (λ i. i.base ≤ 15000000000000000000) items
+weaker : (n : ℕ) (items : List OrderItem) → n ≤ most_entries → AllByRecursion (λ i. i.base ≤ n * most_cents) items → AllByRecursion (λ i. i.base ≤ 15000000000000000000) items
 weaker n [] l all = tt
 weaker n (i ∷ items) l all = (omega (arith, l, all.0), weaker n items l all.1)
 
@@ -159,7 +160,7 @@ carried_step plan h e low adds =
     }
 
 -- what was carried into a line and year
-pub carried_small : (plan : Plan) (h : List Entry) → IsLegal plan h → length h ≤ 1500000 → (line year : ℕ) → carried_sum plan line year (carried_in plan h) < 2 ^ 110
+pub carried_small : (plan : Plan) (h : List Entry) → IsLegal plan h → length h ≤ most_entries → (line year : ℕ) → carried_sum plan line year (carried_in plan h) < 2 ^ 110
 carried_small plan h legal few line year =
     let low : IsCarriedLow plan h = legal_induction plan (IsCarriedLow plan) (record { items = record { bases = tt; few = omega arith }; carried = λ l y. omega arith }) (carried_step plan) h legal in
     omega (arith, few, low.carried line year)

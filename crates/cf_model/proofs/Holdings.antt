@@ -3,6 +3,7 @@ use Rattle.std.proofs.Common.{◌≡◌, ℕ, zero, suc, ◌+◌, ◌-◌, ◌*�
 use Rattle.std.specs.List.{AllByRecursion}
 use Rattle.std.proofs.lemmas.Grind.{common_steps}
 use Rattle.std.proofs.lemmas.List.{length-map}
+use Rattle.cf_base.specs.Limits.{most_cents}
 use Rattle.cf_base.specs.declared.calendar.Day.{Day}
 use Rattle.cf_calls.specs.declared.acts.Act.{Act}
 use Rattle.cf_calls.specs.declared.acts.Act.TheVariants as act
@@ -36,7 +37,7 @@ use Rattle.cf_model.proofs.Tidy.{all_append, all_map}
 -- ---- assets
 
 abbrev pub IsLowCost : Asset → Type 0
-IsLowCost a = a.cost ≤ 10000000000000
+IsLowCost a = a.cost ≤ most_cents
 
 cost_kept : (plan : Plan) (closed : ℕ) (on : Day) (a : Act) (x : Asset) → IsLowCost x → IsLowCost (asset_step plan closed on a x)
 cost_kept plan closed on (act.VoidVoucher n) x l = by_test (is_number (voucher_of x.origin) n)
@@ -58,7 +59,7 @@ bought_low plan voucher on year number (i ∷ items) none =
     let both = or_else_none (bad_amount (amount i.account.amount)) (first_refusal bad_amount (map (λ i. amount i.account.amount) items)) none in
     by_test (is_capital (object_at plan i.account.object)) (small i.account.amount both.0) (bought_low plan voucher on year (number + 1) items both.1) (bought_low plan voucher on year number items both.1)
   where
-    by_test : (b : Bool) → i.account.amount ≤ 10000000000000 → AllByRecursion IsLowCost (bought plan voucher on year (number + 1) items) → AllByRecursion IsLowCost (bought plan voucher on year number items) →
+    by_test : (b : Bool) → i.account.amount ≤ most_cents → AllByRecursion IsLowCost (bought plan voucher on year (number + 1) items) → AllByRecursion IsLowCost (bought plan voucher on year number items) →
         AllByRecursion IsLowCost (if b then new_asset plan (purchase voucher) on year number i.account.dept (life_of plan i.account.object) i.account.amount ∷ bought plan voucher on year (number + 1) items else bought plan voucher on year number items)
     by_test true l next stay = (l, next)
     by_test false l next stay = stay
@@ -91,7 +92,7 @@ new_few plan on _ drawn form = omega arith
 -- a bond as the rules of form and the rule on amounts leave it
 pub record IsLowBond (b : Bond) : Type 0 where
   pub terms : IsSmallBond b
-  pub principals : AllByRecursion (λ (p : ℕ). p ≤ 10000000000000) b.principals
+  pub principals : AllByRecursion (λ (p : ℕ). p ≤ most_cents) b.principals
 
 bond_kept : (a : Act) (b : Bond) → IsLowBond b → IsLowBond (bond_step a b)
 bond_kept (act.PayDue p) b low = by_test (b.number == p.bond)
@@ -102,13 +103,13 @@ bond_kept (act.PayDue p) b low = by_test (b.number == p.bond)
     by_test false = low
 bond_kept _ b low = low
 
-principals_low : (principals : List ℕ) → first_refusal bad_amount (map amount_or_none principals) ≡ None → AllByRecursion (λ (p : ℕ). p ≤ 10000000000000) principals
+principals_low : (principals : List ℕ) → first_refusal bad_amount (map amount_or_none principals) ≡ None → AllByRecursion (λ (p : ℕ). p ≤ most_cents) principals
 principals_low [] none = tt
 principals_low (p ∷ principals) none =
     let both = or_else_none (bad_amount (amount_or_none p)) (first_refusal bad_amount (map amount_or_none principals)) none in
     (at_most p both.0, principals_low principals both.1)
   where
-    at_most : (p : ℕ) → bad_amount (amount_or_none p) ≡ None → p ≤ 10000000000000
+    at_most : (p : ℕ) → bad_amount (amount_or_none p) ≡ None → p ≤ most_cents
     at_most p e = let b = refuse_none _ (refusal.AmountRange p) e in grind arith
 
 period_most : (n : ℕ) → is_period n ≡ true → n ≤ 12

@@ -1,5 +1,6 @@
 -- The state of a legal history is sound.
 use Rattle.std.proofs.Common.{◌≤◌, List, length}
+use Rattle.cf_base.specs.Limits.{most_entries}
 use Rattle.cf_calls.specs.declared.entry.Entry.{Entry}
 use Rattle.cf_chart.specs.Plan.{Plan}
 use Rattle.cf_model.specs.State.{IsSoundState}
@@ -10,7 +11,7 @@ use Rattle.cf_model.proofs.Lawful.{IsWhole}
 use Rattle.cf_model.proofs.LegalReconciled.{changes_at_each, reconciles_at_each}
 use Rattle.cf_model.proofs.Room.{room_always}
 
-pub sound_state : (plan : Plan) (history : List Entry) → IsWhole plan → IsLegal plan history → length history ≤ 1500000 → IsSoundState (record { plan = plan; entries = history })
+pub sound_state : (plan : Plan) (history : List Entry) → IsWhole plan → IsLegal plan history → length history ≤ most_entries → IsSoundState (record { plan = plan; entries = history })
 sound_state plan history whole legal few = record {
   legal = legal;
   few = few;

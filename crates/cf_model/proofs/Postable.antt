@@ -2,6 +2,7 @@
 use Rattle.std.proofs.Common.{ℕ, ◌≤◌, ◌<◌, ◌^◌, ◌==◌, Bool, not, List, [], ◌∷◌, map, length, All, Option, Some, None, arith}
 use Rattle.std.specs.List.{filter, AllByRecursion}
 use Rattle.std.proofs.lemmas.List.Elements.{All-from_recursion}
+use Rattle.cf_base.specs.Limits.{most_entries, most_cents}
 use Rattle.cf_base.specs.declared.calendar.Day.{Day}
 use Rattle.cf_calls.specs.declared.acts.Act.{Act}
 use Rattle.cf_calls.specs.declared.acts.Act.TheVariants.{Voucher, VoidVoucher, Pay, Bill, Collect, Receive, WriteOff, Asset, Issue, PayDue, Leave, Interfund, Close, Lease}
@@ -63,18 +64,18 @@ abbrev amortized_to : Plan → Registers → Function → Deed
 amortized_to plan s f = deed.Amortize (record { year = year_at plan s.closed; function = f.id; amount = function_charge s.closed (leased s.assets) f.id })
 
 -- what is charged to a function for some of the assets
-charge_most : (s : Registers) (k function : ℕ) (p : CapitalAsset → Bool) → AreHoldings s k → k ≤ 1500000 → function_charge s.closed (filter p s.assets) function < 2 ^ 127
+charge_most : (s : Registers) (k function : ℕ) (p : CapitalAsset → Bool) → AreHoldings s k → k ≤ most_entries → function_charge s.closed (filter p s.assets) function < 2 ^ 127
 charge_most s k function p are few =
-    omega (arith, function_most s.closed function 10000000000000 (filter p s.assets) (all_filter IsLowCost p s.assets are.costs), filter_le p s.assets, are.few_assets, few)
+    omega (arith, function_most s.closed function most_cents (filter p s.assets) (all_filter IsLowCost p s.assets are.costs), filter_le p s.assets, are.few_assets, few)
 
-charges : (plan : Plan) (s : Registers) (k : ℕ) → AreHoldings s k → k ≤ 1500000 → ArePostable (close_deeds plan s)
+charges : (plan : Plan) (s : Registers) (k : ℕ) → AreHoldings s k → k ≤ most_entries → ArePostable (close_deeds plan s)
 charges plan s k are few =
     all_append IsPostable (map (depreciated_to plan s) plan.functions) _
     (all_new IsPostable (depreciated_to plan s) (λ f. charge_most s k f.id (λ a. not (is_leased a.origin)) are few) plan.functions)
     (all_append IsPostable (map (amortized_to plan s) plan.functions) _ (all_new IsPostable (amortized_to plan s) (λ f. charge_most s k f.id (λ a. is_leased a.origin) are few) plan.functions)
     (omega (arith, bonds_most s.closed s.bonds (all_so IsLowBond IsSmallBond (λ b low. low.terms) s.bonds are.bonds), are.few_bonds, few), tt))
 
-each : (plan : Plan) (s : Registers) (k : ℕ) (on : Day) (act : Act) → AreHoldings s k → k ≤ 1500000 → ArePostable (deeds_of plan s on act)
+each : (plan : Plan) (s : Registers) (k : ℕ) (on : Day) (act : Act) → AreHoldings s k → k ≤ most_entries → ArePostable (deeds_of plan s on act)
 each plan s k on (Voucher v) are few = all_new IsPostable (λ i. deed.Voucher (spent_item plan (document_year plan on (Voucher v)) i.account)) (λ i. tt) v.items
 each plan s k on (VoidVoucher n) are few = all_new IsPostable (λ x. deed.VoidVoucher (spent_item plan x.year x.account)) (λ x. tt) (spent_by n s.documents.expenditures)
 each plan s k on (Pay p) are few = payments (year_of_day plan on) s.documents.expenditures p.vouchers
@@ -104,6 +105,6 @@ each plan s k on (Close (period.Year y)) are few = tt
 each plan s k on _ are few = tt
 
 -- the deeds of any act over a legal history fit
-pub postable : (plan : Plan) (h : List Entry) (on : Day) (act : Act) → IsLegal plan h → length h ≤ 1500000 → All IsPostable (deeds_of plan (registers_of plan h) on act)
+pub postable : (plan : Plan) (h : List Entry) (on : Day) (act : Act) → IsLegal plan h → length h ≤ most_entries → All IsPostable (deeds_of plan (registers_of plan h) on act)
 postable plan h on act legal few =
     All-from_recursion IsPostable (deeds_of plan (registers_of plan h) on act) (each plan (registers_of plan h) (length h) on act (are_held plan h legal) few)

@@ -1,5 +1,6 @@
 -- A legal history is sound.
 use Rattle.std.proofs.Common.{◌≤◌, ◌+◌, List, ◌∷◌, ◌++◌, [], length, length-append, ◌≡◌, arith}
+use Rattle.cf_base.specs.Limits.{most_entries}
 use Rattle.cf_calls.specs.declared.entry.Entry.{Entry}
 use Rattle.cf_chart.specs.Plan.{Plan}
 use Rattle.cf_model.specs.State.{IsSoundState}
@@ -12,7 +13,7 @@ use Rattle.cf_model.proofs.Legal.{legal_push}
 use Rattle.cf_model.proofs.LegalReconciled.{changes_at_each, reconciles_at_each}
 use Rattle.cf_model.proofs.Room.{room_always}
 
-pub legal_sound : (plan : Plan) (h : List Entry) → IsWhole plan → IsLegal plan h → length h ≤ 1500000 → IsSoundState (record { plan = plan; entries = h })
+pub legal_sound : (plan : Plan) (h : List Entry) → IsWhole plan → IsLegal plan h → length h ≤ most_entries → IsSoundState (record { plan = plan; entries = h })
 legal_sound plan h whole legal few = record {
   legal = legal;
   few = few;

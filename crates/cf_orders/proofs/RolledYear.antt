@@ -19,7 +19,7 @@ use Rattle.cf_orders.proofs.Closing.{lapse_of, roll_of}
 use Rattle.cf_orders.proofs.Lists.{map_each}
 use Rattle.cf_orders.proofs.Ranges.{changed_extents}
 use Rattle.cf_orders.proofs.Rolled.{Keeps, ended_keeps, lapses_seen, rolls_seen, view_carried}
-use Rattle.cf_rows.specs.Limits.{most_cents}
+use Rattle.cf_base.specs.Limits.{most_cents}
 
 -- rows that were all changed
 pub record IsChangedWhole {R : Type 0} (f : R → R) (old new : List R) : Type 0 where

@@ -3,7 +3,7 @@
 ghost use Rattle.std.specs.Prelude.{◌≡◌, ◌≤◌, ◌<◌, ◌+◌, ◌-◌, ◌∷◌, ◌++◌, [], length, None, true, vec_len, slice_index_or, slice_set};
 ghost use Rattle.std.specs.Vec.{vec_capacity};
 ghost use Rattle.cf_base.specs.Calendar.{is_day};
-ghost use Rattle.cf_base.specs.Limits.{most_entries};
+ghost use Rattle.cf_base.specs.Limits.{most_entries, most_cents};
 ghost use Rattle.cf_calls.specs.Form.{IsYear};
 ghost use Rattle.cf_calls.specs.declared.acts.Act.TheVariants as act;
 ghost use Rattle.cf_model.specs.Receivables.{bills_by, settlements_by, loans_by, repayments_by, owed};
@@ -12,7 +12,6 @@ ghost use Rattle.cf_revenue.specs.Register.{IsBillLevied, HasRoomToMove, HasRoom
 ghost use Rattle.cf_revenue.specs.Rows.{view_loan, view_settlement};
 ghost use Rattle.cf_revenue.specs.Steps.{CanSettle, lowered};
 ghost use Rattle.cf_revenue.specs.declared.rows.BillRow.{BillRow as Row};
-ghost use Rattle.cf_rows.specs.Limits.{most_cents};
 
 use crate::revenue::{Revenue, owed_key};
 use crate::rows::{BillRow, LoanRow, SettlementRow};

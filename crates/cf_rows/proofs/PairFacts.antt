@@ -1,5 +1,6 @@
 -- Tables that differ at two numbers.
 use Rattle.std.proofs.Common.{◌≡◌, ℕ, Bool, true, false, if◌then◌else◌, ◌==◌, ◌&&◌, Option, Some, None, is_some, refl, sym, ap, ◌∙◌, arith}
+use Rattle.std.specs.Prelude.{unwrap_or}
 use Rattle.std.proofs.lemmas.Grind.{common_steps}
 use Rattle.std.specs.Ordering.{nat_cmp, ordering_then, is_eq}
 use Rattle.std.specs.declared.cmp.Ordering.{Ordering}
@@ -7,7 +8,7 @@ use Rattle.std.specs.declared.cmp.Ordering.TheVariants.{Less, Equal, Greater}
 use Rattle.std.specs.BTreeMap.{is_at}
 use Rattle.std.proofs.lemmas.Map.Lookups.{CmpEqualImpliesEq, exact_pairs, exact_unsigned}
 use Rattle.cf_rows.specs.declared.pairs.NumberPair.{NumberPair}
-use Rattle.cf_rows.specs.Pairs.{Pairs, pair_cmp, value_where, value_of, PutsValue, PutsAmount, KeepsValues, ReadsSame, or_else}
+use Rattle.cf_rows.specs.Pairs.{Pairs, pair_cmp, value_where, value_of, PutsValue, PutsAmount, KeepsValues, ReadsSame}
 
 -- pairs that compare alike are one
 pub exact_pair : CmpEqualImpliesEq pair_cmp
@@ -47,10 +48,10 @@ equal Greater e = cc
 -- a value put where there was none, which reads as nothing does
 reserved_at : {X : Type 0} (none : X) (old new : Pairs X) (pair q : NumberPair) → value_where old pair ≡ None →
     value_where new q ≡ (if is_at (pair_cmp pair) q then Some none else value_where old q) →
-    (b : Bool) → is_at (pair_cmp pair) q ≡ b → or_else none (value_where new q) ≡ or_else none (value_where old q)
+    (b : Bool) → is_at (pair_cmp pair) q ≡ b → unwrap_or (value_where new q) none ≡ unwrap_or (value_where old q) none
 reserved_at none old new pair q missing h true e =
     let same : pair ≡ q = exact_pair pair q (equal (pair_cmp pair q) e) in
-    rw (h, e) (sym (ap (or_else none) (ap (value_where old) (sym same) ∙ missing)))
+    rw (h, e) (sym (ap (λ o. unwrap_or o none) (ap (value_where old) (sym same) ∙ missing)))
 reserved_at none old new pair q missing h false e = rw (h, e) refl
 
 pub reserved_same : {X : Type 0} (none : X) (old new : Pairs X) (pair : NumberPair) → value_where old pair ≡ None →
@@ -62,8 +63,8 @@ reserved_same none old new pair missing h m z =
 
 -- an amount put at a pair
 pub puts_amount : (old new : Pairs ℕ) (first second amount : ℕ) → PutsValue old new first second amount → PutsAmount old new first second amount
-puts_amount old new first second amount puts m z = ap (or_else 0) (puts m z) ∙ by_test ((first == m) && (second == z)) (value_of old m z)
+puts_amount old new first second amount puts m z = ap (λ o. unwrap_or o 0) (puts m z) ∙ by_test ((first == m) && (second == z)) (value_of old m z)
   where
-    by_test : (b : Bool) (r : Option ℕ) → or_else 0 (if b then Some amount else r) ≡ (if b then amount else or_else 0 r)
+    by_test : (b : Bool) (r : Option ℕ) → unwrap_or (if b then Some amount else r) 0 ≡ (if b then amount else unwrap_or r 0)
     by_test true r = refl
     by_test false r = refl

@@ -1,10 +1,6 @@
 -- What all entries of a history can come to, whatever they are.
 use Rattle.std.specs.Prelude.{ℕ, ◌*◌}
-use Rattle.cf_base.specs.Limits.{most_entries}
-
--- the most cents of one amount (own rule)
-abbrev pub most_cents : ℕ
-most_cents = 10000000000000
+use Rattle.cf_base.specs.Limits.{most_entries, most_cents}
 
 -- the most items that vouchers have, at 32 an entry
 abbrev pub most_items : ℕ

@@ -1,5 +1,5 @@
 -- Values by two numbers.
-use Rattle.std.specs.Prelude.{◌≡◌, ℕ, Bool, true, if◌then◌else◌, ◌==◌, ◌&&◌, List, Option, Some, None, is_some}
+use Rattle.std.specs.Prelude.{◌≡◌, ℕ, Bool, true, if◌then◌else◌, ◌==◌, ◌&&◌, List, Option, Some, None, is_some, unwrap_or}
 use Rattle.std.specs.Ordering.{nat_cmp, ordering_then}
 use Rattle.std.specs.declared.cmp.Ordering.{Ordering}
 use Rattle.std.specs.Map.{lookup}
@@ -28,22 +28,17 @@ abbrev pub PutsValue : {X : Type 0} → Pairs X → Pairs X → ℕ → ℕ → 
 PutsValue old new first second value =
     (m z : ℕ) → value_of new m z ≡ (if (first == m) && (second == z) then Some value else value_of old m z)
 
--- what stands where there was nothing
-abbrev pub or_else : {X : Type 0} → X → Option X → X
-or_else none None = none
-or_else none (Some x) = x
-
 -- no value goes
 abbrev pub KeepsValues : {X : Type 0} → Pairs X → Pairs X → Type 0
 KeepsValues old new = (m z : ℕ) → has_value old m z ≡ true → has_value new m z ≡ true
 
 -- all numbers read the same, where what is missing reads as this
 abbrev pub ReadsSame : {X : Type 0} → X → Pairs X → Pairs X → Type 0
-ReadsSame none old new = (m z : ℕ) → or_else none (value_of new m z) ≡ or_else none (value_of old m z)
+ReadsSame none old new = (m z : ℕ) → unwrap_or (value_of new m z) none ≡ unwrap_or (value_of old m z) none
 
 -- the amount of two numbers, 0 where there is none
 abbrev pub amount_at : Pairs ℕ → ℕ → ℕ → ℕ
-amount_at table first second = or_else 0 (value_of table first second)
+amount_at table first second = unwrap_or (value_of table first second) 0
 
 -- the amount of these two numbers is the one given, and the others stay
 abbrev pub PutsAmount : Pairs ℕ → Pairs ℕ → ℕ → ℕ → ℕ → Type 0

@@ -1,6 +1,7 @@
 -- Each kind of step keeps the rule.
 use Rattle.std.proofs.Common.{◌≡◌, ◌≢◌, ◌⊎◌, inl, inr, ℕ, zero, suc, ◌+◌, ◌%◌, ◌^◌, ◌<◌, ◌≤◌, List, [], ◌∷◌, ◌++◌, length, set, true, false, refl, sym, ap, ◌∙◌, subst, ⊎_elim, arith, length-append}
 use Rattle.std.specs.Prelude.{slice_index, slice_set}
+use Rattle.cf_base.specs.Limits.{most_entries}
 use mathlib.Core.Option.{some, some-ne-none, some-injective}
 use mathlib.Core.List.{IsPrefix}
 use lib.ListN.{get_elem?}
@@ -94,7 +95,7 @@ given_after t e n given numbers = record {
 }
 
 -- record, while the recorder has the pass's number
-records_one : (slots id : ℕ) (me : Seated) (e : Entry) → me.0.records ≡ true → me.0.has_number ≡ true → length me.0.list < 1500000
+records_one : (slots id : ℕ) (me : Seated) (e : Entry) → me.0.records ≡ true → me.0.has_number ≡ true → length me.0.list < most_entries
     → Allows Holds slots id me 0 (λ n. (n + 1) % 2 ^ 64) (λ n w. Records ((e, me.0.number) ∷ []) me n w)
 records_one slots id me e is has few = goes slots id me (λ n. (n + 1) % 2 ^ 64) (λ n w. Records ((e, me.0.number) ∷ []) me n w) go
   where
@@ -120,7 +121,7 @@ records_one slots id me e is has few = goes slots id me (λ n. (n + 1) % 2 ^ 64)
         )
 
 pub records : (slots id : ℕ) (me : Seated) (e : Entry) (entries : List TaggedEntry) → entries ≡ (e, me.0.number) ∷ [] → me.0.records ≡ true → me.0.has_number ≡ true
-    → length me.0.list < 1500000 → Allows Holds slots id me 0 (λ n. (n + 1) % 2 ^ 64) (λ n w. Records entries me n w)
+    → length me.0.list < most_entries → Allows Holds slots id me 0 (λ n. (n + 1) % 2 ^ 64) (λ n w. Records entries me n w)
 records slots id me e entries one is has few =
     subst (λ es. Allows Holds slots id me 0 (λ n. (n + 1) % 2 ^ 64) (λ n w. Records es me n w)) (sym one) (records_one slots id me e is has few)
 

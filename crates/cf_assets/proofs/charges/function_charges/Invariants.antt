@@ -2,7 +2,7 @@ use Rattle.std.proofs.Common.{◌≡◌, ◌≤◌, ◌<◌, ◌*◌, ℕ, lengt
 use Rattle.cf_chart.specs.declared.rows.Function.{Function}
 use Rattle.cf_assets.proofs.Charged.{at_place, part_of}
 use Rattle.cf_assets.proofs.charges.function_charges.Given as goal
-use Rattle.cf_rows.specs.Limits.{most_cents}
+use Rattle.cf_base.specs.Limits.{most_cents}
 
 abbrev pub invariant-loop-at : goal.invariant-loop-at
 invariant-loop-at l = record {

@@ -2,7 +2,7 @@ use Rattle.std.proofs.Common.{◌≡◌, ◌≤◌, ◌*◌, get_or, take, sum_b
 use Rattle.cf_assets.specs.Rows.{view_asset, no_row}
 use Rattle.cf_assets.specs.Charges.{charge_in}
 use Rattle.cf_assets.proofs.charges.leased_charge.Given as goal
-use Rattle.cf_rows.specs.Limits.{most_cents}
+use Rattle.cf_base.specs.Limits.{most_cents}
 
 abbrev pub invariant-loop-at : goal.invariant-loop-at
 invariant-loop-at l = record {

@@ -1,5 +1,6 @@
 use Rattle.std.proofs.Common.{arith, refl, ap, ◌≡◌, ◌≤◌, ◌+◌, length, Some}
 use Rattle.std.specs.Prelude.{slice_get}
+use Rattle.cf_base.specs.Limits.{most_entries}
 use Rattle.cf_stream.specs.Readings.{IsPayloadOf}
 use Rattle.cf_follow.specs.Admitting.{office}
 use Rattle.cf_follow.specs.Steps.{FollowsOne, IsOtherThan, Takes, Unfollowed}
@@ -22,5 +23,5 @@ pub returns-else-place-entries-clause-few : goal.returns-else-place-entries-clau
 returns-else-place-entries-clause-few g c =
     let o = office g.F.Follower.history g.F.Follower.refusal g.F.Follower.faults g.F.Follower.since in
     let ends : c.args.place.entries ≡ length (g.F.Follower.history c.args.follower.now) = omega (arith, c.requires.within, c.if-place-entries.false, ap length c.entries-entries.ensures.value) in
-    ok_both c.take.result (Takes o c.args.follower.now c.args.text.now c.take.new.follower) (length (g.F.Follower.history c.take.new.follower) ≤ 1500000) (c.args.place.entries + 1 ≤ 1500000)
-    (λ takes few. few_more o c.args.follower.now c.take.new.follower c.args.text.now c.args.place.entries 1500000 ends takes few) c.take.ensures.ok c.take.ensures.few
+    ok_both c.take.result (Takes o c.args.follower.now c.args.text.now c.take.new.follower) (length (g.F.Follower.history c.take.new.follower) ≤ most_entries) (c.args.place.entries + 1 ≤ most_entries)
+    (λ takes few. few_more o c.args.follower.now c.take.new.follower c.args.text.now c.args.place.entries most_entries ends takes few) c.take.ensures.ok c.take.ensures.few

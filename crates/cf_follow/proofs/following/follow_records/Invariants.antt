@@ -1,4 +1,5 @@
 use Rattle.std.proofs.Common.{◌≡◌, ℕ, ◌+◌, ◌-◌, ◌*◌, ◌≤◌, List, length, Option}
+use Rattle.cf_base.specs.Limits.{most_entries}
 use Rattle.cf_stream.specs.Readings.{ReadsHead}
 use Rattle.cf_follow.specs.Admitting.{office}
 use Rattle.cf_follow.proofs.Stepping.{IsFollowing, IsStill}
@@ -10,7 +11,7 @@ invariant-records g l =
     let o = office f.history f.refusal f.faults f.since in
     record {
       within : l.place.entries ≤ length (f.history l.follower);
-      few : l.place.entries ≤ 1500000;
+      few : l.place.entries ≤ most_entries;
       bound : l.place.at ≤ 1048588 + 65541 * l.place.entries;
       following : (left : Option (List ℕ)) → ReadsHead left (g.I.Source.left l.initial.input) l.from l.chart
           → IsFollowing o l.chart l.initial.follower l.follower left (g.I.Source.left l.input) l.from l.place.entries l.place.at;

@@ -2,7 +2,7 @@ use Rattle.std.proofs.Common.{◌≡◌, ◌+◌, ◌*◌, ◌≤◌, drop, sum_
 use Rattle.cf_model.specs.Cash.{fund_sum}
 use Rattle.cf_model.specs.Moves.{spent_by}
 use Rattle.cf_rules.proofs.cash.paid_of.Given as goal
-use Rattle.cf_rows.specs.Limits.{most_cents}
+use Rattle.cf_base.specs.Limits.{most_cents}
 
 abbrev pub invariant-loop-voucher : goal.invariant-loop-voucher
 invariant-loop-voucher l = record {

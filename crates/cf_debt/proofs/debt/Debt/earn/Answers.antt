@@ -6,8 +6,7 @@ use Rattle.cf_rows.proofs.PairFacts.{puts_amount}
 use Rattle.cf_debt.proofs.Leaving.{earned_left, earned_row, left_kept, put_small, years_earned}
 use Rattle.cf_debt.proofs.Lists.{map-push}
 use Rattle.cf_debt.proofs.debt.Debt.earn.Goals as goal
-use Rattle.cf_base.specs.Limits.{most_entries}
-use Rattle.cf_rows.specs.Limits.{most_cents}
+use Rattle.cf_base.specs.Limits.{most_entries, most_cents}
 
 pub invariant_of-self : goal.invariant_of-self
 invariant_of-self c =

@@ -1,10 +1,11 @@
 use Rattle.std.proofs.Common.{arith, length-append, ◌∷◌, [], ◌++◌, ◌≡◌, ◌+◌, ◌<◌, ◌≤◌, ◌==◌, ◌&&◌, ◌∙◌, if◌then◌else◌, length, suc, sym, subst, List, ℕ, ap, Option, Some, IfSome}
+use Rattle.std.specs.Prelude.{unwrap_or}
 use Rattle.std.specs.Str.{bytes_eq}
 use Rattle.cf_calls.specs.declared.entry.Entry.{Entry}
 use Rattle.cf_calls.specs.declared.read.Basis.TheVariants.{Fund, Gov}
 use Rattle.cf_history.proofs.Added.{ready_is, ready_added, ready_years, ready_fits}
 use Rattle.cf_calls.specs.Acts.{adopts}
-use Rattle.cf_rows.specs.Pairs.{value_of, or_else}
+use Rattle.cf_rows.specs.Pairs.{value_of}
 use Rattle.cf_model.proofs.Accepted.{accepted_fits}
 use Rattle.cf_model.proofs.Legal.{legal_push}
 use Rattle.cf_model.proofs.OpenYears.{open_year_push, years_are}
@@ -32,13 +33,13 @@ invariant_of-self-2 c =
     let at : c.len.result + 1 ≡ suc (length h) = omega (arith, c.len.ensures) in
     let known : (d : ℕ) (q : List ℕ) → key_number c.note_place.new.known d q ≡ (if (e.change.desk == d) && bytes_eq e.change.key q then suc (length h) else key_number c.self.inside.known d q) =
     λ d q. c.note_place.ensures d q ∙ (λ i. if (e.change.desk == d) && bytes_eq e.change.key q then at i else key_number c.self.inside.known d q) in
-    let adopted : (fund year : ℕ) → or_else 0 (value_of c.put_budget.new.adopted.entries fund year) ≡ (if adopts fund year e.change.act then suc (length h) else or_else 0 (value_of c.self.inside.adopted.entries fund year)) =
-    λ fund year. c.put_budget.ensures fund year ∙ (λ i. if adopts fund year e.change.act then at i else or_else 0 (value_of c.self.inside.adopted.entries fund year)) in
+    let adopted : (fund year : ℕ) → unwrap_or (value_of c.put_budget.new.adopted.entries fund year) 0 ≡ (if adopts fund year e.change.act then suc (length h) else unwrap_or (value_of c.self.inside.adopted.entries fund year) 0) =
+    λ fund year. c.put_budget.ensures fund year ∙ (λ i. if adopts fund year e.change.act then at i else unwrap_or (value_of c.self.inside.adopted.entries fund year) 0) in
     record {
       legal = rw items (legal_push plan h e c.self.invariant.legal adds);
       few = rw (items, length-append h (e ∷ [])) (omega arith);
       known = λ d q. rw items (known_put plan h e d q (key_number c.self.inside.known d q) (key_number c.note_place.new.known d q) adds (c.self.invariant.known d q) (known d q));
-      adopted = λ fund year. rw items (adopted_put plan h e fund year (or_else 0 (value_of c.self.inside.adopted.entries fund year)) (or_else 0 (value_of c.put_budget.new.adopted.entries fund year)) adds (c.self.invariant.adopted fund year) (adopted fund year));
+      adopted = λ fund year. rw items (adopted_put plan h e fund year (unwrap_or (value_of c.self.inside.adopted.entries fund year) 0) (unwrap_or (value_of c.put_budget.new.adopted.entries fund year) 0) adds (c.self.invariant.adopted fund year) (adopted fund year));
       registers = rw items (taken_in plan h e c.self.inside.registers.registers c.apply-2.new.self.registers c.self.invariant.registers c.apply-2.ensures.registers);
       results = rw items (made_in plan h e c.self.inside.results.items c.push_reserved.new.self.items c.made_of-made.result c.self.inside.registers.registers c.self.invariant.results c.self.invariant.registers c.made_of-made.ensures c.push_reserved.ensures.items);
       taken = rw (items, length-append h (e ∷ [])) (c.apply-2.ensures.taken (length h) c.self.invariant.taken);
