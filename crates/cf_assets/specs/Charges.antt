@@ -1,5 +1,5 @@
 -- What the close of a month charges, function by function.
-use Rattle.std.specs.Prelude.{◌≡◌, ◌≢◌, ℕ, ◌<◌, Bool, true, false, not, if◌then◌else◌, List, length, slice_index_or}
+use Rattle.std.specs.Prelude.{◌≡◌, ◌≢◌, ℕ, ◌+◌, ◌==◌, ◌<◌, Bool, true, false, not, if◌then◌else◌, List, length, slice_index_or}
 use Rattle.std.specs.List.{filter}
 use Rattle.cf_chart.specs.declared.rows.Function.{Function}
 use Rattle.cf_model.specs.Assets.{Asset, charge, is_leased}
@@ -16,6 +16,10 @@ of_kind is_lease assets = filter (is_kind is_lease) assets
 -- what the close of the next month charges for an asset of the kind
 abbrev pub charge_in : Bool → ℕ → Asset → ℕ
 charge_in is_lease closed a = if is_kind is_lease a then charge closed a else 0
+
+-- the sum of the function of this id is an amount more, and the others stay
+abbrev pub AddsTo : ℕ → ℕ → List Function → List ℕ → List ℕ → Type 0
+AddsTo id amount functions old new = (k : ℕ) (d : Function) → k < length functions → slice_index_or new k 0 ≡ slice_index_or old k 0 + (if id == (slice_index_or functions k d).id then amount else 0)
 
 -- each sum is what is charged to the function of its place in the chart's table (GASB Statement 34: depreciation by function)
 abbrev pub AreCharges : ℕ → List Asset → List Function → List ℕ → Type 0

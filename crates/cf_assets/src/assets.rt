@@ -11,7 +11,7 @@ ghost use Rattle.cf_assets.specs.Register.{asset_draws};
 ghost use Rattle.cf_model.specs.RegisterRules.{asset_at};
 ghost use Rattle.cf_rows.specs.Limits.{most_items, most_total};
 
-use crate::charges::{MOST_FUNCTIONS, depreciation_of};
+use crate::charges::{MonthCharges, depreciation_of};
 use crate::inventory::Inventory;
 use crate::rows::StageNow;
 use cf_calls::acts::AssetAct;
@@ -152,13 +152,14 @@ impl Assets {
         }
     }
 
-    /// What the close of the next month charges to each function, in cents, by the function's place in the chart's
-    /// table: the depreciation of what the city owns, or the amortization of what it leases.
-    pub fn month_charges(&self, chart: &Chart, is_lease: bool) -> [u128; MOST_FUNCTIONS]
-        ensures charges { AreCharges self.now.closed (of_kind is_lease self.now.assets) chart.now.functions result }
-        ensures most { (k : ℕ) → slice_index_or result k 0 ≤ most_total }
+    /// What the close of the next month charges to each function.
+    pub fn month_charges(&self, chart: &Chart) -> MonthCharges
+        ensures owned { AreCharges self.now.closed (of_kind false self.now.assets) chart.now.functions result.owned }
+        ensures leased { AreCharges self.now.closed (of_kind true self.now.assets) chart.now.functions result.leased }
+        ensures most_owned { (k : ℕ) → slice_index_or result.owned k 0 ≤ most_total }
+        ensures most_leased { (k : ℕ) → slice_index_or result.leased k 0 ≤ most_total }
     {
-        self.inventory.month_charges(chart.functions(), is_lease)
+        self.inventory.month_charges(chart.functions())
     }
 }
 

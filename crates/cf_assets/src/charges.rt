@@ -1,15 +1,13 @@
 //! Depreciation of assets, and what the close of a month charges.
 
-ghost use Rattle.std.specs.Prelude.{◌≡◌, ◌≤◌, ◌<◌, ◌+◌, ℕ, map, sum_by, length, slice_index_or, ◌==◌, ◌^◌, if◌then◌else◌, true, MatchOption, replicate};
+ghost use Rattle.std.specs.Prelude.{◌≡◌, ◌≤◌, ◌<◌, ◌+◌, ℕ, map, sum_by, length, slice_index_or, ◌^◌, true, MatchOption, replicate};
 ghost use Rattle.cf_base.specs.Limits.{most_entries, most_cents};
 ghost use Rattle.cf_chart.specs.Rising.{is_rising};
-ghost use Rattle.cf_chart.specs.declared.rows.Function.{Function as FunctionRow};
 ghost use Rattle.cf_model.specs.Assets as spec;
 ghost use Rattle.cf_model.specs.Assets.{depreciation, charge};
-ghost use Rattle.cf_assets.specs.Charges.{charge_in, of_kind};
 ghost use Rattle.cf_assets.specs.Rows.{view_asset, AreRows};
 ghost use Rattle.cf_assets.specs.Serving.{ServeAll};
-ghost use Rattle.cf_assets.specs.Charges.{AreCharges, HasNot, StandsAt};
+ghost use Rattle.cf_assets.specs.Charges.{AddsTo, AreCharges, HasNot, StandsAt, charge_in, of_kind};
 ghost use Rattle.cf_rows.specs.Limits.{most_items, most_total};
 
 use crate::rows::{Acquired, AssetRow, StageNow};
@@ -69,50 +67,46 @@ pub fn is_leased(row: &AssetRow) -> bool
     }
 }
 
-/// What the close of the next month charges for an asset that is leased, or for one that isn't; nothing for another.
-fn charge_if(row: &AssetRow, closed: u32, is_lease: bool) -> u64
+/// What the close of the next month charges for an asset that is leased; nothing for another.
+fn leased_charge_of(row: &AssetRow, closed: u32) -> u64
     requires cost { row.now.cost ≤ most_cents }
     requires few { closed ≤ most_entries }
-    ensures value { result ≡ charge_in is_lease closed (view_asset row.now) }
+    ensures value { result ≡ charge_in true closed (view_asset row.now) }
     ensures small { result ≤ most_cents }
 {
-    let is_kind = if is_lease {
-        is_leased(row)
+    if is_leased(row) {
+        charge_of(row, closed)
     } else {
-        !is_leased(row)
-    };
-    if is_kind { charge_of(row, closed) } else { 0 }
+        0
+    }
 }
 
-/// What the close of the next month charges for all leased assets.
-pub fn leased_charge(rows: &[AssetRow], serving: &[u32], closed: u32) -> u128
+/// What the close of a month charges, in cents.
+pub struct TotalCharges {
+    /// For all assets.
+    pub all: u128,
+    /// For those that are leased.
+    pub leased: u128,
+}
+
+/// What the close of the next month charges: one pass over the assets in service, for no other is charged.
+pub fn total_charges(rows: &[AssetRow], serving: &[u32], closed: u32) -> TotalCharges
     requires rows { AreRows closed rows.now }
     requires serving { ServeAll closed rows.now serving.now }
     requires count { length rows.now ≤ most_items }
     requires few { closed ≤ most_entries }
-    ensures value { result ≡ sum_by (charge_in true closed) (map view_asset rows.now) }
-    ensures most { result ≤ most_total }
+    ensures all { result.all ≡ sum_by (charge closed) (map view_asset rows.now) }
+    ensures leased { result.leased ≡ sum_by (charge_in true closed) (map view_asset rows.now) }
+    ensures most { result.leased ≤ most_total }
 {
-    let mut total = 0;
+    let mut all = 0;
+    let mut leased = 0;
     for at in serving {
-        total += u128::from(charge_if(&rows[*at as usize], closed, true));
+        let row = &rows[*at as usize];
+        all += u128::from(charge_of(row, closed));
+        leased += u128::from(leased_charge_of(row, closed));
     }
-    total
-}
-
-/// What the close of the next month charges for all assets: those in service are charged.
-pub fn total_charge(rows: &[AssetRow], serving: &[u32], closed: u32) -> u128
-    requires rows { AreRows closed rows.now }
-    requires serving { ServeAll closed rows.now serving.now }
-    requires count { length rows.now ≤ most_items }
-    requires few { closed ≤ most_entries }
-    ensures { result ≡ sum_by (charge closed) (map view_asset rows.now) }
-{
-    let mut total = 0;
-    for at in serving {
-        total += u128::from(charge_of(&rows[*at as usize], closed));
-    }
-    total
+    TotalCharges { all, leased }
 }
 
 /// The place of a function in the chart's table, by halving it.
@@ -137,6 +131,14 @@ fn place_of(functions: &[Function], id: u16) -> Option<usize>
     None
 }
 
+/// What the close of a month charges to each function, in cents, by its place in the chart's table.
+pub struct MonthCharges {
+    /// The depreciation of what the city owns.
+    pub owned: [u128; MOST_FUNCTIONS],
+    /// The amortization of what it leases (GASB Statement 87).
+    pub leased: [u128; MOST_FUNCTIONS],
+}
+
 fn no_sums() -> [u128; MOST_FUNCTIONS]
     ensures { result ≡ replicate 64 0 }
 {
@@ -148,7 +150,7 @@ fn add_to(sums: &mut [u128; MOST_FUNCTIONS], functions: &[Function], id: u16, am
     requires few { length functions.now ≤ 64 }
     requires rising { is_rising (λ f. f.id) functions.now ≡ true }
     requires fits { (k : ℕ) → slice_index_or sums.old k 0 + amount < 2 ^ 128 }
-    ensures adds { (k : ℕ) (d : FunctionRow) → k < length functions.now → slice_index_or sums.new k 0 ≡ slice_index_or sums.old k 0 + (if id == (slice_index_or functions.now k d).id then amount else 0) }
+    ensures adds { AddsTo id amount functions.now sums.old sums.new }
     ensures most { (k : ℕ) → slice_index_or sums.new k 0 ≤ slice_index_or sums.old k 0 + amount }
 {
     if let Some(place) = place_of(functions, id) {
@@ -156,29 +158,52 @@ fn add_to(sums: &mut [u128; MOST_FUNCTIONS], functions: &[Function], id: u16, am
     }
 }
 
-/// What the close of the next month charges to each function, by its place in the chart's table, for the assets that
-/// are leased, or for those that aren't: one pass over the assets in service.
+/// Adds what the close of the next month charges for an asset: to its function's amortization where it is leased, else to
+/// the depreciation.
+fn charge_row(charges: &mut MonthCharges, functions: &[Function], row: &AssetRow, closed: u32)
+    requires cost { row.now.cost ≤ most_cents }
+    requires months { closed ≤ most_entries }
+    requires few { length functions.now ≤ 64 }
+    requires rising { is_rising (λ f. f.id) functions.now ≡ true }
+    requires owned_fits { (k : ℕ) → slice_index_or charges.old.owned k 0 + most_cents < 2 ^ 128 }
+    requires leased_fits { (k : ℕ) → slice_index_or charges.old.leased k 0 + most_cents < 2 ^ 128 }
+    ensures owned { AddsTo row.now.function (charge_in false closed (view_asset row.now)) functions.now charges.old.owned charges.new.owned }
+    ensures leased { AddsTo row.now.function (charge_in true closed (view_asset row.now)) functions.now charges.old.leased charges.new.leased }
+    ensures most_owned { (k : ℕ) → slice_index_or charges.new.owned k 0 ≤ slice_index_or charges.old.owned k 0 + most_cents }
+    ensures most_leased { (k : ℕ) → slice_index_or charges.new.leased k 0 ≤ slice_index_or charges.old.leased k 0 + most_cents }
+{
+    let amount = charge_of(row, closed);
+    if is_leased(row) {
+        add_to(&mut charges.leased, functions, row.function, amount);
+    } else {
+        add_to(&mut charges.owned, functions, row.function, amount);
+    }
+}
+
+/// What the close of the next month charges to each function: one pass over the assets in service.
 pub fn function_charges(
     rows: &[AssetRow],
     serving: &[u32],
     closed: u32,
     functions: &[Function],
-    is_lease: bool,
-) -> [u128; MOST_FUNCTIONS]
+) -> MonthCharges
     requires rows { AreRows closed rows.now }
     requires serving { ServeAll closed rows.now serving.now }
     requires count { length rows.now ≤ most_items }
     requires months { closed ≤ most_entries }
     requires few { length functions.now ≤ 64 }
     requires rising { is_rising (λ f. f.id) functions.now ≡ true }
-    ensures charges { AreCharges closed (of_kind is_lease (map view_asset rows.now)) functions.now result }
-    ensures most { (k : ℕ) → slice_index_or result k 0 ≤ most_total }
+    ensures owned { AreCharges closed (of_kind false (map view_asset rows.now)) functions.now result.owned }
+    ensures leased { AreCharges closed (of_kind true (map view_asset rows.now)) functions.now result.leased }
+    ensures most_owned { (k : ℕ) → slice_index_or result.owned k 0 ≤ most_total }
+    ensures most_leased { (k : ℕ) → slice_index_or result.leased k 0 ≤ most_total }
 {
-    let mut sums = no_sums();
+    let mut charges = MonthCharges {
+        owned: no_sums(),
+        leased: no_sums(),
+    };
     for at in serving {
-        let row = &rows[*at as usize];
-        let amount = charge_if(row, closed, is_lease);
-        add_to(&mut sums, functions, row.function, amount);
+        charge_row(&mut charges, functions, &rows[*at as usize], closed);
     }
-    sums
+    charges
 }

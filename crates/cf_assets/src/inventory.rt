@@ -14,9 +14,7 @@ ghost use Rattle.cf_model.specs.Assets.{Asset, held, void, disposed, depreciatio
 ghost use Rattle.cf_model.specs.RegisterRules.{asset_at};
 ghost use Rattle.cf_rows.specs.Limits.{most_items, most_total};
 
-use crate::charges::{
-    MOST_FUNCTIONS, depreciation_of, function_charges, leased_charge, total_charge,
-};
+use crate::charges::{MonthCharges, depreciation_of, function_charges, total_charges};
 use crate::rows::{AssetRow, StageNow};
 use crate::serving::{enlist, retire};
 use cf_chart::Function;
@@ -199,39 +197,35 @@ impl Inventory {
         self.rows[at] = staged(row, StageNow::Disposed { year, closed });
     }
 
-    /// Closes a month: each asset in service is charged. It takes no memory.
-    pub fn close(&mut self)
+    /// Closes a month: each asset in service is charged. Gives what is charged for leased assets, in cents. It takes no
+    /// memory.
+    pub fn close(&mut self) -> u128
         requires few { self.old.closed < most_entries }
         requires room { 1 ≤ self.old.months }
+        ensures leased { result ≡ sum_by (charge_in true self.old.closed) self.old.assets }
+        ensures most { result ≤ most_total }
         ensures assets { self.new.assets ≡ self.old.assets }
         ensures closed { self.new.closed ≡ self.old.closed + 1 }
     {
         let closed = self.accumulated.len() as u32;
         let before = accumulated_after(&self.accumulated, closed);
-        let charge = total_charge(&self.rows, &self.serving, closed);
-        self.accumulated.push_reserved(before + charge);
+        let charges = total_charges(&self.rows, &self.serving, closed);
+        self.accumulated.push_reserved(before + charges.all);
         retire(&mut self.serving, &self.rows, closed + 1);
+        charges.leased
     }
 
-    /// What the close of the next month charges for all leased assets, in cents.
-    pub fn leased_charge(&self) -> u128
-        ensures value { result ≡ sum_by (charge_in true self.now.closed) self.now.assets }
-        ensures most { result ≤ most_total }
-    {
-        let closed = self.accumulated.len() as u32;
-        leased_charge(&self.rows, &self.serving, closed)
-    }
-
-    /// What the close of the next month charges to each function, by its place in the chart's table, for the assets
-    /// that are leased, or for those that aren't.
-    pub fn month_charges(&self, functions: &[Function], is_lease: bool) -> [u128; MOST_FUNCTIONS]
+    /// What the close of the next month charges to each function.
+    pub fn month_charges(&self, functions: &[Function]) -> MonthCharges
         requires few { length functions.now ≤ 64 }
         requires rising { is_rising (λ f. f.id) functions.now ≡ true }
-        ensures charges { AreCharges self.now.closed (of_kind is_lease self.now.assets) functions.now result }
-        ensures most { (k : ℕ) → slice_index_or result k 0 ≤ most_total }
+        ensures owned { AreCharges self.now.closed (of_kind false self.now.assets) functions.now result.owned }
+        ensures leased { AreCharges self.now.closed (of_kind true self.now.assets) functions.now result.leased }
+        ensures most_owned { (k : ℕ) → slice_index_or result.owned k 0 ≤ most_total }
+        ensures most_leased { (k : ℕ) → slice_index_or result.leased k 0 ≤ most_total }
     {
         let closed = self.accumulated.len() as u32;
-        function_charges(&self.rows, &self.serving, closed, functions, is_lease)
+        function_charges(&self.rows, &self.serving, closed, functions)
     }
 }
 

@@ -14,4 +14,4 @@ mod sums;
 
 pub use assets::{AssetNow, Assets};
 pub use changes::AssetChanges;
-pub use charges::{MOST_FUNCTIONS, depreciated};
+pub use charges::{MOST_FUNCTIONS, MonthCharges, depreciated};

@@ -30,20 +30,20 @@ impl Assets {
         ensures { (s : Registers) → IsOf s self.now → result ≡ asset_refusal s on act.now }
     {
         match act {
-            Act::VoidVoucher(voucher) => self.void_fault(*voucher),
-            Act::Asset(AssetAct::Dispose(disposal)) => self.disposal_fault(on, disposal.asset),
+            Act::VoidVoucher(voucher) => self.void_refusal(*voucher),
+            Act::Asset(AssetAct::Dispose(disposal)) => self.disposal_refusal(on, disposal.asset),
             _ => None,
         }
     }
 
     /// An asset of a voucher that can't be voided.
-    fn void_fault(&self, voucher: u32) -> Option<Refusal>
+    fn void_refusal(&self, voucher: u32) -> Option<Refusal>
         ensures { result ≡ first_refusal (spec.voided_asset self.now.closed) (filter (λ a. is_number (voucher_of a.origin) voucher) self.now.assets) }
     {
-        first_fault(&self.inventory, &self.vouchers, voucher)
+        bought_refusal(&self.inventory, &self.vouchers, voucher)
     }
 
-    fn disposal_fault(&self, on: Day, number: u32) -> Option<Refusal>
+    fn disposal_refusal(&self, on: Day, number: u32) -> Option<Refusal>
         ensures { result ≡ first_refusal (spec.disposed_asset on) (filter (λ a. a.number == number) self.now.assets) }
     {
         match self.inventory.find(number) {
@@ -54,16 +54,16 @@ impl Assets {
 }
 
 /// The first asset of a voucher that can't be voided.
-fn first_fault(inventory: &Inventory, vouchers: &Vec<Extent>, voucher: u32) -> Option<Refusal>
+fn bought_refusal(inventory: &Inventory, vouchers: &Vec<Extent>, voucher: u32) -> Option<Refusal>
     requires { AreExtents vouchers.now.items inventory.now.assets }
     ensures { result ≡ first_refusal (spec.voided_asset inventory.now.closed) (filter (λ a. is_number (voucher_of a.origin) voucher) inventory.now.assets) }
 {
     let closed = inventory.closed();
     let extent = extent_of(vouchers, voucher);
     for at in extent.first as usize..extent.end as usize {
-        let fault = voided_asset(&inventory.row(at), closed);
-        if fault.is_some() {
-            return fault;
+        let refusal = voided_asset(&inventory.row(at), closed);
+        if refusal.is_some() {
+            return refusal;
         }
     }
     None
@@ -75,10 +75,10 @@ fn voided_asset(row: &AssetRow, closed: u32) -> Option<Refusal>
     ensures { result ≡ spec.voided_asset closed (view_asset row.now) }
 {
     if depreciation_of(row, closed) > 0 {
-        return Some(asset_fault(row.number, AssetFault::Charged));
+        return Some(asset_state(row.number, AssetFault::Charged));
     }
     match row.stage {
-        StageNow::Disposed { .. } => Some(asset_fault(row.number, AssetFault::Disposed)),
+        StageNow::Disposed { .. } => Some(asset_state(row.number, AssetFault::Disposed)),
         StageNow::Held | StageNow::Void => None,
     }
 }
@@ -88,17 +88,17 @@ fn disposed_asset(on: Day, row: &AssetRow) -> Option<Refusal>
     ensures { result ≡ spec.disposed_asset on (view_asset row.now) }
 {
     match row.stage {
-        StageNow::Void => Some(asset_fault(row.number, AssetFault::Void)),
-        StageNow::Disposed { .. } => Some(asset_fault(row.number, AssetFault::Disposed)),
-        StageNow::Held if is_leased(row) => Some(asset_fault(row.number, AssetFault::Leased)),
+        StageNow::Void => Some(asset_state(row.number, AssetFault::Void)),
+        StageNow::Disposed { .. } => Some(asset_state(row.number, AssetFault::Disposed)),
+        StageNow::Held if is_leased(row) => Some(asset_state(row.number, AssetFault::Leased)),
         StageNow::Held if is_before(on, row.on) => {
-            Some(asset_fault(row.number, AssetFault::Later))
+            Some(asset_state(row.number, AssetFault::Later))
         }
         StageNow::Held => None,
     }
 }
 
-fn asset_fault(asset: u32, state: AssetFault) -> Refusal
+fn asset_state(asset: u32, state: AssetFault) -> Refusal
     ensures { result ≡ Refusal.AssetState asset state }
 {
     Refusal::AssetState { asset, state }

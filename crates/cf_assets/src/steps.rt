@@ -12,15 +12,13 @@ ghost use Rattle.cf_base.specs.Calendar.{is_day};
 ghost use Rattle.cf_base.specs.Limits.{last_fiscal_year, most_entries, most_cents};
 ghost use Rattle.cf_model.specs.Assets as spec;
 ghost use Rattle.cf_calls.specs.Form.{IsLeaseForm};
-ghost use Rattle.cf_model.specs.Assets.{void, new_asset, bought, life_of, leased_life, voucher_of};
+ghost use Rattle.cf_model.specs.Assets.{void, new_asset, bought, leased_life, voucher_of};
 ghost use Rattle.cf_model.specs.Calendar.{year_of_day};
-ghost use Rattle.cf_model.specs.Charted.{function_of, is_capital};
 ghost use Rattle.cf_model.specs.Documents.{is_number};
 ghost use Rattle.cf_model.specs.Months.{number_of_day};
 ghost use Rattle.cf_model.specs.RegisterRules as rules;
 ghost use Rattle.cf_model.specs.Rules.{first_refusal};
 ghost use Rattle.cf_base.specs.declared.calendar.Day.{Day};
-ghost use Rattle.cf_chart.specs.Plan.{object_at};
 ghost use Rattle.cf_rows.specs.Limits.{most_items};
 
 use crate::assets::Assets;
@@ -30,8 +28,10 @@ use cf_base::Day;
 use cf_calls::Drawn;
 use cf_calls::acts::{Donation, NewLease, NewVoucher};
 use cf_calls::items::VoucherItem;
-use cf_chart::{Chart, ObjectKind};
-use cf_rows::{Extent, extent_of, number_of_day, raise, year_of_day};
+use cf_chart::Chart;
+use cf_rows::{
+    Extent, extent_of, function_of, is_capital, life_of, number_of_day, raise, year_of_day,
+};
 
 /// How an asset is acquired: how, for which day and fiscal year, and from which month it serves.
 #[derive(Clone, Copy)]
@@ -112,7 +112,7 @@ impl Assets {
         requires number { number ≡ length self.old.assets + 1 }
         requires early { self.old.closed ≤ number_of_day chart.now on }
         requires few { self.old.acts < most_entries }
-        ensures assets { self.new.assets ≡ self.old.assets ++ new_asset chart.now spec.gift on (year_of_day chart.now on) number gift.now.dept (life_of chart.now gift.now.object) gift.now.amount ∷ [] }
+        ensures assets { self.new.assets ≡ self.old.assets ++ new_asset chart.now spec.gift on (year_of_day chart.now on) number gift.now.dept (spec.life_of chart.now gift.now.object) gift.now.amount ∷ [] }
         ensures closed { self.new.closed ≡ self.old.closed }
         ensures vouchers { self.new.vouchers ≡ self.old.vouchers }
         ensures acts { self.new.acts ≡ self.old.acts + 1 }
@@ -123,7 +123,7 @@ impl Assets {
             year: year_of_day(chart, on),
             service: number_of_day(chart, on),
         };
-        let life = life_on(chart, gift.object);
+        let life = life_of(chart, gift.object);
         let row = new_row(chart, title, number, gift.dept, life, gift.amount);
         self.inventory.accept_gift(row);
         self.acts += 1;
@@ -183,20 +183,9 @@ impl Assets {
     {
         let _count = self.inventory.count();
         let before = accumulated_after(&self.amortized, self.inventory.closed());
-        self.amortized
-            .push_reserved(before + self.inventory.leased_charge());
-        self.inventory.close();
+        let leased = self.inventory.close();
+        self.amortized.push_reserved(before + leased);
         self.acts += 1;
-    }
-}
-
-/// The life of an asset on an object, in months: 0 where the object isn't capital.
-fn life_on(chart: &Chart, object: u16) -> u16
-    ensures { result ≡ life_of chart.now object }
-{
-    match chart.object(object) {
-        None => 0,
-        Some(object) => life_of_kind(object.kind),
     }
 }
 
@@ -206,38 +195,8 @@ fn life_of_lease(chart: &Chart, lease: &NewLease) -> u16
     ensures { result ≡ leased_life chart.now lease.now }
 {
     let term = lease.every * lease.principals.as_slice().len() as u16;
-    let life = life_on(chart, lease.account.object);
+    let life = life_of(chart, lease.account.object);
     if life == 0 { term } else { term.min(life) }
-}
-
-fn life_of_kind(kind: ObjectKind) -> u16
-    ensures { result ≡ spec.life_of_kind kind }
-{
-    match kind {
-        ObjectKind::Capital { life } => life,
-        ObjectKind::Current | ObjectKind::Principal | ObjectKind::Interest => 0,
-    }
-}
-
-fn is_asset(chart: &Chart, object: u16) -> bool
-    ensures { result ≡ is_capital (object_at chart.now object) }
-{
-    match chart.object(object) {
-        None => false,
-        Some(object) => match object.kind {
-            ObjectKind::Capital { .. } => true,
-            ObjectKind::Current | ObjectKind::Principal | ObjectKind::Interest => false,
-        },
-    }
-}
-
-fn function_on(chart: &Chart, dept: u16) -> u16
-    ensures { result ≡ function_of chart.now dept }
-{
-    match chart.dept(dept) {
-        None => 0,
-        Some(department) => department.function,
-    }
 }
 
 fn new_row(chart: &Chart, title: Title, number: u32, dept: u16, life: u16, cost: u64) -> AssetRow
@@ -254,7 +213,7 @@ fn new_row(chart: &Chart, title: Title, number: u32, dept: u16, life: u16, cost:
         cost,
         number,
         acquired: title.acquired,
-        function: function_on(chart, dept),
+        function: function_of(chart, dept),
         life,
         on: title.on,
         year: title.year,
@@ -279,14 +238,14 @@ fn buy_all(inventory: &mut Inventory, chart: &Chart, title: Title, items: &[Vouc
 {
     for item in items {
         let account = item.account;
-        if is_asset(chart, account.object) {
+        if is_capital(chart, account.object) {
             let number = inventory.count() + 1;
             let row = new_row(
                 chart,
                 title,
                 number,
                 account.dept,
-                life_on(chart, account.object),
+                life_of(chart, account.object),
                 account.amount,
             );
             inventory.buy(row);

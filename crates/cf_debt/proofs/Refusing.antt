@@ -50,23 +50,23 @@ unpaid_then plan closed b p day is l e =
 -- ---- the payment of a bond
 
 -- the rules on a payment, of the bonds of its number
-abbrev pub faults : Plan → Day → List Bond → Option Refusal
-faults plan on bonds = first_of (first_refusal (λ b. paid_off b.number (next_due b)) bonds ∷ first_refusal (λ b. not_due plan on b (next_due b)) bonds ∷ None ∷ None ∷ None ∷ [])
+abbrev pub refusals : Plan → Day → List Bond → Option Refusal
+refusals plan on bonds = first_of (first_refusal (λ b. paid_off b.number (next_due b)) bonds ∷ first_refusal (λ b. not_due plan on b (next_due b)) bonds ∷ None ∷ None ∷ None ∷ [])
 
-pub no_fault : (plan : Plan) (d : Debts) (on : Day) (p : DebtPayment) → bond_at p.bond d.bonds ≡ None → None ≡ debt_refusal plan (registers_with d) on (act.PayDue p)
-no_fault plan d on p e = sym (ap (faults plan on) (none_passes p.bond d.bonds e))
+pub not_refused : (plan : Plan) (d : Debts) (on : Day) (p : DebtPayment) → bond_at p.bond d.bonds ≡ None → None ≡ debt_refusal plan (registers_with d) on (act.PayDue p)
+not_refused plan d on p e = sym (ap (refusals plan on) (none_passes p.bond d.bonds e))
 
 or_else_units : (r : Option Refusal) → r ≡ or_else (or_else r None) None
 or_else_units None = refl
 or_else_units (Some r) = refl
 
-pub payment_fault : (plan : Plan) (d : Debts) (on : Day) (p : DebtPayment) (x : BondNow) (q : Payment) (r : Option Refusal) → ShowsBond p.bond d x → x.next ≡ Some q →
+pub payment_refusal : (plan : Plan) (d : Debts) (on : Day) (p : DebtPayment) (x : BondNow) (q : Payment) (r : Option Refusal) → ShowsBond p.bond d x → x.next ≡ Some q →
     ((all : List Due) → r ≡ not_due plan on (view_bond all x.row) (Some (view_payment q))) → r ≡ debt_refusal plan (registers_with d) on (act.PayDue p)
-payment_fault plan d on p x q r s next is =
+payment_refusal plan d on p x q r s next is =
     let due : next_due (view_bond s.all x.row) ≡ Some (view_payment q) = sym s.next ∙ ap (option_map view_payment) next in
     is s.all
     ∙ or_else_units (not_due plan on (view_bond s.all x.row) (Some (view_payment q)))
-    ∙ sym (ap (faults plan on) s.alone
+    ∙ sym (ap (refusals plan on) s.alone
     ∙ ap (λ o. first_of (or_else (paid_off x.row.number o) None ∷ or_else (not_due plan on (view_bond s.all x.row) o) None ∷ None ∷ None ∷ None ∷ [])) due)
 
 -- what is due next of a bond

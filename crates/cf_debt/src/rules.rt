@@ -28,14 +28,14 @@ impl Debt {
         ensures { result ≡ debt_refusal chart.now (registers_with self.now.debts) on act.now }
     {
         match act {
-            Act::PayDue(payment) => self.payment_fault(chart, on, payment),
-            Act::Leave(leave) => self.leave_fault(leave),
-            Act::Close(Period::Month(month)) => self.close_fault(chart, on, *month),
+            Act::PayDue(payment) => self.payment_refusal(chart, on, payment),
+            Act::Leave(leave) => self.leave_refusal(leave),
+            Act::Close(Period::Month(month)) => self.close_refusal(chart, on, *month),
             _ => None,
         }
     }
 
-    fn payment_fault(&self, chart: &Chart, on: Day, payment: &DebtPayment) -> Option<Refusal>
+    fn payment_refusal(&self, chart: &Chart, on: Day, payment: &DebtPayment) -> Option<Refusal>
         ensures { result ≡ debt_refusal chart.now (registers_with self.now.debts) on (act.PayDue payment.now) }
     {
         match self.bond(payment.bond) {
@@ -51,7 +51,7 @@ impl Debt {
         }
     }
 
-    fn leave_fault(&self, leave: &LeaveAct) -> Option<Refusal>
+    fn leave_refusal(&self, leave: &LeaveAct) -> Option<Refusal>
         ensures { result ≡ rules.leave_refusal (registers_with self.now.debts) (act.Leave leave.now) }
     {
         match leave {
@@ -61,7 +61,7 @@ impl Debt {
         }
     }
 
-    fn close_fault(&self, chart: &Chart, on: Day, month: Month) -> Option<Refusal>
+    fn close_refusal(&self, chart: &Chart, on: Day, month: Month) -> Option<Refusal>
         ensures { result ≡ debt_refusal chart.now (registers_with self.now.debts) on (act.Close (period.Month month)) }
     {
         let next = self.next_month(chart);

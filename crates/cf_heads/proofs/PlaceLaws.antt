@@ -11,7 +11,8 @@ use Rattle.matchit.specs.Router.{RouteOf}
 use Rattle.matchit.specs.Rows.{RowsOf}
 use Rattle.cf_heads.specs.Fields.{parts}
 use Rattle.cf_heads.specs.Rows.{two, desk_rows, router_rows, calls_row, lines_row, reports_row, IsPlace}
-use Rattle.cf_heads.specs.Routes.{line_route, report_route, route_by, number_from, kind_of, IsSplit, HasTwoWords}
+use Rattle.cf_base.specs.Statements.{statement_of}
+use Rattle.cf_heads.specs.Routes.{line_route, report_route, route_by, number_from, IsSplit, HasTwoWords}
 use Rattle.cf_heads.specs.declared.route.Route.TheVariants as route
 use Rattle.cf_heads.specs.declared.router.Place.{Place}
 use Rattle.cf_heads.proofs.SeekLaws.{after_word, on_rest, ends_here, no_slash, part_no, part_empty, part_yes, lit_row, last_part, found_after, found_first}
@@ -237,7 +238,7 @@ no_second line = by_line (number_from 0 65535 line)
 no_kind : (year : List ℕ) → report_route year [] ≡ None
 no_kind year = by_year (number_from 1971 2199 year)
   where
-    by_year : (n : Option ℕ) → option_and_then (λ y. option_map (λ k. route.Report y k) (kind_of [])) n ≡ None
+    by_year : (n : Option ℕ) → option_and_then (λ y. option_map (λ k. route.Report y k) (statement_of [])) n ≡ None
     by_year None = refl
     by_year (Some y) = refl
 

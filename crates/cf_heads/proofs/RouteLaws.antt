@@ -6,7 +6,8 @@ use Rattle.std.specs.Str.{bytes_eq}
 use Rattle.std.specs.Str.Parse.{digits_value}
 use Rattle.std.proofs.lemmas.Bool.{leb-true}
 use Rattle.cf_heads.specs.Fields.{is_number}
-use Rattle.cf_heads.specs.Routes.{number_from, line_route, report_route, kind_of, route_by, route_of, path_of, ask_by, ask_of, method_of, method_name, words_of, IsRouteInForm}
+use Rattle.cf_base.specs.Statements.{statement_of}
+use Rattle.cf_heads.specs.Routes.{number_from, line_route, report_route, route_by, route_of, path_of, ask_by, ask_of, method_of, method_name, words_of, IsRouteInForm}
 use Rattle.cf_base.specs.declared.statement.Kind.{Kind}
 use Rattle.cf_heads.specs.declared.route.Route.{Route}
 use Rattle.cf_heads.specs.declared.route.Route.TheVariants as route
@@ -45,7 +46,7 @@ line_in_form line year = by_numbers (number_from 0 65535 line) (number_from 1971
     by_numbers (Some l) (Some y) a b = (a.1, record { least = b.0; most = b.1 })
 
 report_in_form : (year kind : List ℕ) → IsInForm (report_route year kind)
-report_in_form year kind = by_parts (number_from 1971 2199 year) (kind_of kind) (number_within 1971 2199 year)
+report_in_form year kind = by_parts (number_from 1971 2199 year) (statement_of kind) (number_within 1971 2199 year)
   where
     by_parts : (n : Option ℕ) (k : Option Kind) → IsWithin 1971 2199 n → IsInForm (option_and_then (λ y. option_map (λ k. route.Report y k) k) n)
     by_parts None k a = tt

@@ -5,9 +5,8 @@ use Rattle.std.specs.List.{before_first}
 use Rattle.std.specs.Option.{option_and_then, option_map}
 use Rattle.std.specs.Str.{bytes_eq}
 use Rattle.std.specs.Str.Parse.{digits_value}
-use Rattle.cf_base.specs.declared.statement.Kind.{Kind}
-use Rattle.cf_base.specs.declared.statement.Kind.TheVariants as kind
 use Rattle.cf_base.specs.Limits.{last_year}
+use Rattle.cf_base.specs.Statements.{statement_of}
 use Rattle.cf_heads.specs.Fields.{is_number, parts}
 use Rattle.cf_heads.specs.declared.route.Route.{Route}
 use Rattle.cf_heads.specs.declared.route.Route.TheVariants.{Calls, Line, Report}
@@ -30,25 +29,13 @@ number_from least most text =
     if is_number text && nat_le (length text) 5 && nat_le (digits_value 10 text) most && nat_le least (digits_value 10 text)
     then Some (digits_value 10 text) else None
 
--- the statements by their words
-abbrev pub kind_of : List ℕ → Option Kind
-kind_of word =
-    if bytes_eq word (codes "balance") then Some kind.Balance
-    else if bytes_eq word (codes "operating") then Some kind.Operating
-    else if bytes_eq word (codes "budget") then Some kind.Budget
-    else if bytes_eq word (codes "position") then Some kind.Position
-    else if bytes_eq word (codes "activities") then Some kind.Activities
-    else if bytes_eq word (codes "reconcile") then Some kind.Reconcile
-    else if bytes_eq word (codes "changes") then Some kind.Changes
-    else None
-
 abbrev pub line_route : List ℕ → List ℕ → Option Route
 line_route line year =
     option_and_then (λ l. option_map (λ y. Line l y) (number_from 1971 last_year year)) (number_from 0 65535 line)
 
 abbrev pub report_route : List ℕ → List ℕ → Option Route
 report_route year kind =
-    option_and_then (λ y. option_map (λ k. Report y k) (kind_of kind)) (number_from 1971 last_year year)
+    option_and_then (λ y. option_map (λ k. Report y k) (statement_of kind)) (number_from 1971 last_year year)
 
 -- /calls, /lines/{line}/{year} and /reports/{year}/{kind}, by the words of the path
 abbrev pub route_by : List (List ℕ) → Option Route

@@ -1,7 +1,7 @@
 //! Where requests can go, and what the words of a path say.
 
 ghost use Rattle.std.specs.Prelude.{◌≡◌};
-ghost use Rattle.cf_heads.specs.Routes.{number_from, kind_of, line_route, report_route, method_of, method_name};
+ghost use Rattle.cf_heads.specs.Routes.{number_from, line_route, report_route, method_of, method_name};
 
 use crate::fields::{is_number_text, number_within};
 use cf_base::{Kind, LAST_YEAR};
@@ -70,22 +70,6 @@ fn number_in(text: &str, least: u16, most: u16) -> Option<u16>
     }
 }
 
-/// A statement by its word.
-fn kind_in(word: &str) -> Option<Kind>
-    ensures { result ≡ kind_of word.now }
-{
-    match word {
-        "balance" => Some(Kind::Balance),
-        "operating" => Some(Kind::Operating),
-        "budget" => Some(Kind::Budget),
-        "position" => Some(Kind::Position),
-        "activities" => Some(Kind::Activities),
-        "reconcile" => Some(Kind::Reconcile),
-        "changes" => Some(Kind::Changes),
-        _ => None,
-    }
-}
-
 /// The look at a line, by its number and its fiscal year.
 pub fn line_in(line: &str, year: &str) -> Option<Route>
     ensures { result ≡ line_route line.now year.now }
@@ -100,6 +84,6 @@ pub fn report_in(year: &str, kind: &str) -> Option<Route>
     ensures { result ≡ report_route year.now kind.now }
 {
     let year = number_in(year, 1971, LAST_YEAR)?;
-    let kind = kind_in(kind)?;
+    let kind = Kind::named(kind)?;
     Some(Route::Report { year, kind })
 }

@@ -9,7 +9,7 @@ use Rattle.cf_json.specs.declared.words.LookWord.TheVariants as word
 use Rattle.cf_members.specs.Faults.{◌>>=◌}
 use Rattle.cf_members.specs.Fields.{field}
 use Rattle.cf_members.specs.Kinds.{as_n16, as_n32, as_year, as_word}
-use Rattle.cf_json.specs.Words.{basis_words, statement_words}
+use Rattle.cf_json.specs.Words.{basis_words, as_statement}
 
 abbrev pub line_of : Data → Result Read FormFault
 line_of d = do
@@ -34,7 +34,7 @@ account_of d = do
 abbrev pub report_of : Data → Result Read FormFault
 report_of d = do
   year ← field as_year (codes "year") d
-  kind ← field (as_word statement_words) (codes "kind") d
+  kind ← field as_statement (codes "kind") d
   Ok (Report year kind)
 
 -- what a look reads

@@ -4,7 +4,7 @@ use Rattle.std.specs.Borrow.{Bor}
 use Rattle.serde_json.specs.Data.{Data}
 use Rattle.serde_json.specs.Find.{as_str}
 use Rattle.cf_base.specs.declared.statement.Kind.{Kind}
-use Rattle.cf_base.specs.declared.statement.Kind.TheVariants as kind
+use Rattle.cf_base.specs.Statements.{statement_of}
 use Rattle.cf_calls.specs.declared.read.Basis.{Basis}
 use Rattle.cf_calls.specs.declared.read.Basis.TheVariants as basis
 use Rattle.cf_calls.specs.declared.acts.FundMoveKind.{FundMoveKind}
@@ -27,6 +27,10 @@ plain_words words = map (λ w. ((w.0).now, w.1)) words
 -- the changing call of a word
 abbrev pub as_change : Data → Option ActKind
 as_change d = option_and_then kind_named (as_str d)
+
+-- the statement of a word
+abbrev pub as_statement : Data → Option Kind
+as_statement d = option_and_then statement_of (as_str d)
 
 -- the words of the looks
 abbrev pub look_words : List (List ℕ × LookWord)
@@ -54,9 +58,3 @@ period_words = (codes "month", period.Month) ∷ (codes "year", period.Year) ∷
 -- the bases of accounting
 abbrev pub basis_words : List (List ℕ × Basis)
 basis_words = (codes "fund", basis.Fund) ∷ (codes "gov", basis.Gov) ∷ []
-
--- the kinds of statement
-abbrev pub statement_words : List (List ℕ × Kind)
-statement_words =
-    (codes "balance", kind.Balance) ∷ (codes "operating", kind.Operating) ∷ (codes "budget", kind.Budget) ∷ (codes "position", kind.Position)
-    ∷ (codes "activities", kind.Activities) ∷ (codes "reconcile", kind.Reconcile) ∷ (codes "changes", kind.Changes) ∷ []

@@ -5,7 +5,7 @@ ghost use Rattle.std.specs.Str.{bytes_eq};
 ghost use Rattle.cf_json.specs.Words as spec;
 ghost use Rattle.serde_json.specs.View.{view};
 ghost use Rattle.cf_members.specs.Kinds.{as_word, word_in};
-ghost use Rattle.cf_json.specs.Words.{look_words, asset_words, leave_words, move_words, period_words, basis_words, statement_words};
+ghost use Rattle.cf_json.specs.Words.{look_words, asset_words, leave_words, move_words, period_words, basis_words, as_statement};
 
 use cf_base::Kind;
 use cf_calls::acts::FundMoveKind;
@@ -88,16 +88,6 @@ const MOVE_WORDS: [(&str, FundMoveKind); 3] = [
 ];
 
 const BASES: [(&str, Basis); 2] = [("fund", Basis::Fund), ("gov", Basis::Gov)];
-
-const STATEMENTS: [(&str, Kind); 7] = [
-    ("balance", Kind::Balance),
-    ("operating", Kind::Operating),
-    ("budget", Kind::Budget),
-    ("position", Kind::Position),
-    ("activities", Kind::Activities),
-    ("reconcile", Kind::Reconcile),
-    ("changes", Kind::Changes),
-];
 
 fn entry_of<'a, W: Copy>(
     words: &'a [(&'static str, W)],
@@ -218,11 +208,11 @@ pub struct StatementWord;
 impl FieldKind for StatementWord {
     type Out = Kind;
 
-    ghost kind = { as_word statement_words };
+    ghost kind = { as_statement };
 
     ghost fits = { λ _. Unit {0} };
 
     fn read(value: &Value) -> Option<Kind> {
-        read_word(&STATEMENTS, value)
+        Kind::named(value.as_str()?)
     }
 }

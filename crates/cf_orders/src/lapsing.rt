@@ -2,37 +2,12 @@
 
 ghost use Rattle.std.specs.Prelude.{◌≡◌, ◌≤◌};
 ghost use Rattle.cf_base.specs.Limits.{last_year};
-ghost use Rattle.cf_model.specs.OrderItems as order_items;
-ghost use Rattle.cf_orders.specs.RowRolls as spec;
 ghost use Rattle.cf_orders.specs.RowRolls.{goes_on_row, lapses_row, rolls_row};
 
 use crate::items::{is_going, open_row};
 use crate::rows::ItemRow;
-use cf_calls::items::AccountItem;
-use cf_chart::{Chart, Policy};
-
-/// Whether a fund carries its open encumbrances into the year after.
-fn carries(chart: &Chart, fund: u16) -> bool
-    ensures { result ≡ spec.carries chart.now fund }
-{
-    match chart.fund(fund) {
-        None => false,
-        Some(fund) => match fund.policy {
-            Policy::Carry => true,
-            Policy::Lapse => false,
-        },
-    }
-}
-
-/// Whether an account has a line in a fiscal year.
-fn has_line(chart: &Chart, account: AccountItem, year: u16) -> bool
-    ensures { result ≡ order_items.has_line chart.now account year }
-{
-    match chart.line_of(account.fund, account.dept, account.object, year) {
-        Some(_) => true,
-        None => false,
-    }
-}
+use cf_chart::Chart;
+use cf_rows::{carries, has_line};
 
 /// Whether an item lapses at its year's roll: nothing is open, its fund carries nothing, or its account has no line in the
 /// year after.

@@ -9,7 +9,6 @@ ghost use Rattle.cf_model.specs.Deeds as spec;
 ghost use Rattle.cf_registers.specs.Deeds.{item_account};
 ghost use Rattle.cf_registers.specs.Numbered.{AreNumbered};
 
-use crate::capital::is_capital;
 use crate::closing::close_month;
 use crate::long_term::{asset_deeds, issue, lease, leave, pay_due};
 use crate::registers::Registers;
@@ -21,28 +20,8 @@ use cf_chart::Chart;
 use cf_orders::Orders;
 use cf_post::deed::{self, Collection, Deed, FundAmount, FundsAmount, Spent, SpentItem};
 use cf_revenue::Revenue;
-use cf_rows::{document_year, year_of_day};
+use cf_rows::{document_year, function_of, fund_of, is_capital, year_of_day};
 use std::alloc::{AllocError, Global};
-
-/// The function that a department works for.
-pub fn function_of(chart: &Chart, dept: u16) -> u16
-    ensures { result ≡ charted.function_of chart.now dept }
-{
-    match chart.dept(dept) {
-        Some(row) => row.function,
-        None => 0,
-    }
-}
-
-/// The fund of a source.
-fn fund_of(chart: &Chart, source: u16) -> u16
-    ensures { result ≡ charted.fund_of chart.now source }
-{
-    match chart.source(source) {
-        Some(row) => row.fund,
-        None => 0,
-    }
-}
 
 /// What an account is charged for: an asset, or its department's function.
 fn spent_on(chart: &Chart, account: AccountItem) -> Spent

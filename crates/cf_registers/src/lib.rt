@@ -3,7 +3,6 @@
 #![tactic(auto)]
 
 mod accounts;
-mod capital;
 mod closing;
 mod deeds;
 mod long_term;
@@ -14,7 +13,6 @@ mod registers;
 mod spendings;
 
 pub use accounts::Accounts;
-pub use capital::is_capital;
 pub use made::made_of;
 pub use moves::{entry_changes, merged_moves};
 pub use plan::whole;

@@ -9,7 +9,7 @@ ghost use Rattle.cf_model.specs.Deeds as spec;
 ghost use Rattle.cf_model.specs.Registers.{Registers as Entered};
 ghost use Rattle.cf_registers.specs.Numbered.{AreNumberedAssets, AreNumberedBonds};
 
-use crate::deeds::{function_of, one};
+use crate::deeds::one;
 use crate::registers::Registers;
 use cf_assets::Assets;
 use cf_base::Day;
@@ -17,7 +17,7 @@ use cf_calls::acts::{AssetAct, BondIssue, DebtPayment, Disposal, Donation, Leave
 use cf_chart::Chart;
 use cf_debt::Debt;
 use cf_post::deed::{self, Deed, DuePayment, FunctionAmount, FundAmount, MaturedLeave};
-use cf_rows::year_of_day;
+use cf_rows::{function_of, year_of_day};
 use std::alloc::{AllocError, Global};
 
 /// A capital asset is given to a department's function.

@@ -9,7 +9,6 @@ ghost use Rattle.cf_model.specs.Charted.{is_capital as is_capital_object};
 ghost use Rattle.cf_model.specs.Receivables.{bill_at};
 ghost use Rattle.cf_model.specs.Results as results;
 
-use crate::capital::is_capital;
 use crate::registers::Registers;
 use cf_base::Day;
 use cf_calls::acts::AssetAct;
@@ -18,6 +17,7 @@ use cf_calls::{Act, Drawn, Entry, Made};
 use cf_chart::Chart;
 use cf_debt::Debt;
 use cf_revenue::Revenue;
+use cf_rows::is_capital;
 
 /// What an accepted entry made, over the registers before it.
 pub fn made_of(chart: &Chart, registers: &Registers, entry: &Entry) -> Made

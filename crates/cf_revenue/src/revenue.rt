@@ -5,17 +5,16 @@ ghost use Rattle.cf_base.specs.Calendar.{is_day};
 ghost use Rattle.cf_model.specs.Results.{bill_draws};
 ghost use Rattle.cf_model.specs.Changes.{deferred_in};
 ghost use Rattle.cf_model.specs.Receivables as spec;
-ghost use Rattle.cf_model.specs.Receivables.{no_receivables, bill_at, window_if};
+ghost use Rattle.cf_model.specs.Receivables.{no_receivables, bill_at};
 ghost use Rattle.cf_revenue.specs.ReceivablesShown.{bill_now_at, receivable_shown};
 ghost use Rattle.cf_revenue.specs.Steps.{ShowsBill};
-ghost use Rattle.cf_chart.specs.Plan.{source_at};
 
 use crate::recognition::revenue_year;
 use crate::rows::{BillRow, LoanRow, SettlementRow};
 use cf_base::Day;
 use cf_calls::{Act, Drawn, Read, Shown};
 use cf_chart::Chart;
-use cf_rows::{NumberPair, YEARS, amount_at, difference, total_through};
+use cf_rows::{NumberPair, YEARS, amount_at, difference, total_through, window_of};
 use std::alloc::Global;
 use std::collections::BTreeMap;
 use std::marker::Model;
@@ -185,15 +184,5 @@ pub(crate) fn owed_key(debtor: u16, creditor: u16) -> NumberPair
     NumberPair {
         first: debtor,
         second: creditor,
-    }
-}
-
-/// The availability period of a revenue source, in days.
-fn window_of(chart: &Chart, source: u16) -> u16
-    ensures { result ≡ window_if (source_at chart.now source) }
-{
-    match chart.source(source) {
-        None => 0,
-        Some(source) => source.window,
     }
 }

@@ -18,11 +18,11 @@ use cf_base::Day;
 use cf_calls::acts::{AssetAct, DebtPayment, LeaveAct};
 use cf_calls::items::AccountItem;
 use cf_calls::{Act, NameKind, Refusal};
-use cf_chart::{Chart, ObjectKind};
+use cf_chart::Chart;
 use cf_debt::Debt;
-use cf_registers::{Registers, is_capital};
+use cf_registers::Registers;
 use cf_revenue::Revenue;
-use cf_rows::year_of_day;
+use cf_rows::{is_capital, is_current, is_interest, is_principal, year_of_day};
 
 /// Refuses a department that isn't in the chart.
 pub fn dept_refusal(chart: &Chart, dept: u16) -> Option<Refusal>
@@ -41,33 +41,6 @@ fn capital_refusal(chart: &Chart, object: u16) -> Option<Refusal>
         None
     } else {
         Some(unknown(NameKind::Object, object))
-    }
-}
-
-fn is_current(chart: &Chart, object: u16) -> bool
-    ensures { result ≡ charted.is_current (object_at chart.now object) }
-{
-    match chart.object(object) {
-        Some(row) => matches!(row.kind, ObjectKind::Current),
-        None => false,
-    }
-}
-
-fn is_principal(chart: &Chart, object: u16) -> bool
-    ensures { result ≡ charted.is_principal (object_at chart.now object) }
-{
-    match chart.object(object) {
-        Some(row) => matches!(row.kind, ObjectKind::Principal),
-        None => false,
-    }
-}
-
-fn is_interest(chart: &Chart, object: u16) -> bool
-    ensures { result ≡ charted.is_interest (object_at chart.now object) }
-{
-    match chart.object(object) {
-        Some(row) => matches!(row.kind, ObjectKind::Interest),
-        None => false,
     }
 }
 

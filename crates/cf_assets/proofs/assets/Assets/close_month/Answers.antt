@@ -17,7 +17,7 @@ overflow_add-before c =
       amortized_most inventory.closed inventory.assets c.count-count.ensures.cheap,
       c.count-count.ensures.value,
       c.count-count.ensures.most,
-      c.leased_charge.ensures.most,
+      c.close-leased.ensures.most,
     )
 
 pub invariant_of-self : goal.invariant_of-self
@@ -29,11 +29,11 @@ invariant_of-self c =
     let before : c.accumulated_after-before.result ≡ accumulated_at amortized inventory.closed = c.accumulated_after-before.ensures ∙ ap (accumulated_at amortized) c.closed.ensures.value in
     record {
       acts = omega (arith, few);
-      few = rw c.close.ensures.assets (omega (arith, was.few));
-      closed = omega (arith, was.closed, c.close.ensures.closed);
+      few = rw c.close-leased.ensures.assets (omega (arith, was.few));
+      closed = omega (arith, was.closed, c.close-leased.ensures.closed);
       vouchers = omega (arith, was.vouchers);
-      extents = rw c.close.ensures.assets was.extents;
-      leased = rw c.close.ensures.assets was.leased;
-      amortized = rw (c.close.ensures.assets, c.close.ensures.closed, c.push_reserved.ensures.items)
-          (close_months inventory.assets inventory.closed amortized c.accumulated_after-before.result c.leased_charge.result before c.leased_charge.ensures.value was.amortized);
+      extents = rw c.close-leased.ensures.assets was.extents;
+      leased = rw c.close-leased.ensures.assets was.leased;
+      amortized = rw (c.close-leased.ensures.assets, c.close-leased.ensures.closed, c.push_reserved.ensures.items)
+          (close_months inventory.assets inventory.closed amortized c.accumulated_after-before.result c.close-leased.result before c.close-leased.ensures.leased was.amortized);
     }

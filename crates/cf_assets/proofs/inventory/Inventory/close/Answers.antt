@@ -15,8 +15,8 @@ overflow_add-before c =
     let was = c.self.invariant in
     let len : c.len-closed.result ≡ length accumulated = omega (arith, c.len-closed.ensures) in
     let before : c.accumulated_after-before.result ≡ accumulated_at accumulated (length accumulated) = c.accumulated_after-before.ensures ∙ ap (accumulated_at accumulated) len in
-    let charged : c.total_charge-charge.result ≡ sum_by (charge (length accumulated)) (map view_asset rows) = c.total_charge-charge.ensures ∙ (λ i. sum_by (charge (len i)) (map view_asset (c.deref.ensures.value i))) in
-    omega (arith, close_fits rows accumulated c.accumulated_after-before.result c.total_charge-charge.result was.few was.rows was.accumulated before charged)
+    let charged : c.total_charges-charges.result.all ≡ sum_by (charge (length accumulated)) (map view_asset rows) = c.total_charges-charges.ensures.all ∙ (λ i. sum_by (charge (len i)) (map view_asset (c.deref.ensures.value i))) in
+    omega (arith, close_fits rows accumulated c.accumulated_after-before.result c.total_charges-charges.result.all was.few was.rows was.accumulated before charged)
 
 pub invariant_of-self : goal.invariant_of-self
 invariant_of-self c =
@@ -26,13 +26,13 @@ invariant_of-self c =
     let few : length accumulated < most_entries = subst (λ (i : Inventory). i.closed < most_entries) (sym c.self.view_is) c.requires.few in
     let len : c.len-closed.result ≡ length accumulated = omega (arith, c.len-closed.ensures) in
     let before : c.accumulated_after-before.result ≡ accumulated_at accumulated (length accumulated) = c.accumulated_after-before.ensures ∙ ap (accumulated_at accumulated) len in
-    let charged : c.total_charge-charge.result ≡ sum_by (charge (length accumulated)) (map view_asset rows) = c.total_charge-charge.ensures ∙ (λ i. sum_by (charge (len i)) (map view_asset (c.deref.ensures.value i))) in
+    let charged : c.total_charges-charges.result.all ≡ sum_by (charge (length accumulated)) (map view_asset rows) = c.total_charges-charges.ensures.all ∙ (λ i. sum_by (charge (len i)) (map view_asset (c.deref.ensures.value i))) in
     record {
       few = was.few;
       months = rw (c.push_reserved.ensures.items, length-append accumulated) (omega (arith, few));
       rows = rw (c.push_reserved.ensures.items, length-append accumulated) (rows_close (length accumulated) rows was.rows);
       serving = rw (c.push_reserved.ensures.items, length-append accumulated, c.retire.ensures, c.deref-3.ensures.value, len) (retired (length accumulated) rows c.self.inside.serving.items was.serving);
-      accumulated = rw c.push_reserved.ensures.items (close_accumulated (map view_asset rows) accumulated c.accumulated_after-before.result c.total_charge-charge.result was.accumulated before charged);
+      accumulated = rw c.push_reserved.ensures.items (close_accumulated (map view_asset rows) accumulated c.accumulated_after-before.result c.total_charges-charges.result.all was.accumulated before charged);
       outlay = was.outlay;
       donated = was.donated;
       disposals = rw (c.push_reserved.ensures.items, length-append accumulated) (close_books (length accumulated) rows c.self.inside.disposals was.rows was.disposals);

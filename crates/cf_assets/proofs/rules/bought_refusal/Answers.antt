@@ -6,7 +6,7 @@ use Rattle.cf_assets.proofs.Standing.{of_voucher, scan_first, scan_more, scan_la
 use Rattle.cf_calls.specs.declared.refusal.Refusal.{Refusal}
 use Rattle.cf_model.specs.RegisterRules.{voided_asset}
 use Rattle.cf_model.specs.Rules.{or_else, first_refusal}
-use Rattle.cf_assets.proofs.rules.first_fault.Goals as goal
+use Rattle.cf_assets.proofs.rules.bought_refusal.Goals as goal
 
 none_is : (r : Option Refusal) → is_some r ≡ false → r ≡ None
 none_is None e = refl
@@ -28,7 +28,7 @@ returns-then-is_some c =
     let is : IsExtent n i.assets e = subst (IsExtent n i.assets) (sym c.extent_of-extent.ensures) (c.requires n) in
     let d = view_asset no_row in
     let f = voided_asset i.closed in
-    let here : c.voided_asset-fault.result ≡ voided_asset i.closed (get_or i.assets c.loop-at.at d) = c.voided_asset-fault.ensures ∙ (λ j. voided_asset (c.closed-closed.ensures.value j) (c.row.ensures.is d j)) in
+    let here : c.voided_asset-refusal.result ≡ voided_asset i.closed (get_or i.assets c.loop-at.at d) = c.voided_asset-refusal.ensures ∙ (λ j. voided_asset (c.closed-closed.ensures.value j) (c.row.ensures.is d j)) in
     let some : is_some (voided_asset i.closed (get_or i.assets c.loop-at.at d)) ≡ true = ap is_some (sym here) ∙ sym c.is_some.ensures ∙ c.if-is_some.true in
     here
     ∙ sym (c.loop-at.invariant ∙ scan_more f n i.assets e c.loop-at.at d is c.loop-at.auto.at c.loop-at-test.true ∙ refusal_found (f (get_or i.assets c.loop-at.at d)) (first_refusal f (rest (of_voucher n) (c.loop-at.at + 1) i.assets)) some)
@@ -41,7 +41,7 @@ loop-at-preserved c =
     let is : IsExtent n i.assets e = subst (IsExtent n i.assets) (sym c.extent_of-extent.ensures) (c.requires n) in
     let d = view_asset no_row in
     let f = voided_asset i.closed in
-    let here : c.voided_asset-fault.result ≡ voided_asset i.closed (get_or i.assets c.loop-at.at d) = c.voided_asset-fault.ensures ∙ (λ j. voided_asset (c.closed-closed.ensures.value j) (c.row.ensures.is d j)) in
+    let here : c.voided_asset-refusal.result ≡ voided_asset i.closed (get_or i.assets c.loop-at.at d) = c.voided_asset-refusal.ensures ∙ (λ j. voided_asset (c.closed-closed.ensures.value j) (c.row.ensures.is d j)) in
     let none : voided_asset i.closed (get_or i.assets c.loop-at.at d) ≡ None = none_is (voided_asset i.closed (get_or i.assets c.loop-at.at d)) (ap is_some (sym here) ∙ sym c.is_some.ensures ∙ c.if-is_some.false) in
     c.loop-at.invariant ∙ scan_more f n i.assets e c.loop-at.at d is c.loop-at.auto.at c.loop-at-test.true ∙ ap (λ (r : Option Refusal). or_else r (first_refusal f (rest (of_voucher n) (c.loop-at.at + 1) i.assets))) none
 

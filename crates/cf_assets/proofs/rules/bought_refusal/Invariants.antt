@@ -4,7 +4,7 @@ use Rattle.cf_assets.proofs.Finding.{rest}
 use Rattle.cf_assets.proofs.Standing.{of_voucher}
 use Rattle.cf_model.specs.RegisterRules.{voided_asset}
 use Rattle.cf_model.specs.Rules.{first_refusal}
-use Rattle.cf_assets.proofs.rules.first_fault.Given as goal
+use Rattle.cf_assets.proofs.rules.bought_refusal.Given as goal
 
 abbrev pub invariant-loop-at : goal.invariant-loop-at
 invariant-loop-at l =

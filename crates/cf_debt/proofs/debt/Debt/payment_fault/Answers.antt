@@ -1,8 +1,0 @@
-use Rattle.cf_debt.proofs.Refusing.{no_fault, payment_fault}
-use Rattle.cf_debt.proofs.debt.Debt.payment_fault.Goals as goal
-
-pub returns-in-None : goal.returns-in-None
-returns-in-None c = no_fault c.args.chart.now c.args.self.now.debts c.args.on c.args.payment.now c.in-None.ensures
-
-pub returns-in-Some-next : goal.returns-in-Some-next
-returns-in-Some-next c = payment_fault c.args.chart.now c.args.self.now.debts c.args.on c.args.payment.now c.in-Some.bond c.in-Some-next.next c.not_due.result c.in-Some.ensures c.in-Some-next.is c.not_due.ensures
