@@ -7,4 +7,5 @@ pub mod Money
 pub mod Reading
 pub mod Shares
 pub mod Sinks
+pub mod Statements
 pub mod Windows
