@@ -7,20 +7,10 @@ use Rattle.cf_chart.specs.declared.fault.ChartFault.TheVariants as fault
 use Rattle.cf_chart.specs.declared.fault.KeyName.{KeyName}
 use Rattle.cf_chart.specs.declared.fault.TableName.{TableName}
 use Rattle.cf_chart.specs.declared.fault.TableName.TheVariants as table
-use Rattle.cf_chart.specs.Faults.{Checked, word_of}
+use Rattle.cf_chart.specs.Faults.{Checked, table_word, word_of}
 use Rattle.cf_chart.specs.Reading.{value_of}
 use Rattle.cf_books_grants.specs.FaultIds.{id_in}
 use Rattle.cf_books.specs.declared.fault_rows.FaultRow.{FaultRow}
-
-abbrev pub table_word : TableName → List ℕ
-table_word table.Top = codes "top level"
-table_word table.Function = codes "function"
-table_word table.Fund = codes "fund"
-table_word table.Department = codes "department"
-table_word table.Object = codes "object"
-table_word table.Source = codes "source"
-table_word table.Line = codes "line"
-table_word table.Desk = codes "desk"
 
 -- ---- which row
 

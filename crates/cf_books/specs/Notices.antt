@@ -1,22 +1,17 @@
 -- The exit code of the program, and what it says on standard error.
 use Rattle.std.specs.Prelude.{ℕ, zero, suc, ◌+◌, List, [], ◌∷◌, ◌++◌, slice_index_or, codes, decimal, Option, Some, None}
-use Rattle.cf_chart.specs.Faults.{word_of}
+use Rattle.cf_chart.specs.Faults.{table_word, word_of}
 use Rattle.cf_chart.specs.declared.fault.ChartFault.{ChartFault}
 use Rattle.cf_chart.specs.declared.fault.ChartFault.TheVariants as fault
 use Rattle.cf_chart.specs.declared.fault.TableName.{TableName}
 use Rattle.cf_calls.specs.Refusals.{refusal_names}
+use Rattle.cf_books_grants.specs.FaultIds.{id_text}
 use Rattle.cf_books_grants.specs.Faults.{fault_text as grant_fault_text}
-use Rattle.cf_books.specs.FaultRows.{table_word}
 use Rattle.cf_books.specs.declared.status.RefusedEntry.{RefusedEntry}
 use Rattle.cf_books.specs.declared.status.Status.{Status}
 use Rattle.cf_books.specs.declared.status.Status.TheVariants.{Done, BadWords, ChartRefused, GrantsRefused, ReadFault, WriteFault, NotFounded, Damaged, NoMemory, Cut}
 
 -- ---- a chart's fault, in the words of `docs/CHART.md`
-
--- the id of a row, where it is known
-abbrev pub id_text : Option ℕ → List ℕ
-id_text None = []
-id_text (Some id) = codes " (id " ++ (decimal id ++ codes ")")
 
 -- a table, the place of a row in it, counted from 0, and the row's id
 abbrev pub row_text : TableName → ℕ → Option ℕ → List ℕ

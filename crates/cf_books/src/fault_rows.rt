@@ -17,22 +17,6 @@ struct FaultRow {
     at: u64,
 }
 
-/// A table as it is written. The top level has no name in a chart, and is said as such.
-pub fn table_word(table: TableName) -> &'static str
-    ensures { result.now ≡ spec.table_word table }
-{
-    match table {
-        TableName::Top => "top level",
-        TableName::Function => "function",
-        TableName::Fund => "fund",
-        TableName::Department => "department",
-        TableName::Object => "object",
-        TableName::Source => "source",
-        TableName::Line => "line",
-        TableName::Desk => "desk",
-    }
-}
-
 /// Whether the rows of a table have ids: a line is known by its place alone.
 fn has_ids(table: TableName) -> bool
     ensures { result ≡ spec.has_ids table }
@@ -46,7 +30,7 @@ fn is_beside_id(table: TableName, key: KeyName) -> bool
     ensures { result ≡ spec.is_beside_id table key }
 {
     let word = key.word();
-    word != "id" && word != table_word(table)
+    word != "id" && word != table.word()
 }
 
 /// This row, where it is wanted and the rows of its table have ids.
@@ -76,7 +60,7 @@ fn row_of(fault: ChartFault) -> Option<FaultRow>
 fn id_at(document: &Value, row: FaultRow) -> Option<u16>
     ensures { result ≡ spec.id_at row (view document.now) }
 {
-    id_in(document.get(table_word(row.table))?.get(row.at as usize)?)
+    id_in(document.get(row.table.word())?.get(row.at as usize)?)
 }
 
 /// The id of a row of the document that these bytes are. A row has none where they are no document.

@@ -4,36 +4,19 @@ ghost use Rattle.std.specs.Prelude.{◌≡◌, ◌++◌, Some, OnOk};
 ghost use Rattle.cf_chart.specs.Faults.{word_of};
 ghost use Rattle.cf_books.specs.Notices as spec;
 
-use crate::fault_rows::table_word;
 use crate::status::{RefusedEntry, Status};
-use cf_books_lists::put_between;
+use cf_books_grants::put_id;
+use cf_books_lists::{put_between, put_text};
 use cf_calls::refusal_name;
 use cf_chart::{ChartFault, KeyName, TableName};
 use cf_members::parts::put_number;
 use std::alloc::AllocError;
 
-/// Appends a text.
-fn put_text(out: &mut Vec<u8>, text: &str) -> Result<(), AllocError>
-    ensures { OnOk result (out.new.items ≡ out.old.items ++ text.now) }
-{
-    out.extend_from_slice(text.as_bytes())
-}
-
-/// Appends the id of a row, where it is known.
-fn put_id(out: &mut Vec<u8>, id: Option<u16>) -> Result<(), AllocError>
-    ensures { OnOk result (out.new.items ≡ out.old.items ++ spec.id_text id) }
-{
-    match id {
-        None => Ok(()),
-        Some(id) => put_between(out, " (id ", id as u64, ")"),
-    }
-}
-
 /// Appends a table, the place of a row in it, and the row's id.
 fn put_row(out: &mut Vec<u8>, table: TableName, at: u64, id: Option<u16>) -> Result<(), AllocError>
     ensures { OnOk result (out.new.items ≡ out.old.items ++ spec.row_text table at id) }
 {
-    out.extend_from_slice(table_word(table).as_bytes())?;
+    out.extend_from_slice(table.word().as_bytes())?;
     out.push(b' ')?;
     put_number(out, at)?;
     put_id(out, id)
@@ -56,7 +39,7 @@ fn put_fault(out: &mut Vec<u8>, fault: ChartFault, id: Option<u16>) -> Result<()
         ChartFault::NotToml => out.extend_from_slice(b"no TOML document"),
         ChartFault::TooMany { table } => {
             out.extend_from_slice(b"too many rows in ")?;
-            out.extend_from_slice(table_word(table).as_bytes())
+            out.extend_from_slice(table.word().as_bytes())
         }
         ChartFault::Missing { table, at, key } => {
             put_row(out, table, at, id)?;

@@ -1,5 +1,5 @@
 -- The id of the grant that a fault is in.
-use Rattle.std.specs.Prelude.{ℕ, Bool, true, false, if◌then◌else◌, List, codes, Option, Some, None, option_and_then, Ok, Err}
+use Rattle.std.specs.Prelude.{ℕ, Bool, true, false, if◌then◌else◌, List, [], ◌++◌, codes, decimal, Option, Some, None, option_and_then, Ok, Err}
 use Rattle.toml.specs.Data.{Data, at as item_at, get}
 use Rattle.cf_chart.specs.Values.{within}
 use Rattle.cf_grants.specs.declared.fault.GrantFault.{GrantFault}
@@ -28,6 +28,11 @@ place_of _ = None
 -- the id of a row, where it is in form
 abbrev pub id_in : Data → Option ℕ
 id_in row = option_and_then (within 0 65535) (get (codes "id") row)
+
+-- the id of a row, where it is known
+abbrev pub id_text : Option ℕ → List ℕ
+id_text None = []
+id_text (Some id) = codes " (id " ++ (decimal id ++ codes ")")
 
 abbrev pub id_at : ℕ → Data → Option ℕ
 id_at at d = option_and_then id_in (option_and_then (item_at at) (get (codes "grant") d))

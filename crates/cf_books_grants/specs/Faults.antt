@@ -1,13 +1,9 @@
 -- The fault of a document of grants, in words.
 use Rattle.std.specs.Prelude.{ℕ, List, [], ◌∷◌, ◌++◌, codes, decimal, Option, Some, None}
 use Rattle.cf_grants.specs.Faults.{word_of}
+use Rattle.cf_books_grants.specs.FaultIds.{id_text}
 use Rattle.cf_grants.specs.declared.fault.GrantFault.{GrantFault}
 use Rattle.cf_grants.specs.declared.fault.GrantFault.TheVariants.{TooLong, NotToml, TooMany, Missing, Bad, Twice, Unknown}
-
--- the id of a row, where it is known
-abbrev pub id_text : Option ℕ → List ℕ
-id_text None = []
-id_text (Some id) = (codes " (id " ++ decimal id) ++ 41 ∷ []
 
 -- the place of a grant, counted from 0, and its id
 abbrev pub row_text : ℕ → Option ℕ → List ℕ

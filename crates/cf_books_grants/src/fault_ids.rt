@@ -1,11 +1,12 @@
-//! The id of the grant that a fault is in, which tells more than its place.
+//! The id of the row that a fault is in, which tells more than its place.
 
-ghost use Rattle.std.specs.Prelude.{◌≡◌, IfOk};
+ghost use Rattle.std.specs.Prelude.{◌≡◌, ◌++◌, IfOk, OnOk};
 ghost use Rattle.toml.specs.View.{view};
 ghost use Rattle.cf_chart.specs.Values.{natural as a_natural};
 ghost use Rattle.cf_grants.specs.Reading.{value_of};
 ghost use Rattle.cf_books_grants.specs.FaultIds as spec;
 
+use cf_books_lists::put_between;
 use cf_grants::{GrantFault, GrantKey};
 use std::alloc::{AllocError, Global};
 use toml::Value;
@@ -50,6 +51,16 @@ pub fn id_in(row: &Value) -> Option<u16>
     match row.get("id")?.as_integer().and_then(natural) {
         Some(id) if id <= 65_535 => Some(id as u16),
         _ => None,
+    }
+}
+
+/// Appends the id of a row, where it is known.
+pub fn put_id(out: &mut Vec<u8>, id: Option<u16>) -> Result<(), AllocError>
+    ensures { OnOk result (out.new.items ≡ out.old.items ++ spec.id_text id) }
+{
+    match id {
+        None => Ok(()),
+        Some(id) => put_between(out, " (id ", id as u64, ")"),
     }
 }
 

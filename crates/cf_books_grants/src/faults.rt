@@ -5,29 +5,10 @@ ghost use Rattle.cf_grants.specs.Faults.{word_of};
 ghost use Rattle.cf_books_grants.specs.Faults as spec;
 
 use crate::document::put_count;
+use crate::fault_ids::put_id;
+use cf_books_lists::put_text;
 use cf_grants::{GrantFault, GrantKey};
 use std::alloc::AllocError;
-
-/// Appends a text.
-fn put_text(out: &mut Vec<u8>, text: &str) -> Result<(), AllocError>
-    ensures { OnOk result (out.new.items ≡ out.old.items ++ text.now) }
-{
-    out.extend_from_slice(text.as_bytes())
-}
-
-/// Appends the id of a row, where it is known.
-fn put_id(out: &mut Vec<u8>, id: Option<u16>) -> Result<(), AllocError>
-    ensures { OnOk result (out.new.items ≡ out.old.items ++ spec.id_text id) }
-{
-    match id {
-        None => Ok(()),
-        Some(id) => {
-            put_count(out, " (id ", id as u64)?;
-            out.push(b')')?;
-            Ok(())
-        }
-    }
-}
 
 /// Appends the place of a grant and its id.
 fn put_row(out: &mut Vec<u8>, at: u64, id: Option<u16>) -> Result<(), AllocError>

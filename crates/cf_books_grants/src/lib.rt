@@ -8,6 +8,6 @@ mod faults;
 mod vouchers;
 
 pub use document::document_text;
-pub use fault_ids::{fault_id, id_in};
+pub use fault_ids::{fault_id, id_in, put_id};
 pub use faults::put_fault;
 pub use vouchers::vouchers_text;

@@ -19,4 +19,4 @@ pub use open::open_text;
 pub use posts::{PlacedPost, open_with_posts, posts_text};
 pub use rows::{Layout, Rows};
 pub use statement::statement_text;
-pub use texts::{decimal_text, drawn_text, put_between};
+pub use texts::{decimal_text, drawn_text, put_between, put_text};

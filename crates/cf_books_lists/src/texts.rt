@@ -66,6 +66,13 @@ pub fn drawn_text(alloc: Global, n: u64) -> Result<Vec<u8>, AllocError>
     decimal_text(alloc, n)
 }
 
+/// Appends a text.
+pub fn put_text(out: &mut Vec<u8>, text: &str) -> Result<(), AllocError>
+    ensures { OnOk result (out.new.items ≡ out.old.items ++ text.now) }
+{
+    out.extend_from_slice(text.as_bytes())
+}
+
 /// Appends a text, a number and a text.
 pub fn put_between(out: &mut Vec<u8>, before: &str, n: u64, after: &str) -> Result<(), AllocError>
     ensures { OnOk result (out.new.items ≡ out.old.items ++ (before.now ++ (decimal n ++ after.now))) }
