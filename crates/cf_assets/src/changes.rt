@@ -1,7 +1,7 @@
 //! Capital assets and right-to-use assets in the reconciliation of fund balances and net position (GASB Statements 34 and
 //! 87).
 
-ghost use Rattle.std.specs.Prelude.{◌≡◌, ◌≤◌, ◌<◌, ◌-◌, ◌^◌, ◌-ℤ◌, pos, sum_by};
+ghost use Rattle.std.specs.Prelude.{◌≡◌, ◌≤◌, ◌-◌, sum_by};
 ghost use Rattle.std.specs.List.{AllByRecursion};
 ghost use Rattle.cf_base.specs.Limits.{last_fiscal_year};
 ghost use Rattle.cf_assets.specs.Changes.{asset_changes};

@@ -1,8 +1,7 @@
 //! Capital assets by number, with their sums by fiscal year.
 
-ghost use Rattle.std.specs.Prelude.{◌≡◌, ◌≤◌, ◌<◌, ◌+◌, ◌∷◌, ◌++◌, ℕ, [], true, is_some, length, sum_by, slice_index_or, OnOk, IfSome, option_map, option_to_list, ◌==◌, vec_len};
+ghost use Rattle.std.specs.Prelude.{◌≡◌, ◌≤◌, ◌<◌, ◌+◌, ◌∷◌, ◌++◌, ℕ, [], true, is_some, length, sum_by, slice_index_or, OnOk, IfSome, option_map, option_to_list, ◌==◌};
 ghost use Rattle.std.specs.List.{filter};
-ghost use Rattle.std.specs.Vec.{vec_capacity};
 ghost use Rattle.cf_base.specs.Limits.{last_fiscal_year, most_entries, most_cents};
 ghost use Rattle.cf_chart.specs.Rising.{is_rising};
 ghost use Rattle.cf_assets.specs.Charges.{AreCharges, charge_in, of_kind};
@@ -10,7 +9,7 @@ ghost use Rattle.cf_assets.specs.Inventory.{AreCheap, AreNumbered, StagesOne, ac
 ghost use Rattle.cf_assets.specs.Rows.{view_asset, view_origin, IsRow};
 ghost use Rattle.cf_assets.specs.declared.rows.Acquired.TheVariants.{Given, Leased};
 ghost use Rattle.cf_assets.specs.Inventory as spec;
-ghost use Rattle.cf_model.specs.Assets.{Asset, held, void, disposed, depreciation, voucher_of};
+ghost use Rattle.cf_model.specs.Assets.{Asset, held, void, disposed, voucher_of};
 ghost use Rattle.cf_model.specs.RegisterRules.{asset_at};
 ghost use Rattle.cf_rows.specs.Limits.{most_items, most_total};
 

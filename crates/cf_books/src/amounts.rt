@@ -1,6 +1,6 @@
 //! The amount of an act.
 
-ghost use Rattle.std.specs.Prelude.{◌≡◌, ◌≤◌, ◌<◌, ◌*◌, ◌^◌, ℕ, length, sum_by};
+ghost use Rattle.std.specs.Prelude.{◌≡◌, ◌≤◌, ◌<◌, ◌^◌, ℕ, length, sum_by};
 ghost use Rattle.cf_calls.specs.Form.{IsActInForm};
 ghost use Rattle.cf_books.specs.Amounts as spec;
 

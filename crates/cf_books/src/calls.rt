@@ -1,6 +1,6 @@
 //! The entries of a journal as calls.
 
-ghost use Rattle.std.specs.Prelude.{◌≡◌, [], ◌++◌, List, OnOk};
+ghost use Rattle.std.specs.Prelude.{◌≡◌, [], ◌++◌, OnOk};
 ghost use Rattle.std.specs.List.{All};
 ghost use Rattle.cf_calls.specs.Form.{IsChangeInForm};
 ghost use Rattle.cf_chart.specs.Plan.{Plan};

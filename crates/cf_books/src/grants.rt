@@ -1,6 +1,5 @@
 //! What is said of a document of grants, under the chart or over the history of a journal.
 
-ghost use Rattle.std.specs.Prelude.{◌≡◌};
 ghost use Rattle.cf_book.specs.Recovery.{recovered};
 ghost use Rattle.cf_chart.specs.Reading.{chart_of};
 ghost use Rattle.cf_claims.specs.Standing.{vouchers_of_grant as rows_of_grant};

@@ -3,7 +3,6 @@
 ghost use Rattle.std.specs.Prelude.{◌≡◌, IfOk, Result};
 ghost use Rattle.cf_book.specs.Recovery.{recovered};
 ghost use Rattle.cf_book.specs.declared.refused.BookRefused.{BookRefused as BookRefusal};
-ghost use Rattle.cf_books_words.specs.declared.words.Command.{Command};
 ghost use Rattle.cf_books_words.specs.declared.words.Command.TheVariants.{Check};
 ghost use Rattle.cf_books.specs.Answers as spec;
 ghost use Rattle.cf_books.specs.Answers.{Answers, Opens, Refuses, opened};

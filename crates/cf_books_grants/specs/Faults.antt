@@ -1,5 +1,5 @@
 -- The fault of a document of grants, in words.
-use Rattle.std.specs.Prelude.{ℕ, List, [], ◌∷◌, ◌++◌, codes, decimal, Option, Some, None}
+use Rattle.std.specs.Prelude.{ℕ, List, ◌++◌, codes, decimal, Option}
 use Rattle.cf_grants.specs.Faults.{word_of}
 use Rattle.cf_books_grants.specs.FaultIds.{id_text}
 use Rattle.cf_grants.specs.declared.fault.GrantFault.{GrantFault}

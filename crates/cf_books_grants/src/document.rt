@@ -1,6 +1,6 @@
 //! What a document of grants has.
 
-ghost use Rattle.std.specs.Prelude.{◌≡◌, ◌++◌, decimal, pos, string_bytes, IfOk, OnOk, length};
+ghost use Rattle.std.specs.Prelude.{◌≡◌, ◌++◌, decimal, pos, string_bytes, IfOk, OnOk};
 ghost use Rattle.cf_base.specs.Amounts.{money_of};
 ghost use Rattle.cf_books_grants.specs.Documents as spec;
 

@@ -2,7 +2,6 @@
 -- line with its names.
 use Rattle.std.specs.Prelude.{◌≡◌, ⊤, ℕ, ℤ, Bool, false, ◌+◌, ◌==◌, ◌&&◌, if◌then◌else◌, List, [], ◌∷◌, ◌++◌, Option, Some, None, codes, flat_map, length, slice_get}
 use Rattle.std.specs.Str.{bytes_eq}
-use Rattle.cf_base.specs.declared.statement.Kind.{Kind}
 use Rattle.cf_base.specs.declared.statement.Kind.TheVariants.{Balance, Budget, Activities}
 use Rattle.cf_calls.specs.declared.entry.Entry.{Entry}
 use Rattle.cf_calls.specs.declared.reply.Row.{Row}

@@ -1,6 +1,6 @@
 //! What is open, as looks at documents, bills and debt show it, and what is closed.
 
-ghost use Rattle.std.specs.Prelude.{◌≡◌, ◌++◌, pos, string_bytes, IfOk, OnOk};
+ghost use Rattle.std.specs.Prelude.{◌≡◌, pos, string_bytes, IfOk, OnOk};
 ghost use Rattle.cf_base.specs.Amounts.{money_of};
 ghost use Rattle.std.specs.Option.{option_copied};
 ghost use Rattle.cf_books_lists.specs.Open as spec;

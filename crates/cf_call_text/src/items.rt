@@ -1,10 +1,9 @@
 //! The lists of a call.
 
-ghost use Rattle.std.specs.Prelude.{◌≡◌, ◌++◌, false, true, map, OnOk};
+ghost use Rattle.std.specs.Prelude.{◌≡◌, ◌++◌, false, true, OnOk};
 ghost use Rattle.std.specs.List.{All};
 ghost use Rattle.serde_json.specs.Data.{Data};
-ghost use Rattle.serde_json.specs.View.{items_of};
-ghost use Rattle.serde_json.specs.Written.{comma_if, items_text};
+ghost use Rattle.serde_json.specs.Written.{comma_if};
 ghost use Rattle.cf_members.specs.Objects.{count, list_of, text_of};
 ghost use Rattle.cf_call_text.specs.CallText.{fields_text};
 ghost use Rattle.cf_call_text.specs.Fits.{IsN32, IsN64, LineAmountFits, SourceAmountFits, AccountFits, VoucherItemFits, ChargeFits, LiquidationFits};

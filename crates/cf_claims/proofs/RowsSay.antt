@@ -7,8 +7,8 @@ use Rattle.std.specs.Ordering.{nat_cmp, is_eq}
 use Rattle.cf_calls.specs.declared.entry.Entry.{Entry}
 use Rattle.cf_chart.specs.Plan.{Plan}
 use Rattle.cf_claims.proofs.Claiming.{drop_next}
-use Rattle.cf_claims.specs.Claims.{Claim, amount_of, claim_if, claims_from, claims_of, eligible, is_claimable, left_of, share_of, voucher_year}
-use Rattle.cf_claims.specs.Standing.{bill_of, claim_by, claims_in, row_if, row_of, rows_from, rows_of, state_of, unclaimed_by, unclaimed}
+use Rattle.cf_claims.specs.Claims.{amount_of, claim_if, claims_from, claims_of, eligible, is_claimable, left_of, share_of, voucher_year}
+use Rattle.cf_claims.specs.Standing.{bill_of, claim_by, claims_in, row_if, row_of, rows_from, rows_of, unclaimed_by, unclaimed}
 use Rattle.cf_claims.specs.declared.standing.ClaimState.{ClaimState}
 use Rattle.cf_claims.specs.declared.standing.GrantVoucher.{GrantVoucher}
 use Rattle.cf_grants.specs.declared.grant.Grant.{Grant}

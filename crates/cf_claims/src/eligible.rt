@@ -2,7 +2,6 @@
 
 ghost use Rattle.std.specs.Prelude.{◌≡◌, ◌≤◌, ◌<◌, ◌^◌, min, true, sum_by};
 ghost use Rattle.cf_base.specs.Calendar.{is_day};
-ghost use Rattle.cf_calls.specs.Acts.{voucher_items};
 ghost use Rattle.cf_claims.specs.Claims as spec;
 ghost use Rattle.cf_claims.specs.Kept.{IsReadable};
 

@@ -4,7 +4,7 @@ ghost use Rattle.std.specs.Prelude.{◌≡◌, ◌<◌, true, length};
 ghost use Rattle.cf_calls.specs.Form.{IsActInForm, IsAdoptionForm, is_period};
 ghost use Rattle.cf_codec.specs.Acts as spec;
 ghost use Rattle.cf_calls.specs.Kinds.{kind_of};
-ghost use Rattle.cf_fields.specs.Puts.{Adds, HasRoom, Puts};
+ghost use Rattle.cf_fields.specs.Puts.{HasRoom, Puts};
 
 use crate::items::{
     AccountElement, LineElement, Principal, SourceElement, VoucherElement, VoucherNumber,

@@ -1,7 +1,7 @@
 //! The readers of the acts: the fields of each in order, with the rules of form where they speak. Each gives
 //! the act and the bytes after it.
 
-ghost use Rattle.std.specs.Prelude.{◌≡◌, ◌≤◌, ◌+◌, ◌*◌, ◌<◌, nat_le, nat_lt, sum, length};
+ghost use Rattle.std.specs.Prelude.{◌≡◌, ◌+◌, ◌*◌, ◌<◌, nat_le, nat_lt, sum, length};
 ghost use Rattle.cf_base.specs.Limits.{last_year};
 ghost use Rattle.cf_calls.specs.Form.{is_period, month_number};
 ghost use Rattle.cf_calls.specs.declared.acts.Act.TheVariants as act;

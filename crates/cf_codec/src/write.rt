@@ -1,6 +1,6 @@
 //! An entry written as its payload.
 
-ghost use Rattle.std.specs.Prelude.{◌≡◌, ◌+◌, ◌≤◌, ◌++◌, true, length, IsOk, OnOk, OnErr, vec_len, vec_capacity};
+ghost use Rattle.std.specs.Prelude.{◌≡◌, ◌+◌, ◌≤◌, ◌++◌, length, IsOk, OnOk, OnErr, vec_len, vec_capacity};
 ghost use Rattle.cf_calls.specs.Form.{IsEntryInForm};
 ghost use Rattle.cf_codec.specs.Entries.{HasPayload, IsDrawnShort, drawn_as, payload};
 ghost use Rattle.cf_codec.specs.Entries as spec;

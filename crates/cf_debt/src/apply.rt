@@ -1,6 +1,6 @@
 //! How the register takes in an act.
 
-ghost use Rattle.std.specs.Prelude.{◌≡◌, ◌<◌, ◌+◌, ◌++◌, None, true, length, OnOk};
+ghost use Rattle.std.specs.Prelude.{◌≡◌, ◌<◌, ◌+◌, ◌++◌, None, true, OnOk};
 ghost use Rattle.cf_base.specs.Calendar.{is_day};
 ghost use Rattle.cf_base.specs.Limits.{most_entries};
 ghost use Rattle.cf_calls.specs.Form.{IsActInForm, IsPeriodForm};

@@ -1,6 +1,6 @@
 //! The interest that bonds earn, by months of 30 days (own rule).
 
-ghost use Rattle.std.specs.Prelude.{◌≡◌, ◌≤◌, ◌<◌, ◌+◌, ◌-◌, ◌*◌, ◌/◌, ℕ, min, map, length, get_or, sum_by};
+ghost use Rattle.std.specs.Prelude.{◌≡◌, ◌≤◌, ◌<◌, ◌+◌, ◌-◌, ◌*◌, ◌/◌, min};
 ghost use Rattle.cf_debt.specs.Charges.{bond_of, running_charge};
 ghost use Rattle.cf_debt.specs.Rows.{AreSmallDues, IsBond, view_bond, view_payment, view_payments};
 ghost use Rattle.cf_model.specs.Bonds as spec;

@@ -1,7 +1,6 @@
 //! An office in memory that follows, for cases and tests.
 
 ghost use Rattle.std.specs.Prelude.{◌≡◌, ◌++◌, ◌∷◌, ⊤, [], OnOk, OnErr};
-ghost use Rattle.cf_calls.specs.Form.{IsEntryInForm};
 ghost use Rattle.cf_follow.specs.Memory.{refusal_in};
 
 use crate::follower::{Admission, Follower};

@@ -1,6 +1,6 @@
 //! Opening a journal.
 
-ghost use Rattle.std.specs.Prelude.{◌≡◌, ◌⊎◌, ◌+◌, ◌≤◌, ◌<◌, ◌^◌, ◌∷◌, ℕ, min, IsTrue, Ok, IfOk, IfErr, OnOk, vec_len, length, take, drop, slice_index};
+ghost use Rattle.std.specs.Prelude.{◌≡◌, ◌⊎◌, ◌+◌, ◌≤◌, ◌<◌, ◌^◌, ◌∷◌, min, IsTrue, Ok, IfOk, IfErr, OnOk, vec_len, length, take, drop, slice_index};
 ghost use Rattle.std.specs.Int.{w32, to_be_bytes};
 ghost use Rattle.cf_chart.specs.Reading.{chart_of};
 ghost use Rattle.cf_disk.specs.Images.{AddsNone, IsOnlyImage};

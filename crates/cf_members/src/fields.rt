@@ -1,6 +1,6 @@
 //! The fields of a JSON object.
 
-ghost use Rattle.std.specs.Prelude.{◌≡◌, ◌||◌, [], map, not, option_map, string_bytes, find, true, IfOk};
+ghost use Rattle.std.specs.Prelude.{◌≡◌, ◌||◌, [], map, option_map, string_bytes, find, true, IfOk};
 ghost use Rattle.std.specs.BTreeMap.{keys};
 ghost use Rattle.std.specs.List.{list_any, list_all};
 ghost use Rattle.std.specs.List.Sorted.{IsStrictlySortedBy};

@@ -1,5 +1,5 @@
 -- The accounts that a fund has below 300000: its fund balance is what these come to.
-use Rattle.std.proofs.Common.{◌≡◌, ◌⊎◌, inl, inr, ℕ, ◌+◌, ◌≤◌, ◌<◌, Bool, true, false, if◌then◌else◌, ◌==◌, ◌&&◌, nat_lt, nat_le, List, [], ◌∷◌, ◌++◌, ℤ, pos, ◌+ℤ◌, refl, sym, ap, subst, ◌∙◌, arith}
+use Rattle.std.proofs.Common.{◌≡◌, ◌⊎◌, inl, inr, ℕ, ◌+◌, ◌≤◌, ◌<◌, Bool, true, false, if◌then◌else◌, ◌==◌, ◌&&◌, nat_lt, nat_le, List, [], ◌∷◌, ℤ, pos, ◌+ℤ◌, refl, sym, ap, subst, ◌∙◌, arith}
 use Rattle.std.proofs.lemmas.Grind.{common_steps}
 use Rattle.std.proofs.lemmas.Int.{ints}
 use Rattle.std.specs.List.{AllByRecursion}
@@ -7,7 +7,7 @@ use Rattle.cf_calls.specs.declared.entry.Entry.{Entry}
 use Rattle.cf_calls.specs.declared.read.Basis.TheVariants.{Fund as FundBasis}
 use Rattle.cf_chart.specs.Plan.{Plan}
 use Rattle.cf_ledger.specs.declared.post.Post.{Post}
-use Rattle.cf_ledger.specs.Posts.{balance, is_in_total, is_of, sum_where}
+use Rattle.cf_ledger.specs.Posts.{balance, is_in_total, sum_where}
 use Rattle.cf_model.specs.Deeds.{deeds_of}
 use Rattle.cf_model.specs.Postings.{balance_of, posts_after, posts_in}
 use Rattle.cf_model.specs.Registers.{Registers, no_registers, registers_step}

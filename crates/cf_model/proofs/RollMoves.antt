@@ -1,16 +1,13 @@
 -- What the roll of a fiscal year makes of a line's numbers: nothing of the year stays held or encumbered, and in the year after its line, which
 -- may be of another level, is encumbered by what is carried onto it, with as much appropriation.
-use Rattle.std.proofs.Common.{◌≡◌, ◌⊎◌, inl, inr, ℕ, zero, suc, ◌+◌, ◌<◌, ◌≤◌, Bool, true, false, not, if◌then◌else◌, ◌==◌, ◌&&◌, ◌||◌, List, [], ◌∷◌, ◌++◌, length, map, slice_get, Option, Some, None, ℤ, pos, ◌+ℤ◌, ◌-ℤ◌, ◌-◌, get_or, refl, sym, ap, ◌∙◌, arith}
+use Rattle.std.proofs.Common.{◌≡◌, ℕ, ◌+◌, ◌<◌, ◌≤◌, Bool, true, false, not, if◌then◌else◌, ◌==◌, ◌&&◌, List, [], ◌∷◌, ◌++◌, length, map, Option, Some, None, ℤ, pos, ◌+ℤ◌, ◌-ℤ◌, ◌-◌, refl, sym, ap, ◌∙◌, arith}
 use Rattle.std.specs.List.{filter, position}
 use Rattle.std.proofs.lemmas.Grind.{common_steps}
 use Rattle.std.proofs.lemmas.List.Quantifiers.{position-Some}
-use Rattle.std.proofs.lemmas.Option.{slice_get-get_or}
-use Rattle.std.proofs.lemmas.Bool.Decides.{eqb_tells}
 use Rattle.std.proofs.lemmas.Int.{ints}
 use Rattle.std.proofs.lemmas.List.Sums.{sum_by-cons}
 use Rattle.cf_calls.specs.declared.acts.Act.{Act}
 use Rattle.cf_calls.specs.declared.items.AccountItem.{AccountItem}
-use Rattle.cf_calls.specs.declared.shown.RequisitionState.{RequisitionState}
 use Rattle.cf_chart.specs.declared.rows.Line.{Line}
 use Rattle.cf_chart.specs.declared.rows.LinePart.TheVariants as line_part
 use Rattle.cf_chart.specs.declared.rows.Object.{Object}

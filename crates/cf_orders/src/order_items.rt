@@ -1,9 +1,9 @@
 //! The items of orders.
 
-ghost use Rattle.std.specs.Prelude.{◌≡◌, ◌+◌, ◌<◌, ◌≤◌, ◌++◌, ℕ, ◌^◌, ◌-◌, unsigned_abs, int_lt, pos, true, vec_len, length, set, slice_index_or, if◌then◌else◌};
+ghost use Rattle.std.specs.Prelude.{◌≡◌, ◌+◌, ◌<◌, ◌≤◌, ◌++◌, ◌^◌, ◌-◌, unsigned_abs, vec_len, length};
 ghost use Rattle.std.specs.Vec.{vec_capacity};
 ghost use Rattle.cf_model.specs.OrderItems.{shifted};
-ghost use Rattle.cf_orders.specs.Rows.{rows_from, open_now};
+ghost use Rattle.cf_orders.specs.Rows.{rows_from};
 ghost use Rattle.cf_orders.specs.Steps.{IsChangedIn, cancelled_row};
 ghost use Rattle.cf_orders.specs.Steps as spec;
 

@@ -1,5 +1,5 @@
 -- The receipts of shares are in form.
-use Rattle.std.proofs.Common.{◌≡◌, ℕ, pos, ◌+◌, ◌/◌, ◌<◌, ◌≤◌, ◌^◌, Bool, true, nat_le, List, [], ◌∷◌, length, decimal, refl, arith}
+use Rattle.std.proofs.Common.{◌≡◌, ℕ, pos, ◌/◌, ◌<◌, ◌^◌, true, List, [], ◌∷◌, length, decimal, refl, arith}
 use Rattle.std.specs.Cmp.Derive.{both_true}
 use Rattle.std.specs.List.{list_all}
 use Rattle.std.specs.Str.Parse.{AllDigits}

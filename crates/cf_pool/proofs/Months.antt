@@ -1,5 +1,5 @@
 -- The months that a call may state.
-use Rattle.std.proofs.Common.{◌≡◌, ◌≤◌, ◌&&◌, Bool, true, nat_le, arith, leb-true}
+use Rattle.std.proofs.Common.{◌≡◌, ◌≤◌, ◌&&◌, true, nat_le, leb-true}
 use Rattle.std.proofs.lemmas.Bool.{and_parts}
 use Rattle.cf_base.specs.Calendar.{is_call_month}
 use Rattle.cf_base.specs.declared.calendar.Month.{Month}

@@ -1,5 +1,5 @@
 -- A month's interest, shared among the funds by their daily balances, and the receipts that the shares are.
-use Rattle.std.specs.Prelude.{◌≡◌, ℕ, ℤ, pos, negsuc, Bool, true, false, ◌<◌, ◌^◌, ◌+◌, ◌&&◌, ◌||◌, ◌==◌, ◌≤◌, nat_lt, if◌then◌else◌, is_some, List, [], ◌∷◌, ◌++◌, map, sum, find, flat_map, Option, Some, None, codes, decimal, Result, Ok, Err, ⊤}
+use Rattle.std.specs.Prelude.{◌≡◌, ℕ, ℤ, pos, negsuc, Bool, true, false, ◌<◌, ◌^◌, ◌+◌, ◌&&◌, ◌||◌, ◌==◌, nat_lt, if◌then◌else◌, is_some, List, [], ◌∷◌, ◌++◌, map, sum, find, Option, Some, None, codes, decimal, Result, Ok, Err, ⊤}
 use Rattle.jiff_core.specs.Calendar.{days_in_month}
 use Rattle.cf_base.specs.Calendar.{month_text}
 use Rattle.cf_base.specs.Shares.{AreShares}

@@ -1,10 +1,10 @@
 -- What is read of a receipt's or a bill's line is that call.
-use Rattle.std.proofs.Common.{◌≡◌, ℕ, ◌^◌, ◌<◌, ◌&&◌, Bool, true, false, cond, nat_lt, nat_le, length, List, [], ◌∷◌, Some, None, Ok, refl, ap, ◌∙◌, arith, lt-ltb, leb-true}
+use Rattle.std.proofs.Common.{◌≡◌, ℕ, ◌^◌, ◌&&◌, true, cond, nat_lt, nat_le, length, List, [], ◌∷◌, Some, None, Ok, refl, ap, ◌∙◌, arith, lt-ltb, leb-true}
 use Rattle.std.specs.List.{list_all}
 use Rattle.std.proofs.lemmas.Bool.{and_parts}
 use Rattle.json.proofs.Printed.Utf8.{are_ascii}
 use Rattle.serde_json.specs.Data.{Data}
-use Rattle.serde_json.specs.Read.{read, max_depth}
+use Rattle.serde_json.specs.Read.{read}
 use Rattle.cf_calls.specs.declared.acts.Act.TheVariants.{Bill, Receive}
 use Rattle.cf_calls.specs.declared.acts.NewBill.{NewBill}
 use Rattle.cf_calls.specs.declared.call.Call.TheVariants as call

@@ -1,6 +1,6 @@
 -- What is lent where the stripes are lent that an act touches.
-use Rattle.std.proofs.Common.{◌≡◌, ℕ, zero, suc, ◌<◌, ◌%◌, Bool, true, false, ◌==◌, ◌||◌, ◌&&◌, List, [], ◌∷◌, map, get_or, length, Option, Some, None, option_map, slice_get, IfSome, refl, sym, subst, ap, arith, ◌∙◌}
-use Rattle.std.specs.List.{All, AllByRecursion, list_all, list_any}
+use Rattle.std.proofs.Common.{◌≡◌, ℕ, zero, suc, Bool, true, false, ◌==◌, ◌||◌, ◌&&◌, List, [], ◌∷◌, Option, Some, option_map, slice_get, IfSome, refl, sym, subst, ap, arith, ◌∙◌}
+use Rattle.std.specs.List.{All, list_all, list_any}
 use Rattle.std.proofs.lemmas.Grind.{common_steps}
 use Rattle.std.proofs.lemmas.List.Sums.{AllPass-from_list_all}
 use Rattle.cf_calls.specs.declared.acts.Act.{Act}

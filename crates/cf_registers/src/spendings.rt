@@ -1,7 +1,7 @@
 //! What an act spends of control lines besides documents: a debt payment, in the fiscal year in which it is due, leave
 //! that is paid out, and a lease.
 
-ghost use Rattle.std.specs.Prelude.{◌≡◌, ◌≤◌, length, map, slice_get, option_map, IfSome, true, ℕ};
+ghost use Rattle.std.specs.Prelude.{◌≡◌, ◌≤◌, length, map, slice_get, option_map, IfSome, true};
 ghost use Rattle.cf_base.specs.Calendar.{is_day};
 ghost use Rattle.cf_base.specs.declared.calendar.Day.{Day as OnDay};
 ghost use Rattle.cf_model.specs.Moves as model;

@@ -1,10 +1,10 @@
 //! Refusals in JSON.
 
-ghost use Rattle.std.specs.Prelude.{◌≡◌, ◌+◌, ◌≤◌, [], ◌∷◌, ◌++◌, ◌&&◌, true, codes, length, IsOk, OnOk, vec_len, vec_capacity};
+ghost use Rattle.std.specs.Prelude.{◌≡◌, ◌+◌, ◌≤◌, [], ◌∷◌, ◌++◌, true, length, IsOk, OnOk, vec_len, vec_capacity};
 ghost use Rattle.std.specs.List.{list_all};
 ghost use Rattle.cf_calls.specs.Refusals.{name_of};
 ghost use Rattle.cf_calls.specs.declared.refusal.Refusal.TheVariants as refused;
-ghost use Rattle.cf_members.specs.Objects.{fields, count, text_of};
+ghost use Rattle.cf_members.specs.Objects.{fields, text_of};
 ghost use Rattle.cf_members.specs.Parts.{part_data, part_room, is_plain, is_plain_part};
 ghost use Rattle.cf_reply_text.specs.Refusals as spec;
 

@@ -1,14 +1,14 @@
 //! The answers of looks in JSON.
 
-ghost use Rattle.std.specs.Prelude.{◌≡◌, ◌+◌, ◌≤◌, [], ◌∷◌, ◌++◌, true, false, map, length, codes, List as Seq, IfOk, OnOk, OnErr, vec_len, vec_capacity};
+ghost use Rattle.std.specs.Prelude.{◌≡◌, ◌+◌, ◌≤◌, [], ◌∷◌, ◌++◌, true, false, map, IfOk, OnOk, OnErr, vec_len, vec_capacity};
 ghost use Rattle.std.specs.List.{list_all};
-ghost use Rattle.serde_json.specs.Data.{Data, array, string};
+ghost use Rattle.serde_json.specs.Data.{Data, string};
 ghost use Rattle.serde_json.specs.View.{items_of};
 ghost use Rattle.serde_json.specs.Written.{items_text, comma_if};
 ghost use Rattle.json.specs.Print as json;
 ghost use Rattle.cf_calls.specs.declared.reply.Body.TheVariants as body;
 ghost use Rattle.cf_calls.specs.declared.shown.Shown.TheVariants as variant;
-ghost use Rattle.cf_members.specs.Objects.{fields, count, signed_cents, list_of, text_of};
+ghost use Rattle.cf_members.specs.Objects.{signed_cents, list_of, text_of};
 ghost use Rattle.cf_members.specs.Parts.{is_plain};
 ghost use Rattle.cf_reply_text.specs.Replies.{reply_data};
 ghost use Rattle.cf_reply_text.specs.Shown as spec;

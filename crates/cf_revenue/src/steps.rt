@@ -1,7 +1,6 @@
 //! What each act makes of bills and loans.
 
-ghost use Rattle.std.specs.Prelude.{◌≡◌, ◌≤◌, ◌<◌, ◌+◌, ◌-◌, ◌∷◌, ◌++◌, [], length, None, true, vec_len, slice_index_or, slice_set};
-ghost use Rattle.std.specs.Vec.{vec_capacity};
+ghost use Rattle.std.specs.Prelude.{◌≡◌, ◌≤◌, ◌<◌, ◌+◌, ◌-◌, ◌∷◌, ◌++◌, [], length, None, true, slice_index_or, slice_set};
 ghost use Rattle.cf_base.specs.Calendar.{is_day};
 ghost use Rattle.cf_base.specs.Limits.{most_entries, most_cents};
 ghost use Rattle.cf_calls.specs.Form.{IsYear};

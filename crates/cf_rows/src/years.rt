@@ -1,6 +1,6 @@
 //! Amounts by fiscal year, one after another: those of the years from 1970 to 2200, or of a chart's years from its first.
 
-ghost use Rattle.std.specs.Prelude.{◌≡◌, ◌≤◌, ◌<◌, ◌+◌, ◌-◌, ◌^◌, ℕ, sum, length, set, slice_index_or, nat_lt, nat_le, if◌then◌else◌};
+ghost use Rattle.std.specs.Prelude.{◌≡◌, ◌≤◌, ◌<◌, ◌+◌, ◌-◌, ◌^◌, ℕ, sum, set, slice_index_or, nat_lt, nat_le, if◌then◌else◌};
 ghost use Rattle.cf_base.specs.Limits.{last_fiscal_year};
 ghost use Rattle.cf_rows.specs.Years as spec;
 ghost use Rattle.cf_rows.specs.Years.{cell_of, with_cell, sum_of, sum_through};

@@ -1,5 +1,5 @@
 -- What the payment that is due of a bond makes, as the register of debt tells it.
-use Rattle.std.proofs.Common.{◌≡◌, ℕ, Bool, ◌==◌, List, [], ◌∷◌, ◌++◌, Option, Some, None, refl, sym, ap, ◌∙◌}
+use Rattle.std.proofs.Common.{◌≡◌, ℕ, List, [], ◌∷◌, ◌++◌, Option, Some, None, refl, sym, ap, ◌∙◌}
 use Rattle.cf_base.specs.declared.calendar.Day.{Day}
 use Rattle.cf_calls.specs.declared.acts.DebtPayment.{DebtPayment}
 use Rattle.cf_calls.specs.declared.entry.Entry.{Entry}
@@ -15,7 +15,7 @@ use Rattle.cf_model.specs.RegisterRules.{unadopted_due}
 use Rattle.cf_model.specs.Registers.{registers_of}
 use Rattle.cf_model.specs.Results.{bond_at, made_paid, made_payment}
 use Rattle.cf_model.specs.Rules.{adopted_at, first_refusal, or_else, unadopted_where}
-use Rattle.cf_model.specs.Spendings.{Spending, bonds_spendings, due_spendings}
+use Rattle.cf_model.specs.Spendings.{bonds_spendings, due_spendings}
 use Rattle.cf_model.proofs.BondNumbers.{bonds_if}
 use Rattle.cf_post.specs.declared.deed.Deed.{Deed}
 use Rattle.cf_post.specs.declared.deed.Deed.TheVariants as deed

@@ -1,7 +1,7 @@
 //! The rules before that of room, each as the refusal that it gives.
 
-ghost use Rattle.std.specs.Prelude.{◌≡◌, ◌∷◌, [], ◌≤◌, ◌+◌, true, List, nat_lt};
-ghost use Rattle.cf_base.specs.Calendar.{is_day, month_of_day};
+ghost use Rattle.std.specs.Prelude.{◌≡◌, [], ◌≤◌, ◌+◌, true, nat_lt};
+ghost use Rattle.cf_base.specs.Calendar.{is_day};
 ghost use Rattle.cf_base.specs.Limits.{last_fiscal_year};
 ghost use Rattle.cf_calls.specs.Form.{IsActInForm};
 ghost use Rattle.cf_model.specs.Calendar as calendar;
@@ -13,7 +13,7 @@ ghost use Rattle.cf_model.specs.Charted as charted;
 ghost use Rattle.cf_model.specs.Rules as spec;
 ghost use Rattle.cf_model.specs.Rules.{first_refusal};
 ghost use Rattle.cf_rules.specs.Least.{closed_where};
-ghost use Rattle.cf_chart.specs.Plan.{object_at, desk_at, is_capital_kind};
+ghost use Rattle.cf_chart.specs.Plan.{desk_at};
 
 use cf_base::{Day, LAST_YEAR, MOST_CENTS, MOST_ENTRIES, Month, fiscal_year, month_of};
 use cf_calls::acts::{AssetAct, LeaveAct, Period};

@@ -1,6 +1,4 @@
 use Rattle.std.proofs.Common.{true, false, refl, get_or, arith}
-use Rattle.cf_assets.specs.Charges.{charge_in}
-use Rattle.cf_assets.specs.Rows.{view_asset}
 use Rattle.cf_assets.proofs.InService.{within, few}
 use Rattle.cf_assets.proofs.Charged.{one_function, all_of_function, zeros}
 use Rattle.cf_assets.proofs.charges.function_charges.Goals as goal

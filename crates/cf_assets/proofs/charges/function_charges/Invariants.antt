@@ -1,4 +1,4 @@
-use Rattle.std.proofs.Common.{◌≡◌, ◌≤◌, ◌<◌, ◌*◌, ℕ, Bool, true, false, List, length, get_or, take, sum_by}
+use Rattle.std.proofs.Common.{◌≡◌, ◌≤◌, ◌<◌, ◌*◌, ℕ, true, false, length, get_or, take, sum_by}
 use Rattle.cf_chart.specs.declared.rows.Function.{Function}
 use Rattle.cf_assets.proofs.Charged.{at_place, part_of}
 use Rattle.cf_assets.proofs.charges.function_charges.Given as goal

@@ -1,6 +1,5 @@
 use Rattle.std.proofs.Common.{◌≡◌, ◌++◌, drop}
 use Rattle.cf_claims.specs.Standing.{rows_from}
-use Rattle.cf_claims.proofs.RowsSay.{rows_next}
 use Rattle.cf_claims.proofs.standing.rows_from.Given as goal
 
 abbrev pub invariant-loop-entry : goal.invariant-loop-entry

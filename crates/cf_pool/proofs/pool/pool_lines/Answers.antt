@@ -1,5 +1,5 @@
-use Rattle.std.proofs.Common.{rules, ◌≡◌, ◌∙◌, refl, List, ℕ, sum, arith}
-use Rattle.cf_pool.specs.Shares.{share_lines, weights}
+use Rattle.std.proofs.Common.{rules, refl, arith}
+use Rattle.cf_pool.specs.Shares.{share_lines}
 use Rattle.cf_pool.proofs.ReadBack.{read_back}
 use Rattle.cf_pool.proofs.pool.pool_lines.Goals as goal
 

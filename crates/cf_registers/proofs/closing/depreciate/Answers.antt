@@ -1,4 +1,4 @@
-use Rattle.std.proofs.Common.{◌≡◌, ◌<◌, List, [], length, get_or, ap, arith, sym, ◌∙◌}
+use Rattle.std.proofs.Common.{◌<◌, List, [], length, get_or, ap, arith, sym, ◌∙◌}
 use Rattle.std.proofs.lemmas.List.{get_or_default}
 use Rattle.cf_chart.specs.declared.rows.Function.{Function}
 use Rattle.cf_model.specs.Deeds.{function_charge}

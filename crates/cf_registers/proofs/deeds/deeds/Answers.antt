@@ -1,4 +1,4 @@
-use Rattle.std.proofs.Common.{◌≡◌, sym, ap, ◌∙◌, Vec, Global, subst, IfOk}
+use Rattle.std.proofs.Common.{◌≡◌, sym, ap, ◌∙◌, Vec, Global}
 use Rattle.std.proofs.lemmas.Result.{IfOk-weaker}
 use Rattle.cf_calls.specs.declared.acts.Act.TheVariants as act
 use Rattle.cf_model.specs.Deeds.{deeds_of}

@@ -1,5 +1,4 @@
-use Rattle.std.proofs.Common.{◌≡◌, Some, None, List, sym, ◌∙◌, ap}
-use Rattle.cf_calls.specs.declared.acts.Act.{Act}
+use Rattle.std.proofs.Common.{◌≡◌, Some, None, sym, ◌∙◌, ap}
 use Rattle.cf_debt.specs.Register.{due_now}
 use Rattle.cf_model.specs.Bonds.{Bond, next_due}
 use Rattle.cf_model.specs.RegisterRules.{payment_refusal, unadopted_due}

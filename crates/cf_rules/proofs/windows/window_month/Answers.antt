@@ -1,4 +1,4 @@
-use Rattle.std.proofs.Common.{◌≡◌, ◌≤◌, ◌+◌, ℕ, w32, ℤ, pos, ◌+ℤ◌, ◌≤ℤ◌, FitsSigned, to_z, of_z, to_z-of_z, unsigned_abs, ap, sym, subst, ◌∙◌, true, arith}
+use Rattle.std.proofs.Common.{◌≡◌, ◌≤◌, ◌+◌, ℕ, w32, ℤ, pos, ◌+ℤ◌, FitsSigned, to_z, of_z, to_z-of_z, unsigned_abs, ap, sym, subst, ◌∙◌, true, arith}
 use Rattle.std.proofs.lemmas.Int.{ints}
 use Rattle.cf_base.specs.declared.calendar.Day.{Day}
 use Rattle.cf_base.specs.Calendar.{is_day}

@@ -1,4 +1,4 @@
-use Rattle.std.proofs.Common.{◌≡◌, ◌∙◌, ◌-◌, ◌-ℤ◌, sym, ap}
+use Rattle.std.proofs.Common.{◌∙◌, ◌-◌, ◌-ℤ◌, sym, ap}
 use Rattle.cf_ledger.specs.Posts.{total}
 use Rattle.cf_recon.specs.ChangeItems.{changes_between}
 use Rattle.cf_registers.specs.AccountsState.{AccountsState}

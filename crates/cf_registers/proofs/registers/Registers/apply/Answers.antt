@@ -1,16 +1,13 @@
-use Rattle.std.proofs.Common.{◌≡◌, ◌≤◌, ◌+◌, ◌++◌, None, List, map, refl, sym, ap, subst, ◌∙◌, arith}
-use Rattle.cf_calls.specs.declared.acts.Act.{Act}
+use Rattle.std.proofs.Common.{◌≡◌, ◌≤◌, ◌+◌, ◌++◌, None, List, map, refl, sym, ap, subst, ◌∙◌}
 use Rattle.cf_debt.specs.Register.{Debts}
-use Rattle.cf_model.specs.Assets.{Asset}
 use Rattle.cf_model.specs.Bonds.{Bond, bond_step, bonds_by}
 use Rattle.cf_model.specs.Documents.{Documents, draws_voucher}
-use Rattle.cf_model.specs.Leave.{LeaveChange, leave_by}
+use Rattle.cf_model.specs.Leave.{leave_by}
 use Rattle.cf_model.specs.Months.{number_of_day}
 use Rattle.cf_model.specs.RegisterRules.{asset_refusal}
 use Rattle.cf_model.specs.Registers.{Registers, closed_after, registers_step}
 use Rattle.cf_model.specs.Results.{draws}
 use Rattle.cf_revenue.proofs.Levied.{levied_by_rule}
-use Rattle.cf_registers.specs.RegistersState.{CanTakeIn, RegistersState}
 use Rattle.cf_registers.specs.RegistersView.{registers_state}
 use Rattle.cf_registers.proofs.Taken.{asset_same, bonds_drawn, documents_drawn, early_issue, next_numbers, receivables_drawn}
 use Rattle.cf_registers.proofs.registers.Registers.apply.Goals as goal
