@@ -14,7 +14,7 @@ use Rattle.cf_assets.specs.Rows.{view_asset, IsRow, AreRows, no_row}
 use Rattle.cf_assets.specs.Serving.{ServeFrom}
 use Rattle.cf_assets.proofs.InService.{not_charged, sum_serving}
 use Rattle.cf_assets.proofs.Leases.{part_sum}
-use Rattle.cf_model.specs.Assets.{Asset, charge, is_leased}
+use Rattle.cf_model.specs.Assets.{Asset, charge}
 
 -- what the asset at a place adds
 abbrev pub at_place : (AssetRow → ℕ) → List AssetRow → ℕ → ℕ
@@ -42,18 +42,6 @@ all_charged closed rows serving i total are serve l is =
     all_places (λ r. charge closed (view_asset r)) closed rows serving i total (λ r k row e. e) are serve l is ∙ sym (sum-map (charge closed) rows)
 
 -- ---- function by function
-
--- what is charged for an asset counts for its kind alone
-pub for_leased : (closed : ℕ) (a : Asset) → is_leased a.origin ≡ true → (charge_in true closed a ≡ charge closed a) × (charge_in false closed a ≡ 0)
-for_leased closed a e = (rw e refl, rw e refl)
-
-pub for_owned : (closed : ℕ) (a : Asset) → is_leased a.origin ≡ false → (charge_in false closed a ≡ charge closed a) × (charge_in true closed a ≡ 0)
-for_owned closed a e = (rw e refl, rw e refl)
-
--- a sum to which nothing comes
-pub none_more : (b : Bool) (n m : ℕ) → m ≡ 0 → n ≡ n + (if b then m else 0)
-none_more true n m e = omega (arith, e)
-none_more false n m e = omega arith
 
 -- what a month charges to a function for an asset of a kind
 abbrev pub part_of : Bool → ℕ → ℕ → AssetRow → ℕ

@@ -1,6 +1,6 @@
 //! The register of capital assets.
 
-ghost use Rattle.std.specs.Prelude.{◌≡◌, ◌≤◌, ◌+◌, ℕ, [], length, slice_index_or, option_to_list, ◌==◌};
+ghost use Rattle.std.specs.Prelude.{true, false, ◌≡◌, ◌≤◌, ◌+◌, ℕ, [], length, slice_index_or, option_to_list, ◌==◌};
 ghost use Rattle.std.specs.List.{filter};
 ghost use Rattle.cf_base.specs.Limits.{most_entries};
 ghost use Rattle.cf_assets.specs.Readers.{asset_now_at, look_shown};

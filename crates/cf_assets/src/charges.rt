@@ -1,6 +1,6 @@
 //! Depreciation of assets, and what the close of a month charges.
 
-ghost use Rattle.std.specs.Prelude.{◌≡◌, ◌≤◌, ◌<◌, ◌+◌, ℕ, map, sum_by, length, slice_index_or, ◌^◌, true, MatchOption, replicate};
+ghost use Rattle.std.specs.Prelude.{false, ◌≡◌, ◌≤◌, ◌<◌, ◌+◌, ℕ, map, sum_by, length, slice_index_or, ◌^◌, true, MatchOption, replicate};
 ghost use Rattle.cf_base.specs.Limits.{most_entries, most_cents};
 ghost use Rattle.cf_chart.specs.Rising.{is_rising};
 ghost use Rattle.cf_model.specs.Assets as spec;
@@ -82,6 +82,7 @@ fn leased_charge_of(row: &AssetRow, closed: u32) -> u64
 }
 
 /// What the close of a month charges, in cents.
+#[derive(Clone, Copy)]
 pub struct TotalCharges {
     /// For all assets.
     pub all: u128,
@@ -132,6 +133,7 @@ fn place_of(functions: &[Function], id: u16) -> Option<usize>
 }
 
 /// What the close of a month charges to each function, in cents, by its place in the chart's table.
+#[derive(Drop)]
 pub struct MonthCharges {
     /// The depreciation of what the city owns.
     pub owned: [u128; MOST_FUNCTIONS],

@@ -1,6 +1,6 @@
 //! Capital assets by number, with their sums by fiscal year.
 
-ghost use Rattle.std.specs.Prelude.{◌≡◌, ◌≤◌, ◌<◌, ◌+◌, ◌∷◌, ◌++◌, ℕ, [], true, is_some, length, sum_by, slice_index_or, OnOk, IfSome, option_map, option_to_list, ◌==◌};
+ghost use Rattle.std.specs.Prelude.{false, ◌≡◌, ◌≤◌, ◌<◌, ◌+◌, ◌∷◌, ◌++◌, ℕ, [], true, is_some, length, sum_by, slice_index_or, OnOk, IfSome, option_map, option_to_list, ◌==◌};
 ghost use Rattle.std.specs.List.{filter};
 ghost use Rattle.cf_base.specs.Limits.{last_fiscal_year, most_entries, most_cents};
 ghost use Rattle.cf_chart.specs.Rising.{is_rising};
