@@ -46,7 +46,7 @@ fn document_answer(alloc: Global, bytes: &[u8], chart: &Chart) -> Result<Answer,
     }
 }
 
-/// The same under the chart that these bytes are.
+/// What a document has under the chart that these bytes are, or the first fault of the chart or the document.
 fn under_chart(alloc: Global, bytes: &[u8], chart: &[u8]) -> Result<Answer, AllocError>
     ensures { Answers result (spec.under_chart bytes.now chart.now (chart_of chart.now)) }
 {

@@ -148,7 +148,7 @@ pub fn put_account(out: &mut Vec<u8>, chart: &Chart, account: u32) -> Result<(),
     out.extend_from_slice(account_name(chart, account).as_bytes())
 }
 
-/// The same text alone.
+/// The name of an account alone, as `put_account` appends it.
 pub fn account_text(alloc: Global, chart: &Chart, account: u32) -> Result<Vec<u8>, AllocError>
     ensures { IfOk result (λ t. t.items ≡ spec.account_text chart.now account) }
 {

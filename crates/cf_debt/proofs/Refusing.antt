@@ -53,8 +53,8 @@ unpaid_then plan closed b p day is l e =
 abbrev pub refusals : Plan → Day → List Bond → Option Refusal
 refusals plan on bonds = first_of (first_refusal (λ b. paid_off b.number (next_due b)) bonds ∷ first_refusal (λ b. not_due plan on b (next_due b)) bonds ∷ None ∷ None ∷ None ∷ [])
 
-pub not_refused : (plan : Plan) (d : Debts) (on : Day) (p : DebtPayment) → bond_at p.bond d.bonds ≡ None → None ≡ debt_refusal plan (registers_with d) on (act.PayDue p)
-not_refused plan d on p e = sym (ap (refusals plan on) (none_passes p.bond d.bonds e))
+pub without_bond : (plan : Plan) (d : Debts) (on : Day) (p : DebtPayment) → bond_at p.bond d.bonds ≡ None → None ≡ debt_refusal plan (registers_with d) on (act.PayDue p)
+without_bond plan d on p e = sym (ap (refusals plan on) (none_passes p.bond d.bonds e))
 
 or_else_units : (r : Option Refusal) → r ≡ or_else (or_else r None) None
 or_else_units None = refl

@@ -59,7 +59,7 @@ fn mark_items(chart: &Chart, items: &[AccountItem], marks: &mut [bool; 8])
     }
 }
 
-/// The same, of the items of a voucher.
+/// Marks the stripes of the lines of a voucher's items.
 fn mark_voucher(chart: &Chart, items: &[VoucherItem], marks: &mut [bool; 8])
     ensures { (k : ℕ) → k < 8 → mark_at marks.new k ≡ (mark_at marks.old k || list_any (λ i. spec.is_item_in chart.now k i.account) items.now) }
 {

@@ -42,7 +42,7 @@ fn shares_of(alloc: Global, amount: u64, weights: &[u128]) -> Result<Vec<u64>, A
     Ok(shares)
 }
 
-/// The same, which come to the amount wherever the weights are those of funds: one without a weight has no share.
+/// The shares of an amount by the weights of funds. They come to the amount, and a fund without a weight has none.
 fn fund_shares(alloc: Global, amount: u64, weights: &[u128]) -> Result<Vec<u64>, AllocError>
     requires some { 0 < sum weights.now }
     requires fits { sum weights.now < 2 ^ 64 }

@@ -137,7 +137,7 @@ fn put_middle<'a>(
     )
 }
 
-/// The same, where its field stands after the name.
+/// Appends a refusal with one value, where its field stands after the name.
 fn put_last<'a>(
     out: &mut Vec<u8>,
     refusal: &Refusal,

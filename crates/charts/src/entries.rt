@@ -54,7 +54,7 @@ fn tell_room(page: &mut Page, entry: &Entry, bytes: &[u8], out: &mut Vec<u8>)
     page.put(if is_payload { "true" } else { "false" });
 }
 
-/// The same over a list with so much room.
+/// Tells how an entry is written to a list with so much room.
 fn tell_in_room(page: &mut Page, alloc: Global, entry: &Entry, bytes: &[u8], room: usize)
     requires { IsEntryInForm entry.now }
 {

@@ -24,7 +24,7 @@ fn found_with<D: Disk>(alloc: Global, disk: &mut D, chart: &[u8]) -> bool {
     }
 }
 
-/// The same in a file.
+/// Founds a journal in a file with these bytes of a chart. Whether it did.
 fn found_in<R: Files<File = File> + Print>(
     log: &CallLog<'_, R>,
     alloc: Global,
@@ -94,7 +94,7 @@ fn show_opened<D: Disk>(
     }
 }
 
-/// The same of the journal in a file, with the payload of another one. The call `fail_at` of its file fails.
+/// Opens the journal in a file, and appends the entry of another file's payload. The call `fail_at` of its file fails.
 pub fn show_append<R: Files<File = File> + Print + AllocGlobal>(
     rt: &R,
     fail_at: u64,

@@ -39,7 +39,7 @@ fn left_text(alloc: Global, left: &Left, image: &[u8]) -> Result<String, AllocEr
     Ok(text)
 }
 
-/// The same of a desk whose disk stops at a call, or at none.
+/// What a desk with the lines said over an image, where its disk stops at a call, or at none.
 fn said_over(stage: &Stage, image: &[u8], stop: u64) -> Result<String, AllocError> {
     let disk = disk_with(stage.alloc, image, &[], stop)?;
     let left = desk_over(stage.alloc, stage.lines.as_str(), disk)?;

@@ -151,7 +151,8 @@ fn play_within<N: City + Send + Sync, D: Disk + Drop + Send, H: Threads + Wait +
     }
 }
 
-/// The same, where there is memory for the passes and the receipts.
+/// Opens a hall over a book, lets so many callers play, and closes the hall, where there is memory for the passes and the
+/// receipts.
 fn play_over<N: City + Send + Sync, D: Disk + Drop + Send, H: Threads + Wait + Clock + Sync>(
     rt: &H,
     book: Book<D>,
