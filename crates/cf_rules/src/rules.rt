@@ -4,12 +4,10 @@ ghost use Rattle.std.specs.Prelude.{◌≡◌, [], ◌≤◌, ◌+◌, true, nat
 ghost use Rattle.cf_base.specs.Calendar.{is_day};
 ghost use Rattle.cf_base.specs.Limits.{last_fiscal_year};
 ghost use Rattle.cf_calls.specs.Form.{IsActInForm};
-ghost use Rattle.cf_model.specs.Calendar as calendar;
 ghost use Rattle.cf_model.specs.Receivables.{bill_at};
 ghost use Rattle.cf_model.specs.RegisterRules as register;
 ghost use Rattle.cf_model.specs.RegisterRules.{later_levy};
 ghost use Rattle.cf_model.specs.Registers.{registers_of};
-ghost use Rattle.cf_model.specs.Charted as charted;
 ghost use Rattle.cf_model.specs.Rules as spec;
 ghost use Rattle.cf_model.specs.Rules.{first_refusal};
 ghost use Rattle.cf_rules.specs.Least.{closed_where};
