@@ -34,6 +34,8 @@ class Source:
         rows = re.findall(r'(ActKind::\w+) => call\("(\w+)"', source("kind.rt", "cf_calls"))
         self.changes = {word: kind for kind, word in rows}
         assert rows and len(self.changes) == len(rows)
+        self.statements = dict(re.findall(r'"(\w+)" => Some\((Kind::\w+)\)', source("statement.rt", "cf_base")))
+        assert self.statements
         self.bodies = {}
         for file in ("acts.rt", "looks.rt", "items.rt"):
             text = source(file)
@@ -49,9 +51,9 @@ class Source:
         return dict(words)
 
     def choice(self, kind):
-        """The words of a field that is one of some words."""
-        read = re.search(rf"impl FieldKind for {kind} \{{.*?read_word\(&(\w+), value\)", self.words, re.S)
-        return self.table(read.group(1))
+        """The words of a field that is one of some words: those of a table, or those that `Kind::named` knows."""
+        read = re.search(rf"impl FieldKind for {kind} \{{.*?(?:read_word\(&(\w+), value\)|Kind::named\()", self.words, re.S)
+        return self.table(read.group(1)) if read.group(1) else self.statements
 
     def fields(self, file, body, what=None):
         """The fields that a body of a reader reads, in order; of the arms of a match on words that of `what`."""
