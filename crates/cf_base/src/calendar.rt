@@ -1,8 +1,8 @@
 //! Civil days and months, by `jiff`.
 
-ghost use Rattle.std.specs.Prelude.{◌≡◌, ◌+◌, ◌-◌, ◌*◌, ◌<◌, ◌≤◌, ◌↔◌, true, IsTrue, IsSome, IfSome, pos, unsigned_abs, length, slice_index, if◌then◌else◌};
+ghost use Rattle.std.specs.Prelude.{◌≡◌, ◌+◌, ◌-◌, ◌*◌, ◌<◌, ◌≤◌, ◌↔◌, true, IsSome, IfSome, pos, unsigned_abs, length, if◌then◌else◌};
 ghost use Rattle.jiff.specs.Words.{IsBetween};
-ghost use Rattle.cf_base.specs.Calendar.{IsMonth, is_day, is_digit, day_if, day_of_text, day_written, is_day_form, is_month_form, month_of_text, are_digits, pair_at, month_of_day, year_of_month, day_number, day_of_number};
+ghost use Rattle.cf_base.specs.Calendar.{is_day, is_digit, day_if, day_of_text, is_day_form, is_month_form, month_of_text, are_digits, pair_at, month_of_day, year_of_month, day_number, day_of_number};
 ghost use Rattle.cf_base.specs.Calendar as spec;
 ghost use Rattle.cf_base.specs.Limits.{last_fiscal_year, last_year};
 

@@ -1,6 +1,6 @@
 //! An amount shared out by weights.
 ghost use Rattle.std.specs.Prelude.{◌≡◌, ◌+◌, ◌<◌, ◌≤◌, ◌≢◌, ◌^◌, ℕ, IfSome, None, length, map, slice_index, sum};
-ghost use Rattle.cf_base.specs.Shares.{AreFair, AreShares, HasFloor, IsAhead, floor_of, rest_of};
+ghost use Rattle.cf_base.specs.Shares.{AreShares, HasFloor, IsAhead, floor_of, rest_of};
 
 /// A weight's part of the total, rounded down.
 fn floor_share(total: u64, all: u64, weight: u64) -> u64

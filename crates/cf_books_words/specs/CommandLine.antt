@@ -1,6 +1,6 @@
 -- What the parser is told of the program's command line.
-use Rattle.std.specs.Prelude.{true, List, [], ◌∷◌, ◌++◌, Some, codes}
-use Rattle.clap.specs.Words.{App, Rule, Shape, Text, new_rule}
+use Rattle.std.specs.Prelude.{true, List, [], ◌∷◌, ◌++◌, codes}
+use Rattle.clap.specs.Words.{App, Rule, Shape, new_rule}
 use Rattle.clap.specs.Simple.{new_shape}
 use Rattle.cf_words.specs.CommandLine.{flag_rule, option_rule}
 

@@ -5,7 +5,6 @@ ghost use Rattle.clap.specs.Words.{first_of, found_of, rows_of};
 ghost use Rattle.cf_books_words.specs.Found as spec;
 ghost use Rattle.cf_books_words.specs.Ranges.{IsFilterInRange, IsInRange, IsOptionFrom};
 ghost use Rattle.cf_books_words.specs.Words.{asks};
-ghost use Rattle.cf_words.specs.Ranges.{IsFrom};
 
 use crate::words::{Command, PostFilter, Request};
 use cf_base::LAST_YEAR;

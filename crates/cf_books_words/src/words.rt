@@ -1,6 +1,6 @@
 //! What the words ask for.
 
-ghost use Rattle.std.specs.Prelude.{◌≡◌, ◌⊎◌, IfOk, false, map, option_and_then, option_map, string_bytes};
+ghost use Rattle.std.specs.Prelude.{◌≡◌, ◌⊎◌, IfOk, false, map, string_bytes};
 ghost use Rattle.clap.specs.Words.{app_of, found_of, kind_of, rows_of, with_rule};
 ghost use Rattle.clap.specs.declared.Command.TheViews.{out-Command as fields_of};
 ghost use Rattle.cf_books_words.specs.CommandLine as line;
@@ -130,7 +130,7 @@ fn places<'a>(alloc: Global) -> Result<Parser<'a>, AllocError>
         .arg(Arg::new(alloc, "third"))
 }
 
-/// The same, with the flag `--csv`.
+/// A command, up to three words behind it, and the flag `--csv`.
 fn with_csv<'a>(alloc: Global) -> Result<Parser<'a>, AllocError>
     ensures { IfOk result (λ p. app_of p ≡ line.with_csv) }
 {

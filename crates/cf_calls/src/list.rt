@@ -1,6 +1,6 @@
 //! The list inside a call, an entry or a reply.
 
-ghost use Rattle.std.specs.Prelude.{◌≡◌, ◌∷◌, ◌++◌, [], List as Seq, length, OnErr, OnOk};
+ghost use Rattle.std.specs.Prelude.{◌≡◌, ◌∷◌, ◌++◌, [], List as Seq, OnErr, OnOk};
 
 use std::alloc::{AllocError, Global};
 use std::marker::Model;

@@ -1,7 +1,7 @@
 -- What the record of a disk in memory gives, call by call.
-use Rattle.std.specs.Prelude.{◌≡◌, ◌⊎◌, ℕ, zero, suc, ◌+◌, ◌-◌, ◌<◌, ◌≤◌, min, max, List, [], ◌∷◌, ◌++◌, length, take, drop, replicate, reverse, slice_index, true, false, refl}
-use Rattle.std.proofs.Common.{sym, ◌∙◌, ap, subst, inl, inr, arith, get_or, length-append, length-drop, append_assoc}
-use Rattle.std.proofs.lemmas.List.{take_all, take_at, take-append-le, reverse-append, length-take-le, length-replicate, get_or_append_left, get_or-take, get_or-drop, get_or-append_right, append-nil}
+use Rattle.std.specs.Prelude.{◌≡◌, ◌⊎◌, ℕ, zero, suc, ◌+◌, ◌-◌, ◌<◌, ◌≤◌, List, [], ◌∷◌, ◌++◌, length, take, drop, replicate, reverse, slice_index, true, false, refl}
+use Rattle.std.proofs.Common.{sym, ◌∙◌, ap, subst, inl, inr, arith, get_or, length-append, length-drop}
+use Rattle.std.proofs.lemmas.List.{take_all, length-take-le, length-replicate, get_or_append_left, get_or-take, get_or-drop, get_or-append_right}
 use Rattle.cf_disk.specs.Images.{padded, written, resized, Torn, HalfCut}
 use Rattle.cf_disk.specs.Memory.{content_after, IsImageAfter, IsImageOf, WasImageOf}
 use Rattle.cf_disk.specs.declared.memory.DiskCall.{DiskCall}

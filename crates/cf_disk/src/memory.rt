@@ -46,8 +46,8 @@ impl MemDisk {
         MemDisk::with_faults(alloc, bytes, Vec::new(alloc), 0)
     }
 
-    /// The same where the calls of these numbers fail, and the disk stops at the call `stop`. With a `stop`
-    /// of 0 it doesn't.
+    /// A disk with these bytes, all of them synced, whose calls of these numbers fail, and that stops at the call
+    /// `stop`. With a `stop` of 0 it doesn't.
     pub fn with_faults(
         alloc: Global,
         bytes: Vec<u8>,

@@ -25,6 +25,7 @@ impl<D: Disk + Drop> Model for Copying<D> {
 }
 
 impl<D: Disk + Drop> Copying<D> {
+    /// Takes a book to follow with.
     pub fn new(book: Book<D>) -> Copying<D>
         ensures { result ≡ book }
     {

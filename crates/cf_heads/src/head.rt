@@ -1,7 +1,6 @@
 //! The head of a request, as a text begins with it.
 
-ghost use Rattle.std.specs.Prelude.{◌≡◌, ◌≤◌, ◌<◌, ◌==◌, ◌||◌, ℕ, List, map, length, codes};
-ghost use Rattle.std.specs.Str.{bytes_eq};
+ghost use Rattle.std.specs.Prelude.{◌≡◌, ◌≤◌, ◌<◌, ◌==◌, ◌||◌, ℕ, map, length};
 ghost use Rattle.httparse.specs.Borrowed.{header_parts};
 ghost use Rattle.cf_heads.specs.Heads.{heading_by, IsFront, IsShortFront};
 

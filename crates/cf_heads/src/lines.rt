@@ -122,6 +122,7 @@ pub fn write_lines(out: &mut Vec<u8>, code: u16, length: usize, allow: Option<Me
 }
 
 impl Refusal {
+    /// The status code that a refused request is answered with.
     pub fn code(self) -> u16
         ensures value { result ≡ refusal_code self }
         ensures status { IsStatusCode result }
@@ -133,6 +134,7 @@ impl Refusal {
         }
     }
 
+    /// The body of that answer, which names the refusal.
     pub fn body(self) -> &'static [u8]
         ensures { result.now ≡ refusal_body self }
     {
@@ -145,6 +147,7 @@ impl Refusal {
 }
 
 impl Miss {
+    /// The status code that a request without a route is answered with.
     pub fn code(self) -> u16
         ensures value { result ≡ miss_code self }
         ensures status { IsStatusCode result }
@@ -155,6 +158,7 @@ impl Miss {
         }
     }
 
+    /// The method that the path has, for the field `allow`, where another was asked for.
     pub fn allow(self) -> Option<Method>
         ensures { result ≡ miss_allow self }
     {
@@ -164,6 +168,7 @@ impl Miss {
         }
     }
 
+    /// The body of that answer, which names what there isn't.
     pub fn body(self) -> &'static [u8]
         ensures { result.now ≡ miss_body self }
     {

@@ -1,6 +1,6 @@
 //! One request is answered.
 
-ghost use Rattle.std.specs.Prelude.{◌≡◌, ◌≢◌, ◌+◌, ◌≤◌, [], Ok, Err, Some, None, true, false, ℕ, List, length, take, drop, IfOk, IfSome, vec_len, vec_capacity};
+ghost use Rattle.std.specs.Prelude.{◌≡◌, ◌≢◌, ◌+◌, ◌≤◌, [], Ok, Err, Some, None, false, ℕ, length, take, drop, IfOk, IfSome, vec_len, vec_capacity};
 ghost use Rattle.cf_base.specs.Causes.{Rose};
 ghost use Rattle.cf_heads.specs.Answers.{miss_answer};
 ghost use Rattle.cf_heads.specs.Heads.{BeginsWithHead, IsNoHead};

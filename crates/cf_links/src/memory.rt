@@ -46,7 +46,8 @@ impl MemLink {
         MemLink::failing(alloc, bytes, piece, u64::MAX, usize::MAX)
     }
 
-    /// The same where the read of this number, from 0, fails, and so does a write past this many bytes.
+    /// A link on which these bytes come, in pieces of at most `piece` bytes. The read of this number, from 0, fails,
+    /// and so does a write past this many bytes.
     pub fn failing(alloc: Global, bytes: Vec<u8>, piece: usize, fail_at: u64, limit: usize) -> Self
         ensures bytes { bytes_of result ≡ bytes.items }
         ensures received { received_of result ≡ [] }

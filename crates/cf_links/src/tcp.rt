@@ -1,7 +1,6 @@
 //! Links and doors over TCP. They are the trusted edge: nothing is proved of what a real link carries.
 
-ghost use Rattle.std.specs.Prelude.{◌≡◌, ◌≤◌, ◌+◌, None, [], true, false, OnOk, OnErr};
-ghost use Rattle.cf_base.specs.Causes.{Rose, HasCause};
+ghost use Rattle.std.specs.Prelude.{◌≡◌, ◌≤◌, ◌+◌, None, [], true, false};
 
 use crate::fault::fault;
 use cf_base::Failed;
@@ -128,7 +127,8 @@ impl<'a, R: Net<Listener = TcpListener, Stream = TcpStream>> TcpDoor<'a, R> {
         TcpDoor::patient(net, port, Duration::from_secs(PATIENCE))
     }
 
-    /// The same with another time than 10 seconds, which isn't 0.
+    /// A door at a port whose peers may send or take nothing for so long, which isn't 0, before their link ends by
+    /// a fault.
     pub fn patient(net: &'a R, port: u16, patience: Duration) -> Self {
         TcpDoor {
             net,

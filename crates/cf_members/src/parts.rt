@@ -19,7 +19,7 @@ pub enum Part<'a> {
     Number(u64),
     /// A text of so many cents.
     Cents(u64),
-    /// The same, where the amount may be negative.
+    /// A text of so many cents, which may be negative.
     Signed(i128),
     Date(Day),
     YearMonth(Month),
@@ -64,7 +64,7 @@ fn put_cents(out: &mut Vec<u8>, n: u64) -> Result<(), AllocError>
     put_quoted(out, buffer.format(n).as_bytes())
 }
 
-/// The same of a number that may be negative.
+/// Appends the digits of a number that may be negative, with its sign, between quotation marks.
 pub fn put_signed(out: &mut Vec<u8>, n: i128) -> Result<(), AllocError>
     ensures text { OnOk result (out.new.items ≡ out.old.items ++ quoted (signed_decimal n)) }
     ensures longer { vec_len out.new ≤ vec_len out.old + 42 }

@@ -83,7 +83,7 @@ pub fn double(
     credit(posts, at, credited, u128::from(amount))
 }
 
-/// The same, of a total over many documents.
+/// Adds a debit of one account and a credit of another, of a total over many documents.
 pub fn double_total(
     posts: &mut Vec<Post>,
     at: FundYear,
