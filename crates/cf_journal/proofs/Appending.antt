@@ -1,7 +1,7 @@
 -- What the steps of an append and of a mend leave.
-use Rattle.std.proofs.Common.{◌≡◌, ℕ, ◌+◌, ◌≤◌, List, [], ◌∷◌, ◌++◌, length, drop, get_or, sym, ◌∙◌, ap, subst, arith, append_assoc, length-append, Result, Ok, Err}
+use Rattle.std.proofs.Common.{◌≡◌, ℕ, ◌+◌, ◌≤◌, List, [], ◌∷◌, ◌++◌, length, take, drop, get_or, refl, sym, ◌∙◌, ap, subst, arith, append_assoc, length-append, Result, Ok, Err}
 use Rattle.std.specs.Prelude.{OnErr}
-use Rattle.std.proofs.lemmas.List.{append-nil, append_cancel_right}
+use Rattle.std.proofs.lemmas.List.{append-nil, take_at}
 use Rattle.cf_calls.specs.declared.entry.Entry.{Entry}
 use Rattle.cf_disk.specs.Images.{written, Torn}
 use Rattle.cf_disk.specs.Moments.{AtEachMoment}
@@ -12,7 +12,7 @@ use Rattle.cf_journal.specs.Layout.{front_of, IsValid, IsAtRest, IsStaged}
 use Rattle.cf_journal.specs.Journal.{Reserves}
 use Rattle.cf_journal.specs.declared.journal.Journal.{Journal}
 use Rattle.cf_journal.proofs.Lists.{torn_behind, torn_gate, written_behind, written_gate}
-use Rattle.cf_journal.proofs.RecordLaws.{gate_after-length}
+use Rattle.cf_journal.proofs.RecordLaws.{gate_after-length, length-record_of}
 use Rattle.cf_journal.proofs.Layouts.{at_rest, at_rest_with, staged}
 
 pub on_err : {T E : Type 0} (r : Result T E) (P : Type 0) → P → OnErr r P
@@ -45,18 +45,18 @@ module _ (version : ℕ) (chart : List ℕ) (history : List Entry) (valid : IsVa
 
   module _ (entry : Entry) (form : HasRecord entry) (of_version : IsOf version entry) where
     -- a record that is written
-    pub written_at_rest : (at : ℕ) (piece old new : List ℕ) → at ≡ place + 1 → piece ≡ record_of entry ++ 0 ∷ [] → IsAtRest version chart history old → new ≡ written at piece old → IsStaged version chart history entry new
-    written_at_rest at piece old new at_is piece_is rest new_is =
+    pub written_at_rest : (at : ℕ) (piece padding old new : List ℕ) → at ≡ place + 1 → piece ≡ record_of entry ++ 0 ∷ padding → IsAtRest version chart history old → new ≡ written at piece old → IsStaged version chart history entry new
+    written_at_rest at piece padding old new at_is piece_is rest new_is =
         let front = front_of rest.byte chart history in
         let after = drop (length piece) rest.behind in
-        let layout : new ≡ front ++ rest.gate ∷ (record_of entry ++ 0 ∷ after) =
+        let layout : new ≡ front ++ rest.gate ∷ (record_of entry ++ 0 ∷ (padding ++ after)) =
         new_is
         ∙ ap (λ (k : ℕ). written k piece old) (behind_gate rest.byte at at_is)
         ∙ ap (λ (l : List ℕ). written (length front + 1) piece l) rest.layout
         ∙ written_behind front rest.gate rest.behind piece
         ∙ ap (λ (l : List ℕ). front ++ rest.gate ∷ (l ++ after)) piece_is
-        ∙ ap (λ (l : List ℕ). front ++ rest.gate ∷ l) (append_assoc (record_of entry) (0 ∷ []) after) in
-        staged version rest.byte rest.first chart history entry valid form of_version rest.gate 0 after new (omega arith) layout
+        ∙ ap (λ (l : List ℕ). front ++ rest.gate ∷ l) (append_assoc (record_of entry) (0 ∷ padding) after) in
+        staged version rest.byte rest.first chart history entry valid form of_version rest.gate 0 (padding ++ after) new (omega arith) layout
 
     -- a crash in the write of the gate
     pub torn_staged : (at : ℕ) → at ≡ place → (earlier image : List ℕ) → IsStaged version chart history entry earlier → Torn at 1 earlier image → IsStaged version chart history entry image
@@ -88,8 +88,12 @@ module _ (version : ℕ) (chart : List ℕ) (history : List Entry) (valid : IsVa
 -- what is reserved is one entry
 reserved_once : (journal : Journal) (a b : Entry) → Reserves journal a → Reserves journal b → a ≡ b
 reserved_once journal a b one two =
-    let same : record_of a ++ 0 ∷ [] ≡ record_of b ++ 0 ∷ [] = sym one.bytes ∙ two.bytes in
-    let records : record_of b ≡ record_of a = append_cancel_right (record_of b) (record_of a) (0 ∷ []) (sym same) in
+    let sizes : length (payload b) ≡ length (payload a) = omega (arith, one.size, two.size) in
+    let long : length (record_of b) ≡ length (record_of a) = omega (arith, sizes, length-record_of a one.has, length-record_of b two.has) in
+    let same : record_of b ++ 0 ∷ two.behind ≡ record_of a ++ 0 ∷ one.behind = sym two.bytes ∙ one.bytes in
+    let records : record_of b ≡ record_of a =
+    sym (take_at (record_of b) (0 ∷ two.behind) (length (record_of a)) long) ∙ ap (λ (l : List ℕ). take (length (record_of a)) l) same
+    ∙ take_at (record_of a) (0 ∷ one.behind) (length (record_of a)) refl in
     let payloads : payload b ≡ payload a = ap (λ (l : List ℕ). drop 4 l) records in
     (no_prefix a b [] one.has.has two.has.has (payloads ∙ sym (append-nil (payload a)))).0
 

@@ -5,7 +5,7 @@ use Rattle.cf_calls.specs.declared.entry.Entry.{Entry}
 use Rattle.cf_codec.specs.Entries.{IsOf}
 use Rattle.cf_calls.specs.Kinds.{kind_of}
 use Rattle.cf_fields.specs.Kinds.{is_of}
-use Rattle.cf_journal.specs.Records.{HasRecord, record_of, gate_after}
+use Rattle.cf_journal.specs.Records.{HasRecord, record_of, record_len, gate_after}
 use Rattle.cf_journal.specs.Layout.{IsValid, IsAtRest, IsStaged}
 use Rattle.cf_journal.specs.declared.journal.Journal.{Journal}
 
@@ -25,10 +25,12 @@ version_of journal = journal.version
 abbrev pub has_act : Journal → Act → Bool
 has_act journal act = is_of (version_of journal) (kind_of act)
 
--- an entry is reserved
+-- an entry is reserved: its record, a closed gate at the place where the next entry goes, and anything behind that
 pub record Reserves (journal : Journal) (entry : Entry) : Type 0 where
   pub has : HasRecord entry
-  pub bytes : journal.reserved.items ≡ record_of entry ++ 0 ∷ []
+  pub behind : List ℕ
+  pub bytes : journal.reserved.items ≡ record_of entry ++ 0 ∷ behind
+  pub size : journal.size ≡ record_len entry
 
 -- the gate stands behind the chart and the entries
 pub record StandsBehind (journal : Journal) (chart : List ℕ) (history : List Entry) : Type 0 where

@@ -20,21 +20,30 @@ use cf_disk::Disk;
 use cf_fields::kind::is_of;
 use std::alloc::Global;
 
+/// The file grows to a multiple of so many bytes, by zeros behind a record: a sync of a file that keeps its length writes
+/// less, since the file system has nothing to note of it.
+const STEP: u64 = 65_536;
+
 /// The end of a journal, where the next entry is written.
 #[derive(Drop)]
 pub struct Journal {
     // The place of the gate of the next record, which is closed unless an entry is in doubt.
     gate: u64,
+    // How far behind its gate the next one stands, by the record that is reserved.
+    size: u64,
+    // The file has bytes up to here, at least.
+    filled: u64,
     // How many entries stand before it.
     count: u64,
     // The version of the grammar of its entries.
     version: u8,
-    // What is to stand behind the gate, up to the next one, which is closed; empty where nothing is reserved.
+    // What is to stand behind the gate, up to the next one, which is closed, with zeros where the file is to grow; empty
+    // where nothing is reserved.
     reserved: Vec<u8>,
     // Whether the gate may be open all the same.
     doubt: bool,
     // A record has less than 2 ^ 26 bytes.
-    ghost small: { vec_len reserved ≤ 2 ^ 26 },
+    ghost small: { size ≤ 2 ^ 26 },
     ghost known: { (1 ≤ version) × (version ≤ 2) },
     ghost room: { gate ≤ 2 ^ 63 + 2 ^ 33 + 2 ^ 26 * count },
 }
@@ -61,6 +70,8 @@ impl Journal {
     {
         Journal {
             gate,
+            size: 0,
+            filled: 0,
             count,
             version,
             reserved: Vec::new(alloc),
@@ -79,6 +90,11 @@ impl Journal {
         extend(&mut self.reserved, &(size as u32).to_be_bytes())?;
         write_entry(entry, &mut self.reserved)?;
         extend(&mut self.reserved, &[0])?;
+        self.size = self.reserved.len() as u64;
+        let end = self.gate.saturating_add(self.size + 1);
+        if end > self.filled {
+            fill(&mut self.reserved, STEP - end % STEP)?;
+        }
         Ok(())
     }
 
@@ -115,7 +131,9 @@ impl Journal {
         self.doubt = true;
         write_synced(disk, self.gate, &[1])?;
         self.doubt = false;
-        self.gate += self.reserved.len() as u64;
+        let end = self.gate.saturating_add(self.reserved.len() as u64 + 1);
+        self.filled = self.filled.max(end);
+        self.gate += self.size;
         self.count += 1;
         self.reserved.clear();
         Ok(())
@@ -219,6 +237,18 @@ fn extend(out: &mut Vec<u8>, bytes: &[u8]) -> Result<(), NoMemory>
     ensures err { OnErr result (out.new.items ≡ out.old.items) }
 {
     match out.extend_from_slice(bytes) {
+        Ok(()) => Ok(()),
+        Err(_) => Err(NoMemory),
+    }
+}
+
+/// Adds so many zeros at the end.
+fn fill(out: &mut Vec<u8>, more: u64) -> Result<(), NoMemory>
+    requires { more ≤ 65536 }
+    ensures ok { OnOk result ((behind : List ℕ) × out.new.items ≡ out.old.items ++ behind) }
+    ensures err { OnErr result (out.new.items ≡ out.old.items) }
+{
+    match out.resize(out.len() + more as usize, 0) {
         Ok(()) => Ok(()),
         Err(_) => Err(NoMemory),
     }

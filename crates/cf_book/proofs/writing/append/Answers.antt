@@ -25,3 +25,17 @@ returns-else-in_doubt-clause-err g c =
     λ chart h settled.
     settled_keeps g.D.Disk.tells g.D.Disk.is_image c.append.new.self c.append.new.disk chart h (doubt_of c.args.doubt.now) c.requires.none
     ((c.in-Err.ensures.err chart h c.args.entry.value settled c.requires.reserved).clear is)
+
+pub returns-in-Ok-clause-any_moment : goal.returns-in-Ok-clause-any_moment
+returns-in-Ok-clause-any_moment g c =
+    let d = g.D.Disk in
+    λ t chart h settled.
+    weaken d.moment d.was_image c.args.disk.now c.append.new.disk (RecoversToEither chart h c.args.entry.value) (FramesNear chart h (λ e. e ≡ c.args.entry.value))
+    (c.append.ensures.any_moment t chart h c.args.entry.value settled c.requires.reserved) (λ image near. near_either chart h (λ e. e ≡ c.args.entry.value) c.args.entry.value image refl near)
+
+pub returns-else-in_doubt-clause-any_moment : goal.returns-else-in_doubt-clause-any_moment
+returns-else-in_doubt-clause-any_moment g c =
+    let d = g.D.Disk in
+    λ t chart h settled.
+    weaken d.moment d.was_image c.args.disk.now c.append.new.disk (RecoversToEither chart h c.args.entry.value) (FramesNear chart h (λ e. e ≡ c.args.entry.value))
+    (c.append.ensures.any_moment t chart h c.args.entry.value settled c.requires.reserved) (λ image near. near_either chart h (λ e. e ≡ c.args.entry.value) c.args.entry.value image refl near)
