@@ -174,7 +174,7 @@ echo change > "$city/crates/cases/src/main.rt"
 echo change > "$city/crates/low/must-fail/an.edit"
 expect "a crate of cases and an edit that changed" 0 "$same" "$city/build"
 proved "neither is proved" 1
-says "a line a crate" "build: low is proved; 1 of 3 crates, 33% of the work, in 0 minutes" \
+says "a line a crate" "build: low is proved; 1 of 3 crates, 8% of the work, in 0 minutes" \
     sh -c "echo change > '$city/crates/low/src/main.rt'; '$city/build' 2>&1 | sed 's/; some .*//'"
 expect "the new program runs" 0 "new desk" sh -c "'$city/cityfund' desk 2>&1 | head -n 1"
 expect "and that of books" 0 "new list -x" sh -c "'$city/books' list -x 2>&1 | head -n 1"
@@ -219,7 +219,7 @@ verdict "a disk that is full when rt writes" $?
 mkdir "$scratch/small"
 if [ "$(id -u)" -eq 0 ] && mount -t tmpfs -o size=1m tmpfs "$scratch/small" 2> /dev/null; then
     fails "a disk that is too small" "the disk of $scratch/small has 0.0 GB free, and a build needs \
-1.0; TMPDIR may name a folder of another one" env TMPDIR="$scratch/small" "$city/build"
+3.0; TMPDIR may name a folder of another one" env TMPDIR="$scratch/small" "$city/build"
     umount "$scratch/small"
 else
     echo "launcher: skipped: no disk of its own can be mounted"
