@@ -6,7 +6,7 @@ cd "$(dirname "$0")/.." || exit 1
 top=$(pwd)
 PATH=$PATH:/usr/sbin
 . tests/program.sh
-books=${BOOKS:-$top/crates/books/out/books}
+books=${BOOKS:-$(built books)}
 scratch=$(mktemp -d) || exit 1
 trap 'kill $serving $proxy 2> /dev/null; rm -rf "$scratch"' EXIT
 . tests/expect.sh

@@ -1,11 +1,12 @@
 #!/bin/sh
-# Makes a package by ./package of the programs that rt built last, installs it into a root of its own, runs a first day there, from a
+# Makes a package by ./package of the programs that were built last, installs it into a root of its own, runs a first day there, from a
 # folder without sources or kit, and removes it. Skipped, and said so, where there is no dpkg-deb or nothing is built.
 cd "$(dirname "$0")/.." || exit 1
 top=$(pwd)
 PATH=$PATH:/usr/sbin:/sbin
-program=${PROGRAM:-$top/crates/cityfund/out/cityfund}
-books=${BOOKS:-$top/crates/books/out/books}
+. tests/built.sh
+program=${PROGRAM:-$(built cityfund)}
+books=${BOOKS:-$(built books)}
 for file in "$program" "$books"; do
     [ -x "$file" ] || { echo "package: skipped: nothing is built: there is no $file"; exit 0; }
 done
