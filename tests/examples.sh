@@ -254,6 +254,8 @@ sh tests/lists.sh
 verdict "the lists of books" $?
 sh tests/sheets.sh
 verdict "calls of sheets, and the tables of docs/CALLS.md" $?
+python3 tests/proved.py --check
+verdict "docs/CLAUSES.md, made from the sources" $?
 sh tests/package.sh
 verdict "the package" $?
 python3 tests/office/commands.py tests/commands "$program"
