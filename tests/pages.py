@@ -11,6 +11,7 @@ It checks that
 - a page, a heading of a page, a script or a folder that a page names is there.
 """
 import collections
+import functools
 import glob
 import os
 import re
@@ -20,11 +21,13 @@ TOP = os.path.join(os.path.dirname(os.path.abspath(__file__)), "..")
 MADE = "docs/CLAUSES.md"
 
 
+@functools.cache
 def read(path):
     with open(os.path.join(TOP, path), encoding="utf-8") as file:
         return file.read()
 
 
+@functools.cache
 def files(*patterns):
     """The files of the patterns below the top, without those that rt made."""
     found = sorted(path for one in patterns for path in glob.glob(os.path.join(TOP, one), recursive=True))
