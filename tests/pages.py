@@ -185,9 +185,17 @@ def link_faults(all_pages):
         for heading in re.findall(r"(?<!` )\((?:see )?\"([A-Z][^\"]+)\"\)", flat):
             if heading not in headings(text):
                 yield f"{path}: it has no heading \"{heading}\""
-        for target in re.findall(r"\]\(([\w./-]+\.md)(?:#[\w-]*)?\)", text):
-            if not os.path.exists(os.path.join(TOP, os.path.dirname(path), target)):
+        for target, anchor in re.findall(r"\]\(([\w./-]+\.md)(?:#([\w-]*))?\)", text):
+            target = os.path.normpath(os.path.join(os.path.dirname(path), target))
+            if target not in all_pages:
                 yield f"{path}: there is no {target}"
+            elif anchor and anchor not in [anchored(one) for one in re.findall(r"^#+ (.*)$", all_pages[target], re.M)]:
+                yield f"{path}: {target} has no heading with the anchor {anchor}"
+
+
+def anchored(heading):
+    """The anchor of a heading, as pages of Markdown have it."""
+    return re.sub(r"[^\w -]", "", heading.lower()).replace(" ", "-")
 
 
 # ---- measures
