@@ -3,9 +3,10 @@
 # examples/ over a journal of its own, founded with the chart of Rivertown, or with the chart that stands beside it,
 # with the statements that stand beside a talk, a journal that an earlier program wrote (examples/older/), a month's interest that
 # is shared among the funds (examples/pooled/), and the day of examples/two-runs/ by two desks, one after the other, over one journal. The journal of each talk is read by its format alone
-# (journal.py). Then what founding and opening refuse, whether the edits that the gate doesn't try still fit their files (edits.sh), the
-# launcher and the build with stubs (launcher.sh), the program books (books.sh) and its lists (lists.sh), calls of
-# sheets (sheets.sh), the package (package.sh), the stored commands (commands), and a short run of the independent office (agree.sh).
+# (journal.py). Then what founding and opening refuse, whether the edits that the gate doesn't try still fit their files
+# (edits.sh), the launcher and the build with stubs (launcher.sh), the program books (books.sh) and its lists (lists.sh),
+# calls of sheets (sheets.sh), the pages beside the sources (proved.py, pages.py), the package (package.sh), the stored
+# commands (commands), and a short run of the independent office (agree.sh).
 cd "$(dirname "$0")/.." || exit 1
 top=$(pwd)
 . tests/program.sh
@@ -257,6 +258,10 @@ sh tests/lists.sh
 verdict "the lists of books" $?
 sh tests/sheets.sh
 verdict "calls of sheets, and the tables of docs/CALLS.md" $?
+python3 tests/proved.py --check
+verdict "docs/CLAUSES.md, made from the sources" $?
+python3 tests/pages.py
+verdict "the pages, beside the sources and each other" $?
 sh tests/package.sh
 verdict "the package" $?
 python3 tests/office/commands.py tests/commands "$program"

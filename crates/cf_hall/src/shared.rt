@@ -19,8 +19,8 @@ use std::hint::spin_loop;
 use std::marker::Model;
 use std::sync::{Mutex, MutexGuard, Wait};
 
-/// How often a call tries for the book before it waits by the lock itself, which looks a while longer and then sleeps. To wake a
-/// thread takes longer than most calls hold the book.
+/// How often a call tries for the book before it waits on the lock. The lock tries a while longer,
+/// and then lets the thread sleep. To wake a thread takes longer than most calls hold the book.
 const TRIES: u32 = 2_048;
 
 /// What threads share of a hall: the history word, a copy of the chart, the place of each stripe, and the book. A call

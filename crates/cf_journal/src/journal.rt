@@ -98,9 +98,10 @@ impl Journal {
         Ok(())
     }
 
-    /// Writes the reserved entry, whose act the journal's version has. From the start on a crash at any moment
-    /// leaves the history, or the history and the entry; after `Ok` it leaves both. After `Disk_` the entry is in
-    /// doubt exactly where the write of its gate, or the sync after that, failed. Where nothing is in doubt a
+    /// Writes the reserved entry, whose act the journal's version has. From the start of the call
+    /// on, a crash at any moment leaves the history, or the history with the entry. After `Ok` a
+    /// crash leaves the history with the entry. After `Disk_` the entry is in doubt exactly where
+    /// the write of its gate, or the sync after that write, failed. Where it isn't in doubt then, a
     /// crash leaves the history, and the next entry is written to the same place.
     pub fn append<D: Disk>(&mut self, disk: &mut D) -> Result<(), Disk_>
         requires reserved { (e : EntryOf) × Reserves self.old e × (has_act self.old e.change.act ≡ true) }
