@@ -17,8 +17,9 @@ pub record DifferAt (a b : List ℕ) (at : ℕ) : Type 0 where
   pub same : take at a ≡ take at b
   pub differ : slice_get a at ≢ slice_get b at
 
--- The front of a stream wasn't read, or isn't one for an office of this chart and this many entries. Where a read failed, fewer bytes
--- were taken than the front has, and for want of memory no more than it has.
+-- The front of a stream wasn't read, or isn't one for an office of this chart and this many
+-- entries. Where a read failed, fewer bytes were taken than the front has, and for want of memory
+-- no more than it has.
 pub data HeadEnds (chart : List ℕ) (len : ℕ) (left left' : Option (List ℕ)) : FollowEnd → Type 0 where
   read_fault : (bytes : List ℕ) → Consumes left left' bytes → HeadPart 0 bytes → HeadEnds chart len left left' ReadFault
   memory : (bytes : List ℕ) → Consumes left left' bytes → HeadPart 1 bytes → HeadEnds chart len left left' NoMemory
@@ -39,8 +40,8 @@ pub record IsFrameOf (bytes : List ℕ) (e : Entry) : Type 0 where
   pub bytes_are : bytes ≡ frame_of (payload e)
 
 -- why it stops behind the records of the entries so far: the office as it is then, how many entries stand before the next record, where
--- that record begins, the bytes that were taken of it, and the office as it is left. Where a read failed, they are fewer than a record,
--- and for want of memory no more than one.
+-- that record begins, the bytes that were taken of it, and the office as it is left. Where a read
+-- failed, they are fewer than a record, and for want of memory no more than one.
 pub data Stops {F : Type 0} (o : Office F) (now : F) (place at : ℕ) (bytes : List ℕ) (left : Option (List ℕ)) (after : F) : FollowEnd → Type 0 where
   done : bytes ≡ 0 ∷ [] → after ≡ now → Stops o now place at bytes left after Done
   read_fault : RecordPart 0 bytes → after ≡ now → Stops o now place at bytes left after ReadFault

@@ -61,8 +61,8 @@ pub data RecordFault (left : Option (List ℕ)) (bytes : List ℕ) : ℕ → Typ
   text : (part : List ℕ) (k : ℕ) → bytes ≡ 1 ∷ part → TextFault 1 most_payload left part k → RecordFault left bytes k
   no_payload : (text : List ℕ) → bytes ≡ frame_of text → length text ≤ most_payload → of_length (length text) (read_of 2 text) ≡ None → RecordFault left bytes 5
 
--- ---- parts that weren't read whole. With `over` 0 the bytes that were taken are fewer than the part has that begins so, and with
--- `over` 1 they may be all that it has.
+-- ---- parts that weren't read whole. With `over` 0 the bytes that were taken are fewer than the
+-- part has that begins so, and with `over` 1 they may be all that it has.
 
 -- so many bytes
 abbrev pub PiecePart : ℕ → ℕ → List ℕ → Type 0

@@ -3,7 +3,8 @@
 use std::io;
 use std::net::{Net, SocketAddr, TcpListener, TcpStream};
 
-/// The network of the program, which prints each address at which a door asks to listen. Where it opens none, it refuses them.
+/// The network of the program, which prints each address at which a door asks to listen. Where it
+/// opens none, it refuses them.
 #[derive(Drop)]
 pub struct ShownNet<'a> {
     pub rt: &'a HostRuntime,

@@ -84,7 +84,8 @@ pub fn see_peers(
     see_at(rt, &mut door, links, clerk, texts)
 }
 
-/// Has the doors of so many ports from the first one on be served, while the network opens none: what each asks for is printed.
+/// Has the doors of so many ports from the first one on be served, while the network opens none:
+/// what each asks for is printed.
 pub fn see_ports(rt: &HostRuntime, clerk: &mut Clerk, first: u16, count: u16) -> io::Result<()>
     requires { first + count ≤ 65535 }
 {

@@ -212,7 +212,8 @@ fn see_peered(rt: &HostRuntime, stage: &Stage, words: &str) -> io::Result<()> {
     see_peers(rt, links, &mut stage.clerk(), stage.links.as_slice())
 }
 
-/// Shows what the doors of `serve` ask for: the words are the first port, and how many doors there are.
+/// Shows what the doors of `serve` ask for: the words are the first port, and how many doors there
+/// are.
 fn see_asked(rt: &HostRuntime, stage: &Stage, words: &str) -> io::Result<()> {
     let (first, count) = words.split_once(" ").unwrap_or((words, ""));
     let first = first.parse::<u16>().unwrap_or(0);
