@@ -1,5 +1,6 @@
-"""Where the program's doors listen: `listens.py PROGRAM` serves the journal of the current folder at two doors, one link each, and reads in
-/proc/net which sockets of that process listen. They are the two ports of 127.0.0.1, and no other port or address. Read by tests/examples.sh."""
+"""Where the program's doors listen: `listens.py PROGRAM` serves the journal of the current folder
+at two doors, one link each, and reads in /proc/net which sockets of that process listen. They are
+the two ports of 127.0.0.1, and no other port or address. Read by tests/examples.sh."""
 import ipaddress
 import os
 import pathlib

@@ -1,5 +1,6 @@
-"""Short runs of the commands, to which each growth is refused in its turn: `wanting.py CITYFUND BOOKS FOLDER`, where FOLDER has the library
-refuse.so. Read by tests/wanting.sh, which says what is shown."""
+"""Short runs of the commands, to which each growth is refused in its turn:
+`wanting.py CITYFUND BOOKS FOLDER`, where FOLDER has the library refuse.so. Read by
+tests/wanting.sh, which says what is shown."""
 import collections
 import os
 import pathlib
@@ -46,7 +47,8 @@ class Folder:
             self.journal.write_bytes(self.kept)
 
     def run(self, command, refused=0):
-        """Status, output and notice of a run to which this growth is refused, or none, and how many it asked for."""
+        """Status, output and notice of a run to which this growth is refused, or none, and how many
+        it asked for."""
         count = FOLDER / "count"
         count.write_bytes(bytes(16))
         env = {**os.environ, "LD_PRELOAD": str(FOLDER / "refuse.so"), "REFUSE_COUNT": str(count),
