@@ -2,7 +2,7 @@
 # Tries the program `books` on the journals of the examples: their calls, sent to a desk over a newly founded journal, make the
 # same file; a Rivertown journal moves to a chart with a line and a desk more; a journal that is cut at any byte gives the
 # whole entries before the cut; payments have their amounts; the lines of a fund with a later level say their years; the vouchers of
-# a grant stand as they were worked out by hand, and each fault of its document is named; an entry that the office refuses is named. Then what it refuses. BOOKS names another program than the one that rt built last.
+# a grant stand as they were worked out by hand, and each fault of its document is named; an entry that the office refuses is named. Then what it refuses, and an output that fails. BOOKS names another program than the one that rt built last.
 cd "$(dirname "$0")/.." || exit 1
 top=$(pwd)
 . tests/program.sh
@@ -276,6 +276,13 @@ expect "a window of 61 days" 3 "books: chart refused: source 1 has a window of 6
 verdict "help" $?
 [ "$("$books" --version)" = "books 1" ]
 verdict "version" $?
+# An output that fails: nothing can be written to /dev/full.
+for words in list calls chart lines check --help; do
+    said=$(cd "$scratch/first" && "$books" $words 2>&1 > /dev/full)
+    status=$?
+    [ "$status" -eq 5 ] && [ "$said" = "books: write fault" ]
+    verdict "an output that fails, of $words: status $status: $said" $?
+done
 cmp -s "$scratch/first/fund.journal" "$scratch/before"
 verdict "the journal stays" $?
 

@@ -3,10 +3,10 @@
 # examples/ over a journal of its own, founded with the chart of Rivertown, or with the chart that stands beside it,
 # with the statements that stand beside a talk, a journal that an earlier program wrote (examples/older/), a month's interest that
 # is shared among the funds (examples/pooled/), and the day of examples/two-runs/ by two desks, one after the other, over one journal. The journal of each talk is read by its format alone
-# (journal.py). Then what founding and opening refuse, whether the edits that the gate doesn't try still fit their files
-# (edits.sh), the launcher and the build with stubs (launcher.sh), the program books (books.sh) and its lists (lists.sh),
-# calls of sheets (sheets.sh), the pages beside the sources (proved.py, pages.py), the package (package.sh), the stored
-# commands (commands), and a short run of the independent office (agree.sh).
+# (journal.py). Then what founding and opening refuse, where the doors of `serve` listen (listens.py), whether the edits
+# that the gate doesn't try still fit their files (edits.sh), the launcher and the build with stubs (launcher.sh), the
+# program books (books.sh) and its lists (lists.sh), calls of sheets (sheets.sh), the pages beside the sources (proved.py,
+# pages.py), the package (package.sh), the stored commands (commands), and a short run of the independent office (agree.sh).
 cd "$(dirname "$0")/.." || exit 1
 top=$(pwd)
 . tests/program.sh
@@ -247,6 +247,12 @@ verdict "no journal is made" $?
 sed 's/^window = 60$/window = 61/' examples/rivertown/chart.toml > "$scratch/chart.toml"
 expect "a window of 61" 3 "cityfund: chart refused" found
 expect "a desk after a refused chart" 7 "cityfund: not founded" desk
+
+# The doors of `serve` listen at their ports of 127.0.0.1 and nowhere else.
+fresh rivertown
+expect "found for doors" 0 founded found
+(cd "$scratch" && python3 "$top/tests/listens.py" "$city/out/cityfund")
+verdict "where doors listen" $?
 
 sh tests/edits.sh --apply
 verdict "the edits that the gate doesn't try" $?
