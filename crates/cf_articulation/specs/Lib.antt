@@ -1,3 +1,6 @@
 pub mod Articulates
+pub mod Comparison
+pub mod ItemAccounts
 pub mod OwnAccounts
 pub mod TrialBalances
+pub mod WorkedLevels
