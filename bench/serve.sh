@@ -2,9 +2,11 @@
 # What `serve` does a second over real links of this machine, all in one run:
 #  - looks over a kept-alive link at one door, beside nginx answering a fixed text of as many bytes over one on one worker (by
 #    wrk; skipped where wrk or nginx isn't there);
-#  - accepted calls at eight doors on eight lines, each waiting for its answer, beside the rate at which the same disk syncs the
-#    data of small appends: each call is two writes and two syncs, so the last number is calls / (syncs / 2); and the same where
-#    each sync takes a millisecond more, by a library that is put before the system's (skipped where cc isn't there);
+#  - accepted calls at one door and at eight, each on a line of its own and waiting for its answer, by callers in C: the microseconds of
+#    a call, those inside its two syncs and those beside them, and its share of half the syncs of a file that keeps its length. First on
+#    this disk, and then with the journal in memory (/dev/shm) and each sync a sleep of 85, 300 and 2,000 microseconds: a disk that is
+#    shared moves, and a sleep doesn't. Syncs are timed, and made sleeps, by a library that is put before the system's (skipped where
+#    cc isn't there). Where OTHER names another program it is measured in turn with the first;
 #  - accepted calls at one door and at eight, sent many at a time, where the journal lies in memory (/dev/shm);
 #  - the time of a call there after 1,000 entries and after 100,000.
 # The files that are synced lie in a folder made in the folder of the argument, or in bench/. The callers run on the same processors.
@@ -14,15 +16,17 @@ PATH=$PATH:/usr/sbin
 scratch=$(mktemp -d "${1:-$top/bench}/serve.XXXXXX") || exit 1
 memory=$(mktemp -d -p /dev/shm) || exit 1
 trap 'rm -rf "$scratch" "$memory"' EXIT
-PYTHONPATH=$top/tests timeout 1200 python3 - "$program" "$top/examples/rivertown/chart.toml" "$scratch" "$memory" <<'PY'
+PYTHONPATH=$top/tests:$top/bench PYTHONDONTWRITEBYTECODE=1 timeout 1800 python3 - "$program" "$top/examples/rivertown/chart.toml" "$scratch" "$memory" "${OTHER:-}" <<'PY'
 import atexit, json, multiprocessing, os, re, shutil, subprocess, sys, time
 
+import city
+import syncs
+from city import ACCOUNTS
 from doors import Link, Serve, free_ports, get, post
 
-PROGRAM, CHART, DISK, MEMORY = sys.argv[1:]
+PROGRAM, CHART, DISK, MEMORY, OTHER = sys.argv[1:]
+PROGRAMS = [("", PROGRAM)] + [(" of the other program", OTHER)] * bool(OTHER)
 DOORS, SECONDS = 8, 5
-ACCOUNTS = [(1, 10, 510), (1, 10, 520), (1, 10, 710), (1, 20, 510), (2, 20, 510), (3, 20, 710), (2, 10, 510), (3, 10, 710)]
-MORE_LINES = "\n[[line]]\nfund = 2\ndept = 10\n\n[[line]]\nfund = 3\ndept = 10\nclass = 7\n"
 NGINX = """pid nginx.pid; error_log nginx.log; worker_processes 1; daemon off; events {}
 http {
     access_log off;
@@ -35,21 +39,8 @@ http {
 fork = multiprocessing.get_context("fork")
 numbers = iter(range(1, 1 << 30))
 
-def found(folder):
-    """A new journal in the folder, in which all eight lines have room."""
-    os.chdir(folder)
-    for name in os.listdir():
-        shutil.rmtree(name) if os.path.isdir(name) else os.remove(name)
-    with open(CHART) as chart, open("chart.toml", "w") as longer:
-        longer.write(chart.read() + MORE_LINES)
-    subprocess.run([PROGRAM, "found"], stdout=subprocess.DEVNULL, check=True)
-    adoptions = [{"call": "adopt", "desk": 1, "key": f"b{fund}", "on": "2025-07-01", "fund": fund, "year": 2026,
-                  "lines": [{"line": line, "amount": 1000000000} for line in lines], "estimates": []}
-                 for fund, lines in ((1, (0, 1, 2, 3)), (2, (4, 8)), (3, (5, 9)))]
-    lines = "".join(json.dumps(call) + "\n" for call in adoptions).encode()
-    said = subprocess.run([PROGRAM, "desk"], input=lines, stdout=subprocess.PIPE)
-    if said.stdout.count(b'"ok"') != 3:
-        sys.exit(f"no adoptions: {said.stdout}")
+def found(folder, program=PROGRAM):
+    city.found(program, CHART, folder)
 
 def voucher(door):
     fund, dept, object_ = ACCOUNTS[door]
@@ -83,9 +74,9 @@ def seconds(serve, doors, count, most):
         speaker.join()
     return last - start
 
-def opened(doors, env=None):
+def opened(doors, env=None, program=PROGRAM):
     """A serve whose doors listen."""
-    serve = Serve(PROGRAM, doors, 1000, env=env)
+    serve = Serve(program, doors, 1000, env=env)
     for door in range(doors):
         serve.link(door).close()
     return serve
@@ -105,7 +96,7 @@ def nginx_of(text):
     return process, port
 
 def looks():
-    found(DISK)
+    found(f"{DISK}/looks")
     missing = [tool for tool in ("wrk", "nginx") if not shutil.which(tool)]
     if missing:
         print(f"looks: skipped: there is no {missing[0]}")
@@ -128,60 +119,40 @@ def looks():
     door, fixed = max(ours), max(theirs)
     print(f"looks at one door: {door:,.0f} a second; nginx, a fixed text of {len(text)} bytes: {fixed:,.0f}; {door / fixed:.2f} of it")
 
-SYNCS = """
-import os, sys, time
-file = os.open("appends", os.O_WRONLY | os.O_CREAT | os.O_APPEND)
-start = time.time()
-for _ in range(int(sys.argv[1])):
-    os.write(file, b"x" * 60)
-    os.fdatasync(file)
-print(time.time() - start)
-"""
-
-def sync_seconds(count, env):
-    said = subprocess.run([sys.executable, "-c", SYNCS, str(count)], env=env, stdout=subprocess.PIPE, check=True)
-    return float(said.stdout)
-
-def durable(what, env, syncs, calls):
-    found(DISK)
-    serve = opened(DOORS, env)
-    turns = 5
-    syncing = calling = 0
+def synced(what, tools, folder, doors, calls, sleep=None):
+    """So many calls at each of so many doors, in turn with the limit, and with the other program."""
+    serves, turns = [], 5
+    for number, (name, program) in enumerate(PROGRAMS):
+        found(f"{folder}/{number}", program)
+        measured = syncs.Measured(syncs.Times(tools, f"times{number}", sleep))
+        serves.append((name, measured, opened(doors, measured.times.environment, program)))
     for _ in range(turns):
-        syncing += sync_seconds(syncs, env)
-        calling += seconds(serve, DOORS, calls, 1)
-    serve.kill()
-    rate, accepted = turns * syncs / syncing, turns * calls * DOORS / calling
-    print(f"{what}: syncs of small appends: {rate:,.0f} a second; accepted calls at {DOORS} doors: {accepted:,.0f}; "
-          f"calls / (syncs / 2): {accepted / (rate / 2):.2f}")
+        limit = tools.limit(folder, calls * doors, sleep)
+        for _, measured, serve in serves:
+            measured.times.begin()
+            seconds = tools.callers(serve.first, calls, f"v{next(numbers)}", ACCOUNTS[:doors])
+            measured.times.end()
+            measured.add(calls * doors, seconds, limit)
+    for name, measured, serve in serves:
+        serve.kill()
+        print(f"{what}, {doors} door{'s' * (doors > 1)}{name}: {measured.said()}")
 
-SLOWER = """
-#include <time.h>
-#include <unistd.h>
-#include <sys/syscall.h>
-int fdatasync(int file) {
-    struct timespec millisecond = {0, 1000000};
-    nanosleep(&millisecond, 0);
-    return syscall(SYS_fdatasync, file);
-}
-"""
-
-def slower():
-    """The environment in which a sync takes a millisecond more."""
-    library = f"{MEMORY}/slower.so"
-    subprocess.run(["cc", "-shared", "-fPIC", "-O1", "-x", "c", "-", "-o", library], input=SLOWER, text=True, check=True)
-    return dict(os.environ, LD_PRELOAD=library)
-
-def slow_disk():
-    if not shutil.which("cc"):
-        print("a slower disk: skipped: there is no cc")
+def durable():
+    if not syncs.are_there():
+        print("accepted calls: skipped: there is no cc")
         return
-    durable("a slower disk", slower(), 100, 10)
+    os.mkdir(f"{MEMORY}/tools")
+    tools = syncs.Tools(f"{MEMORY}/tools")
+    for doors in (1, DOORS):
+        synced("this disk", tools, f"{DISK}/synced", doors, 4000 // doors)
+    for sleep in (85, 300, 2000):
+        for doors in (1, DOORS):
+            synced(f"syncs of {sleep:,} us", tools, f"{MEMORY}/synced", doors, 100000 // sleep // doors * 2, sleep)
 
 def in_memory():
     rates = {}
     for doors in (1, DOORS):
-        found(MEMORY)
+        found(f"{MEMORY}/journal")
         serve = opened(doors)
         count = 80000 // doors
         rates[doors] = doors * count / seconds(serve, doors, count, 64)
@@ -189,7 +160,7 @@ def in_memory():
     print(f"accepted calls, the journal in memory: {rates[1]:,.0f} a second at one door, {rates[DOORS]:,.0f} at {DOORS}")
 
 def growth():
-    found(MEMORY)
+    found(f"{MEMORY}/journal")
     serve = opened(1)
     have, times = 3, []
     for entries in (1000, 100000):
@@ -204,8 +175,7 @@ def growth():
     print(f"a call after 1,000 entries: {few:.1f} us; after 100,000: {many:.1f} us; {many / few:.2f} times")
 
 looks()
-durable("this disk", None, 1000, 60)
-slow_disk()
+durable()
 in_memory()
 growth()
 PY

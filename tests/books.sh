@@ -191,6 +191,10 @@ done
 
 entries=$("$books" list "$scratch/first/fund.journal" | wc -l)
 size=$(wc -c < "$scratch/first/fund.journal")
+in_use=$(($(python3 tests/journal.py --end "$scratch/first/fund.journal") + 1))
+[ "$("$books" check "$scratch/first/fund.journal" | tail -n 2)" = "bytes in use: $in_use
+bytes of room: $((size - in_use))" ]
+verdict "the bytes in use and those of room" $?
 python3 - "$books" "$scratch/first/fund.journal" "$scratch/first/calls" << 'PY'
 import struct, subprocess, sys
 
@@ -201,7 +205,7 @@ gates = [chart]
 while data[gates[-1]] == 1:
     gates.append(gates[-1] + 5 + struct.unpack(">I", data[gates[-1] + 1:gates[-1] + 5])[0])
 wrong = 0
-for cut in range(0, len(data) + 1):
+for cut in [*range(0, gates[-1] + 10), *range(gates[-1] + 10, len(data), 4096), len(data)]:
     open(JOURNAL + ".cut", "wb").write(data[:cut])
     run = subprocess.run([BOOKS, "calls", JOURNAL + ".cut"], stdout=subprocess.PIPE, stderr=subprocess.PIPE)
     whole = sum(gate < cut for gate in gates[1:])
@@ -217,7 +221,7 @@ for cut in range(0, len(data) + 1):
         print(f"cut at {cut}: {run.returncode} {run.stdout} {run.stderr}, not {wanted}")
 sys.exit(wrong > 0)
 PY
-verdict "a journal of $entries entries, cut at each of its $size bytes" $?
+verdict "a journal of $entries entries, cut at each of its $in_use bytes in use, and in its room" $?
 
 # ---- an entry that the office refuses: its place is named, and its call is printed
 

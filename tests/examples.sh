@@ -89,8 +89,10 @@ expect "found for an older journal" 0 founded found
 version 2
 talk examples/older/quarter.jsonl examples/older/quarter.replies
 byte 1 001
-cmp "$scratch/fund.journal" examples/older/quarter.journal
-verdict "the journal of examples/older/quarter.jsonl is the older one" $?
+size=$(wc -c < examples/older/quarter.journal)
+head -c "$size" "$scratch/fund.journal" | cmp - examples/older/quarter.journal &&
+    [ "$(tail -c +$((size + 1)) "$scratch/fund.journal" | tr -d '\000' | wc -c)" -eq 0 ] && [ $(($(wc -c < "$scratch/fund.journal") % 65536)) -eq 0 ]
+verdict "the journal of examples/older/quarter.jsonl is the older one, with room behind it" $?
 cp examples/older/quarter.journal "$scratch/fund.journal"
 talk examples/older/looks.jsonl examples/older/looks.replies
 cmp "$scratch/fund.journal" examples/older/quarter.journal
@@ -101,7 +103,7 @@ version 1
 cp "$scratch/fund.journal" "$scratch/before"
 talk examples/older/lease.jsonl examples/older/lease.replies
 version 2
-last=$(($(wc -c < "$scratch/before") - 1))
+last=$(python3 tests/journal.py --end "$scratch/before")
 for journal in before fund.journal; do
     tail -c +3 "$scratch/$journal" | head -c $((last - 2)) > "$scratch/$journal.part"
 done

@@ -1,7 +1,9 @@
 """Reads a journal by docs/JOURNAL.md alone, and compares its entries with the accepted lines of a talk.
 
     journal.py JOURNAL                   prints each entry as its call, one a line
-    journal.py JOURNAL TALK REPLIES      says where an entry isn't the call that was accepted at its place, and ends with 1
+    journal.py --end JOURNAL             prints the place of the first closed gate, where the history ends
+    journal.py JOURNAL TALK REPLIES      says where an entry isn't the call that was accepted at its place, and ends with 1; so it does
+                                         where something else than zeros up to a multiple of 64 KiB stands behind entries
 """
 
 import datetime
@@ -161,6 +163,7 @@ def entry(f, version):
 
 
 def entries(journal):
+    """The entries, and the place of the first closed gate."""
     f = Fields(journal, 0)
     if f.b() != 1:
         raise SystemExit("no founded journal")
@@ -172,7 +175,7 @@ def entries(journal):
         found.append(entry(f, version))
         if f.at != end:
             raise SystemExit(f"entry {len(found)} ends at {f.at}, not at {end}")
-    return found
+    return found, f.at - 1
 
 
 def accepted(talk, replies):
@@ -190,8 +193,12 @@ def accepted(talk, replies):
 
 
 def main():
-    with open(sys.argv[1], "rb") as file:
-        found = entries(file.read())
+    with open(sys.argv[-1 if sys.argv[1] == "--end" else 1], "rb") as file:
+        journal = file.read()
+    found, end = entries(journal)
+    if sys.argv[1] == "--end":
+        print(end)
+        return 0
     if len(sys.argv) == 2:
         for call in found:
             print(json.dumps(call, separators=(",", ":")))
@@ -207,7 +214,10 @@ def main():
             differ.add(place)
     for place in sorted(differ):
         print(f"entry {place} isn't the call that was accepted there")
-    return 1 if differ else 0
+    has_room = not any(journal[end:]) and (not found or len(journal) % 65536 == 0)
+    if not has_room:
+        print(f"what stands from {end} on isn't room")
+    return 0 if has_room and not differ else 1
 
 
 sys.exit(main())

@@ -105,7 +105,9 @@ verdict "its statement" $?
 [ "$(cd "$scratch/desk" && ./books check)" = "last day: 2025-07-06
 entries: 6
 closed months: 0
-closed years: 0" ]
+closed years: 0
+bytes in use: 2755
+bytes of room: 62781" ]
 verdict "its books" $?
 if command -v python3 > /dev/null; then
     "$there/examples/clients/from_csv.py" call=voucher desk=4 'key=inv-{vendor}-{invoice}' < "$there/examples/clients/vouchers.csv" \

@@ -207,12 +207,14 @@ class Trial:
         for payload in own:
             assert "ok" in office.answer(streams.entry_of(payload)[0])
         follower = streams.Follower(self.chart, office, own)
-        before, (status, printed, said, why) = city.journal(), streams.outcome(follower, text)
+        before, had, (status, printed, said, why) = city.journal(), len(own), streams.outcome(follower, text)
         self.counts["follow"] += 1
         self.counts[why.split(" ")[0]] += 1
         self.same("follow: " + why, city.run(["follow"], text), (status, printed.encode(), said))
         version = 2 if before[1] != 1 or has_lease(follower.payloads) else 1
-        self.same("the journal behind follow: " + why, city.journal(), streams.journal_of(self.chart, follower.payloads, version))
+        if len(follower.payloads) > had:
+            before = streams.with_room(streams.journal_of(self.chart, follower.payloads, version))
+        self.same("the journal behind follow: " + why, city.journal(), before)
         return follower.payloads
 
     def follow_otherwise(self):

@@ -7,7 +7,7 @@ import sys
 
 from payloads import NoEntry, entry_of, payload_of
 
-MOST_CHART, MOST_PAYLOAD, MOST_FROM = 1_048_576, 65_536, 1_500_000
+MOST_CHART, MOST_PAYLOAD, MOST_FROM, STEP = 1_048_576, 65_536, 1_500_000, 65_536
 # What the program ends with.
 STATUSES = dict(OtherChart=14, Gap=15, StreamFault=16, Forked=17, EntryRefused=18)
 SAID = dict(OtherChart="other chart", Gap="gap", StreamFault="stream fault", Forked="forked", EntryRefused="entry refused")
@@ -49,6 +49,11 @@ def record(payload):
 def journal_of(chart, payloads, version=2):
     """The file of a journal that has these entries, and nothing behind them."""
     return b"\1" + bytes([version]) + struct.pack(">I", len(chart)) + chart + b"".join(map(record, payloads)) + b"\0"
+
+
+def with_room(journal):
+    """The same with the room that the program leaves behind an entry that it wrote: zeros up to a multiple of 64 KiB."""
+    return journal + bytes(-len(journal) % STEP)
 
 
 def ship(chart, payloads, first):

@@ -1,5 +1,5 @@
 -- What each command answers: a function of the bytes of its file.
-use Rattle.std.specs.Prelude.{◌≡◌, ⊤, ℕ, zero, suc, ◌+◌, ◌-◌, ◌&&◌, nat_le, Bool, true, false, if◌then◌else◌, List, [], ◌∷◌, length, Option, Some, None, Result, Ok, Err}
+use Rattle.std.specs.Prelude.{◌≡◌, ⊤, ℕ, zero, suc, ◌+◌, ◌-◌, ◌&&◌, nat_le, Bool, true, false, if◌then◌else◌, List, [], ◌∷◌, ◌++◌, length, Option, Some, None, Result, Ok, Err}
 use Rattle.std.specs.Io.KnownBytes.{Appends}
 use Rattle.cf_base.specs.Limits.{last_year}
 use Rattle.cf_book.specs.DurableState.{DurableBook}
@@ -40,6 +40,7 @@ use Rattle.cf_books_lists.specs.Statement.{statement_text}
 use Rattle.cf_books.specs.FaultRows.{fault_id}
 use Rattle.cf_books.specs.Lines.{lines_text}
 use Rattle.cf_books.specs.Listing.{list_text}
+use Rattle.cf_books.specs.Room.{room_text}
 use Rattle.cf_books.specs.Summary.{chart_text, journal_text}
 use Rattle.cf_books.specs.Whole.{Parts, whole_of}
 
@@ -129,23 +130,23 @@ refused_said bytes Disk = nothing status.NoMemory
 refused_said bytes NoMemory = nothing status.NoMemory
 
 -- the posts, the balances, what is open and the statements are those of the history that the bytes recover to
-abbrev pub office_text : Command → OfficeState → List ℕ
-office_text (Posts filter csv) s = posts_of csv filter s.plan s.entries
-office_text (Balances year csv) s = balances_of csv year s.plan s.entries
-office_text (Open csv) s = open_text csv s.plan s.entries
-office_text (Statement year kind csv) s = statement_text csv year kind s.plan s.entries
-office_text _ s = journal_text s.entries
+abbrev pub office_text : Command → List ℕ → OfficeState → List ℕ
+office_text (Posts filter csv) bytes s = posts_of csv filter s.plan s.entries
+office_text (Balances year csv) bytes s = balances_of csv year s.plan s.entries
+office_text (Open csv) bytes s = open_text csv s.plan s.entries
+office_text (Statement year kind csv) bytes s = statement_text csv year kind s.plan s.entries
+office_text _ bytes s = journal_text s.entries ++ room_text bytes s.entries
 
 -- what is told of the office of these bytes, or why there is none
 abbrev pub over_office : (OfficeState → Said) → List ℕ → Result OfficeState BookRefused → Said
 over_office told bytes (Ok s) = told s
 over_office told bytes (Err e) = refused_said bytes e
 
-abbrev pub office_told : Command → OfficeState → Said
-office_told command s = record { out = office_text command s; status = status.Done }
+abbrev pub office_told : Command → List ℕ → OfficeState → Said
+office_told command bytes s = record { out = office_text command bytes s; status = status.Done }
 
 abbrev pub office_said : Command → List ℕ → Result OfficeState BookRefused → Said
-office_said command bytes x = over_office (office_told command) bytes x
+office_said command bytes x = over_office (office_told command bytes) bytes x
 
 -- a statement is of a fiscal year from 1971 to 2199: words with another are refused
 abbrev pub statement_said : ℕ → ReportKind → Bool → List ℕ → Said

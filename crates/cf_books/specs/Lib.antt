@@ -6,6 +6,7 @@ pub mod Tables
 pub mod Listing
 pub mod Lines
 pub mod Summary
+pub mod Room
 pub mod Whole
 pub mod FaultRows
 pub mod Notices

@@ -14,6 +14,7 @@ mod notices;
 mod office;
 mod payments;
 mod refused;
+mod room;
 mod running;
 mod status;
 mod summary;

@@ -10,6 +10,7 @@ ghost use Rattle.cf_model.specs.State.{OfficeState};
 
 use crate::answers::{Answer, damaged, nothing};
 use crate::refused::refused_at;
+use crate::room::put_room;
 use crate::status::Status;
 use crate::summary::put_journal;
 use cf_book::{Book, BookRefused, NotOpened, open};
@@ -51,13 +52,14 @@ pub(crate) fn refused_answer(
     }
 }
 
-/// What is printed of a book that is checked.
-fn book_text(alloc: Global, book: Book<MemDisk>) -> Result<Vec<u8>, AllocError>
-    ensures { IfOk result (λ v. v.items ≡ spec.office_text Check (opened book)) }
+/// What is printed of a book that is checked, and of the bytes of its journal.
+fn book_text(alloc: Global, bytes: &[u8], book: &Book<MemDisk>) -> Result<Vec<u8>, AllocError>
+    ensures { IfOk result (λ v. v.items ≡ spec.office_text Check bytes.now (opened book.now)) }
 {
-    let (_, archive) = book.into_parts();
+    let entries = book.entries();
     let mut out = Vec::new(alloc);
-    put_journal(&mut out, archive.rest().entries())?;
+    put_journal(&mut out, entries)?;
+    put_room(&mut out, bytes, entries)?;
     Ok(out)
 }
 
@@ -68,7 +70,7 @@ pub fn office_answer(alloc: Global, bytes: &[u8]) -> Result<Answer, AllocError>
     let copy = Vec::from_slice(alloc, bytes)?;
     match open_book(alloc, copy) {
         Ok(book) => {
-            let out = book_text(alloc, book)?;
+            let out = book_text(alloc, bytes, &book)?;
             Ok(Answer {
                 out,
                 status: Status::Done,

@@ -36,7 +36,7 @@ fn put_count(out: &mut Vec<u8>, name: &str, n: u64) -> Result<(), AllocError>
 }
 
 /// Appends numbers with their names.
-fn put_counts(out: &mut Vec<u8>, facts: &[(&str, u64)]) -> Result<(), AllocError>
+pub(crate) fn put_counts(out: &mut Vec<u8>, facts: &[(&str, u64)]) -> Result<(), AllocError>
     ensures { OnOk result (out.new.items ≡ out.old.items ++ spec.counts_text (map spec.named facts.now)) }
 {
     for fact in facts {

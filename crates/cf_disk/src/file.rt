@@ -6,7 +6,8 @@ ghost use Rattle.cf_base.specs.Causes.{HasCause};
 use crate::disk::Disk;
 use cf_base::Failed;
 use std::fs::{File, Files, OpenFile, OpenOptions};
-use std::io::{ErrorKind, Read, Seek, SeekFrom, Write};
+use std::io::ErrorKind;
+use std::os::unix::fs::FileExt;
 use std::path::Path;
 
 /// The lock of an open file, for code that is generic over files.
@@ -151,22 +152,16 @@ fn len_of<F: OpenFile>(file: &Option<F>) -> Option<u64> {
     }
 }
 
-fn read_from<F: Read + Seek>(file: &mut Option<F>, at: u64, buf: &mut [u8]) -> Option<()> {
+fn read_from<F: FileExt>(file: &Option<F>, at: u64, buf: &mut [u8]) -> Option<()> {
     match file {
-        Some(file) => {
-            file.seek(SeekFrom::Start(at)).ok()?;
-            file.read_exact(buf).ok()
-        }
+        Some(file) => file.read_exact_at(buf, at).ok(),
         None => None,
     }
 }
 
-fn write_to<F: Write + Seek>(file: &mut Option<F>, at: u64, piece: &[u8]) -> Option<()> {
+fn write_to<F: FileExt>(file: &Option<F>, at: u64, piece: &[u8]) -> Option<()> {
     match file {
-        Some(file) => {
-            file.seek(SeekFrom::Start(at)).ok()?;
-            file.write_all(piece).ok()
-        }
+        Some(file) => file.write_all_at(piece, at).ok(),
         None => None,
     }
 }
@@ -187,7 +182,7 @@ fn sync_data<F: OpenFile>(file: &Option<F>) -> Option<()> {
 
 impl<R: Files> Disk for FileDisk<'_, R>
 where
-    R::File: Lock,
+    R::File: Lock + FileExt,
 {
     ghost tells = { false };
 
@@ -212,7 +207,7 @@ where
 
     fn read(&mut self, at: u64, buf: &mut [u8]) -> Result<(), Failed> {
         let outcome = match self.is_open() {
-            Some(true) => read_from(&mut self.file, at, buf),
+            Some(true) => read_from(&self.file, at, buf),
             Some(false) if buf.is_empty() => Some(()),
             _ => None,
         };
@@ -221,7 +216,7 @@ where
 
     fn write_at(&mut self, at: u64, piece: &[u8]) -> Result<(), Failed> {
         let outcome = match self.open_or_make() {
-            Some(()) => write_to(&mut self.file, at, piece),
+            Some(()) => write_to(&self.file, at, piece),
             None => None,
         };
         self.counted(outcome)

@@ -15,13 +15,8 @@ use cf_disk::Disk;
 use cf_names::City;
 use cf_turns::{Pass, Turns};
 use std::alloc::Global;
-use std::hint::spin_loop;
 use std::marker::Model;
-use std::sync::{Mutex, MutexGuard, Wait};
-
-/// How often a call tries for the book before it waits on the lock. The lock tries a while longer,
-/// and then lets the thread sleep. To wake a thread takes longer than most calls hold the book.
-const TRIES: u32 = 2_048;
+use std::sync::{Mutex, Wait};
 
 /// What threads share of a hall: the history word, a copy of the chart, the place of each stripe, and the book. A call
 /// holds its stripes while it is answered, and the book only while it is settled.
@@ -91,17 +86,6 @@ impl<N: City, D: Disk + Drop> Shared<N, D> {
         (turns, book.into_inner())
     }
 
-    /// The book, once no other call holds it.
-    fn book<R: Wait>(&self, rt: &R) -> MutexGuard<'_, HallBook<N, D>> {
-        for _ in 0..TRIES {
-            if let Some(book) = self.book.try_lock() {
-                return book;
-            }
-            spin_loop();
-        }
-        self.book.lock(rt)
-    }
-
     /// Answers a call, and tells what its pass has seen then. It waits for the stripes of the call and for the book. The
     /// book is given back before the changes of line numbers are made, and the stripes after that.
     pub fn post<R: Wait, G: Gate>(
@@ -118,7 +102,8 @@ impl<N: City, D: Disk + Drop> Shared<N, D> {
         let mut taken = self.places.take(rt, &self.chart, &call);
         gate.taken(&call);
         let answer = self
-            .book(rt)
+            .book
+            .lock(rt)
             .settle(alloc, &self.turns, &mut taken, pass, call);
         taken.finish();
         self.places.give_back(rt, taken);

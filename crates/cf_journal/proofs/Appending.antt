@@ -1,5 +1,5 @@
 -- What the steps of an append and of a mend leave.
-use Rattle.std.proofs.Common.{◌≡◌, ℕ, ◌+◌, ◌≤◌, List, [], ◌∷◌, ◌++◌, length, take, drop, get_or, refl, sym, ◌∙◌, ap, subst, arith, append_assoc, length-append, Result, Ok, Err}
+use Rattle.std.proofs.Common.{◌≡◌, ℕ, ◌+◌, ◌≤◌, List, [], ◌∷◌, ◌++◌, length, take, drop, replicate, get_or, refl, sym, ◌∙◌, ap, subst, arith, append_assoc, length-append, Result, Ok, Err}
 use Rattle.std.specs.Prelude.{OnErr}
 use Rattle.std.proofs.lemmas.List.{append-nil, take_at}
 use Rattle.cf_calls.specs.declared.entry.Entry.{Entry}
@@ -90,10 +90,10 @@ reserved_once : (journal : Journal) (a b : Entry) → Reserves journal a → Res
 reserved_once journal a b one two =
     let sizes : length (payload b) ≡ length (payload a) = omega (arith, one.size, two.size) in
     let long : length (record_of b) ≡ length (record_of a) = omega (arith, sizes, length-record_of a one.has, length-record_of b two.has) in
-    let same : record_of b ++ 0 ∷ two.behind ≡ record_of a ++ 0 ∷ one.behind = sym two.bytes ∙ one.bytes in
+    let same : record_of b ++ 0 ∷ replicate two.room 0 ≡ record_of a ++ 0 ∷ replicate one.room 0 = sym two.bytes ∙ one.bytes in
     let records : record_of b ≡ record_of a =
-    sym (take_at (record_of b) (0 ∷ two.behind) (length (record_of a)) long) ∙ ap (λ (l : List ℕ). take (length (record_of a)) l) same
-    ∙ take_at (record_of a) (0 ∷ one.behind) (length (record_of a)) refl in
+    sym (take_at (record_of b) (0 ∷ replicate two.room 0) (length (record_of a)) long) ∙ ap (λ (l : List ℕ). take (length (record_of a)) l) same
+    ∙ take_at (record_of a) (0 ∷ replicate one.room 0) (length (record_of a)) refl in
     let payloads : payload b ≡ payload a = ap (λ (l : List ℕ). drop 4 l) records in
     (no_prefix a b [] one.has.has two.has.has (payloads ∙ sym (append-nil (payload a)))).0
 

@@ -1,5 +1,5 @@
 -- What a journal is, on its disk.
-use Rattle.std.specs.Prelude.{◌≡◌, ℕ, ◌+◌, Bool, true, false, IsTrue, List, [], ◌∷◌, ◌++◌, length}
+use Rattle.std.specs.Prelude.{◌≡◌, ◌⊎◌, ℕ, ◌+◌, ◌%◌, ◌<◌, ◌≤◌, Bool, true, false, IsTrue, List, [], ◌∷◌, ◌++◌, length, replicate}
 use Rattle.cf_calls.specs.declared.acts.Act.{Act}
 use Rattle.cf_calls.specs.declared.entry.Entry.{Entry}
 use Rattle.cf_codec.specs.Entries.{IsOf}
@@ -25,12 +25,28 @@ version_of journal = journal.version
 abbrev pub has_act : Journal → Act → Bool
 has_act journal act = is_of (version_of journal) (kind_of act)
 
--- an entry is reserved: its record, a closed gate at the place where the next entry goes, and anything behind that
+-- what is written behind the gate ends at a multiple of 64 KiB of the file
+abbrev pub EndsAtStep : Journal → ℕ → Type 0
+EndsAtStep journal len = (journal.gate + (1 + len)) % 65536 ≡ 0
+
+-- An entry is reserved: its record, a closed gate at the place where the next entry goes, and room behind that, in zeros.
+-- Where all of it goes to bytes that were written before there is no room, and else it ends at the next multiple of 64 KiB.
 pub record Reserves (journal : Journal) (entry : Entry) : Type 0 where
   pub has : HasRecord entry
-  pub behind : List ℕ
-  pub bytes : journal.reserved.items ≡ record_of entry ++ 0 ∷ behind
+  pub room : ℕ
+  pub bytes : journal.reserved.items ≡ record_of entry ++ 0 ∷ replicate room 0
   pub size : journal.size ≡ record_len entry
+  pub small : room < 65536
+  pub ends : ((room ≡ 0) × (journal.size ≤ journal.ahead)) ⊎ EndsAtStep journal (journal.size + room)
+
+-- the file has what was written behind the gate
+abbrev pub HasAhead : Journal → List ℕ → Type 0
+HasAhead journal bytes = journal.gate + (1 + journal.ahead) ≤ length bytes
+
+-- a file keeps its length, or grows to a multiple of 64 KiB
+pub record GrowsByStep (old new : List ℕ) : Type 0 where
+  pub no_shorter : length old ≤ length new
+  pub grown : length old < length new → length new % 65536 ≡ 0
 
 -- the gate stands behind the chart and the entries
 pub record StandsBehind (journal : Journal) (chart : List ℕ) (history : List Entry) : Type 0 where

@@ -3,7 +3,7 @@
 //! A record is written behind a closed gate that is on the disk, and synced; then the gate is opened by a
 //! write of its own, and synced. So a crash leaves the record out or has it whole.
 
-ghost use Rattle.std.specs.Prelude.{◌≡◌, ◌+◌, ◌*◌, ◌<◌, ◌≤◌, ◌^◌, [], ◌∷◌, ◌++◌, true, false, List, ℕ, IsTrue, OnOk, OnErr, is_ok, if◌then◌else◌, vec_len};
+ghost use Rattle.std.specs.Prelude.{◌≡◌, ◌+◌, ◌*◌, ◌%◌, ◌<◌, ◌≤◌, ◌^◌, [], ◌∷◌, ◌++◌, true, false, List, ℕ, IsTrue, OnOk, OnErr, is_ok, if◌then◌else◌, replicate};
 ghost use Rattle.cf_base.specs.Causes.{HasCause};
 ghost use Rattle.cf_calls.specs.declared.acts.Act.{Act as ActOf};
 ghost use Rattle.cf_calls.specs.declared.entry.Entry.{Entry as EntryOf};
@@ -20,8 +20,8 @@ use cf_disk::Disk;
 use cf_fields::kind::is_of;
 use std::alloc::Global;
 
-/// The file grows to a multiple of so many bytes, by zeros behind a record: a sync of a file that keeps its length writes
-/// less, since the file system has nothing to note of it.
+/// A file that grows does so to a multiple of so many bytes, by zeros behind the record. A sync of a file that keeps its
+/// length writes less, since the file system has nothing to note of it.
 const STEP: u64 = 65_536;
 
 /// The end of a journal, where the next entry is written.
@@ -31,8 +31,8 @@ pub struct Journal {
     gate: u64,
     // How far behind its gate the next one stands, by the record that is reserved.
     size: u64,
-    // The file has bytes up to here, at least.
-    filled: u64,
+    // So many bytes behind the gate were written before, at least.
+    ahead: u64,
     // How many entries stand before it.
     count: u64,
     // The version of the grammar of its entries.
@@ -57,7 +57,7 @@ pub fn record_len(entry: &Entry) -> u64
 }
 
 impl Journal {
-    ghost use Rattle.cf_journal.specs.Journal.{in_doubt, count_of, version_of, has_act, Reserves, IsSettled, IsInDoubt, AfterFailure, SamePlace};
+    ghost use Rattle.cf_journal.specs.Journal.{in_doubt, count_of, version_of, has_act, Reserves, HasAhead, GrowsByStep, IsSettled, IsInDoubt, AfterFailure, SamePlace};
 
     /// The journal of a version whose next gate stands at this place, behind so many entries.
     pub(crate) fn at(alloc: Global, version: u8, gate: u64, count: u64) -> Self
@@ -71,7 +71,7 @@ impl Journal {
         Journal {
             gate,
             size: 0,
-            filled: 0,
+            ahead: 0,
             count,
             version,
             reserved: Vec::new(alloc),
@@ -91,9 +91,8 @@ impl Journal {
         write_entry(entry, &mut self.reserved)?;
         extend(&mut self.reserved, &[0])?;
         self.size = self.reserved.len() as u64;
-        let end = self.gate.saturating_add(self.size + 1);
-        if end > self.filled {
-            fill(&mut self.reserved, STEP - end % STEP)?;
+        if self.size > self.ahead {
+            fill(&mut self.reserved, room_behind(self.gate, self.size))?;
         }
         Ok(())
     }
@@ -120,6 +119,10 @@ impl Journal {
             → IsSettled D.tells D.is_image self.old disk.old chart history → Reserves self.old entry
             → AtEachMoment D.moment D.was_image disk.old disk.new (RecoversToEither chart history entry) }
 
+        // The file keeps its length, or grows to a multiple of 64 KiB.
+        ensures length { IsTrue D.tells → HasAhead self.old (D.content disk.old)
+            → OnOk result (HasAhead self.new (D.content disk.new) × GrowsByStep (D.content disk.old) (D.content disk.new)) }
+
         ensures reserved { OnErr result ((e : EntryOf) → Reserves self.old e → Reserves self.new e) }
         ensures none { OnOk result ((e : EntryOf) → Reserves self.new e → ⊥) }
         ensures count { count_of self.new ≡ (if is_ok result then count_of self.old + 1 else count_of self.old) }
@@ -132,8 +135,8 @@ impl Journal {
         self.doubt = true;
         write_synced(disk, self.gate, &[1])?;
         self.doubt = false;
-        let end = self.gate.saturating_add(self.reserved.len() as u64 + 1);
-        self.filled = self.filled.max(end);
+        let ahead = self.ahead.max(self.reserved.len() as u64);
+        self.ahead = ahead.saturating_sub(self.size);
         self.gate += self.size;
         self.count += 1;
         self.reserved.clear();
@@ -243,10 +246,20 @@ fn extend(out: &mut Vec<u8>, bytes: &[u8]) -> Result<(), NoMemory>
     }
 }
 
+/// How many bytes it is from the end of what stands behind a gate, so many bytes of it, to the next multiple of the step.
+fn room_behind(gate: u64, size: u64) -> u64
+    requires { size ≤ 2 ^ 26 }
+    ensures ends { (gate + (1 + (size + result))) % 65536 ≡ 0 }
+    ensures small { result < 65536 }
+{
+    let end = gate % STEP + size + 1;
+    (STEP - end % STEP) % STEP
+}
+
 /// Adds so many zeros at the end.
 fn fill(out: &mut Vec<u8>, more: u64) -> Result<(), NoMemory>
-    requires { more ≤ 65536 }
-    ensures ok { OnOk result ((behind : List ℕ) × out.new.items ≡ out.old.items ++ behind) }
+    requires { more < 65536 }
+    ensures ok { OnOk result (out.new.items ≡ out.old.items ++ replicate more 0) }
     ensures err { OnErr result (out.new.items ≡ out.old.items) }
 {
     match out.resize(out.len() + more as usize, 0) {

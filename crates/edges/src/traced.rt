@@ -7,6 +7,7 @@ use std::fmt;
 use std::fmt::{Display, Formatter};
 use std::fs::{Files, Metadata, OpenFile, OpenOptions};
 use std::io::{self, Read, Seek, SeekFrom, Write};
+use std::os::unix::fs::FileExt;
 
 /// A call on files, or on an open file.
 #[derive(Drop)]
@@ -19,7 +20,9 @@ enum FileCall<'a> {
     Length,
     Seek(SeekFrom),
     Read(usize),
+    ReadAt(u64, usize),
     Write(usize),
+    WriteAt(u64, usize),
     Cut(u64),
     SyncData,
     SyncAll,
@@ -36,7 +39,9 @@ impl Display for FileCall<'_> {
             FileCall::Seek(SeekFrom::Start(at)) => write!(f, "seek {at}"),
             FileCall::Seek(_) => write!(f, "seek elsewhere"),
             FileCall::Read(count) => write!(f, "read {count}"),
+            FileCall::ReadAt(at, count) => write!(f, "read {count} at {at}"),
             FileCall::Write(count) => write!(f, "write {count}"),
+            FileCall::WriteAt(at, count) => write!(f, "write {count} at {at}"),
             FileCall::Cut(len) => write!(f, "set the length to {len}"),
             FileCall::SyncData => write!(f, "sync the data"),
             FileCall::SyncAll => write!(f, "sync all"),
@@ -185,6 +190,21 @@ impl<R: Files + Print> Seek for TracedFile<'_, R> {
     fn seek(&mut self, to: SeekFrom) -> io::Result<u64> {
         self.log.begin(FileCall::Seek(to))?;
         self.file.seek(to)
+    }
+}
+
+impl<R: Files + Print> FileExt for TracedFile<'_, R>
+where
+    R::File: FileExt,
+{
+    fn read_at(&self, buf: &mut [u8], offset: u64) -> io::Result<usize> {
+        self.log.begin(FileCall::ReadAt(offset, buf.len()))?;
+        self.file.read_at(buf, offset)
+    }
+
+    fn write_at(&self, buf: &[u8], offset: u64) -> io::Result<usize> {
+        self.log.begin(FileCall::WriteAt(offset, buf.len()))?;
+        self.file.write_at(buf, offset)
     }
 }
 

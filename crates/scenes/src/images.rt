@@ -36,14 +36,28 @@ fn put(bytes: &mut Vec<u8>, at: u64, piece: &[u8]) -> Result<(), AllocError> {
 
 /// Puts a byte 1 in the place of each byte of a piece.
 fn put_ones(bytes: &mut Vec<u8>, at: u64, piece: &[u8]) -> Result<(), AllocError> {
-    for place in 0..piece.len() {
-        put(bytes, at.saturating_add(place as u64), &[1])?;
+    put(bytes, at, piece)?;
+    for (slot, _) in bytes.iter_mut().skip(at as usize).zip(piece) {
+        *slot = 1;
     }
     Ok(())
 }
 
+/// The middle of a piece, without the zeros at its end.
+fn middle(piece: &[u8]) -> usize {
+    let mut at: usize = 0;
+    let mut end: usize = 0;
+    for byte in piece {
+        at = at.saturating_add(1);
+        if *byte != 0 {
+            end = at;
+        }
+    }
+    end / 2
+}
+
 fn put_torn(bytes: &mut Vec<u8>, at: u64, piece: &[u8], tear: Tear) -> Result<(), AllocError> {
-    let (front, back) = piece.split_at(piece.len() / 2);
+    let (front, back) = piece.split_at(middle(piece).min(piece.len()));
     match tear {
         Tear::All => put(bytes, at, piece),
         Tear::Nothing => Ok(()),

@@ -1,4 +1,4 @@
-use Rattle.std.proofs.Common.{◌≡◌, ◌+◌, [], ◌∷◌, ℕ, length, refl, ◌∙◌, ap, arith, inl, length-append}
+use Rattle.std.proofs.Common.{◌≡◌, ◌+◌, [], ◌∷◌, ℕ, length, replicate, refl, ◌∙◌, ap, arith, inl, length-append}
 use Rattle.cf_journal.specs.Records.{record_of, record_len}
 use Rattle.cf_journal.specs.Layout.{RecoversToEither}
 use Rattle.cf_journal.proofs.Moments.{weaken, both}
@@ -50,7 +50,7 @@ returns-in_err-write_synced-2-clause-err g c =
             let before = d.content c.args.disk.now in
             let rest = settled.images told before (g.met.D.Disk.reads_an_image c.args.disk.now told) in
             let only = c.in_ok-write_synced.ensures.durable told torn.0 torn.1 in
-            let is_staged = written_at_rest c.args.self.now.version chart history settled.valid entry reserves.has of_version _ _ reserves.behind before torn.0 at_is (c.deref.ensures.value ∙ reserves.bytes) rest (only ∙ c.in_ok-write_synced.ensures.content told) in
+            let is_staged = written_at_rest c.args.self.now.version chart history settled.valid entry reserves.has of_version _ _ (replicate reserves.room 0) before torn.0 at_is (c.deref.ensures.value ∙ reserves.bytes) rest (only ∙ c.in_ok-write_synced.ensures.content told) in
             torn_staged c.args.self.now.version chart history settled.valid entry reserves.has of_version _ settled.stands.gate torn.0 image is_staged torn.2;
       };
     })
@@ -70,7 +70,7 @@ returns-in_err-write_synced-2-clause-any_moment g c =
     (weaken d.moment d.was_image c.write_synced.new.disk c.write_synced-2.new.disk _ P c.write_synced-2.ensures.any_moment
     (λ image torn.
     let only = c.in_ok-write_synced.ensures.durable told torn.0 torn.1 in
-    let is_staged = written_at_rest c.args.self.now.version chart history settled.valid entry reserves.has of_version _ _ reserves.behind before torn.0 at_is (c.deref.ensures.value ∙ reserves.bytes) rest (only ∙ c.in_ok-write_synced.ensures.content told) in
+    let is_staged = written_at_rest c.args.self.now.version chart history settled.valid entry reserves.has of_version _ _ (replicate reserves.room 0) before torn.0 at_is (c.deref.ensures.value ∙ reserves.bytes) rest (only ∙ c.in_ok-write_synced.ensures.content told) in
     (torn_staged c.args.self.now.version chart history settled.valid entry reserves.has of_version _ settled.stands.gate torn.0 image is_staged torn.2).recovers))
 
 pub returns-clause-any_moment : goal.returns-clause-any_moment
@@ -88,7 +88,7 @@ returns-clause-any_moment g c =
     (weaken d.moment d.was_image c.write_synced.new.disk c.write_synced-2.new.disk _ P c.write_synced-2.ensures.any_moment
     (λ image torn.
     let only = c.in_ok-write_synced.ensures.durable told torn.0 torn.1 in
-    let is_staged = written_at_rest c.args.self.now.version chart history settled.valid entry reserves.has of_version _ _ reserves.behind before torn.0 at_is (c.deref.ensures.value ∙ reserves.bytes) rest (only ∙ c.in_ok-write_synced.ensures.content told) in
+    let is_staged = written_at_rest c.args.self.now.version chart history settled.valid entry reserves.has of_version _ _ (replicate reserves.room 0) before torn.0 at_is (c.deref.ensures.value ∙ reserves.bytes) rest (only ∙ c.in_ok-write_synced.ensures.content told) in
     (torn_staged c.args.self.now.version chart history settled.valid entry reserves.has of_version _ settled.stands.gate torn.0 image is_staged torn.2).recovers))
 
 -- behind the open gate the entry counts
@@ -109,7 +109,7 @@ returns-clause-ok g c =
       valid = valid_push c.args.self.now.version chart history entry settled.valid reserves.has of_version;
       images = λ told image is.
           let rest = settled.images told before (g.met.D.Disk.reads_an_image c.args.disk.now told) in
-          let is_staged = written_at_rest c.args.self.now.version chart history settled.valid entry reserves.has of_version _ _ reserves.behind before middle at_is (c.deref.ensures.value ∙ reserves.bytes) rest (c.in_ok-write_synced.ensures.content told) in
+          let is_staged = written_at_rest c.args.self.now.version chart history settled.valid entry reserves.has of_version _ _ (replicate reserves.room 0) before middle at_is (c.deref.ensures.value ∙ reserves.bytes) rest (c.in_ok-write_synced.ensures.content told) in
           let only = c.in_ok-write_synced-2.ensures.durable told image is in
           opened c.args.self.now.version chart history settled.valid entry reserves.has of_version _ middle image settled.stands.gate is_staged (only ∙ c.in_ok-write_synced-2.ensures.content told);
     }
