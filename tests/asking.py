@@ -1,0 +1,29 @@
+"""Asks a proxy for more looks than a user may have at an address, and then for one by another user:
+asking.py URL FOLDER, with the folder's certificate. Run by tests/operate.sh."""
+import base64
+import concurrent.futures
+import http.client
+import ssl
+import sys
+import time
+
+
+def codes(user, count):
+    """The codes of so many looks over one link."""
+    trusted = ssl.create_default_context(cafile=f"{sys.argv[2]}/tls/certificate.pem")
+    link = http.client.HTTPSConnection(sys.argv[1].removeprefix("https://"), context=trusted)
+    word = base64.b64encode(f"{user}:{user}'s word".encode()).decode()
+    got = []
+    for _ in range(count):
+        link.request("GET", "/lines/3/2026", headers={"Authorization": f"Basic {word}"})
+        answer = link.getresponse()
+        answer.read()
+        got.append(answer.status)
+    return got
+
+
+with concurrent.futures.ThreadPoolExecutor(8) as pool:
+    got = [code for each in pool.map(lambda _: codes("treasury", 60), range(8)) for code in each]
+time.sleep(3)
+bounded = got.count(429) >= 20 and got.count(200) >= 200
+print("bounded" if bounded else f"{got.count(200)} {got.count(429)}", *codes("auditor", 1))
