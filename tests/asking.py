@@ -1,5 +1,6 @@
-"""Asks a proxy for more looks than a user may have at an address, and then for one by another user:
-asking.py URL FOLDER, with the folder's certificate. Run by tests/operate.sh."""
+"""Asks a proxy for more than a user may have at an address, at a path that takes it no work, and then
+for a look by another user: asking.py URL FOLDER, with the folder's certificate. Run by
+tests/operate.sh."""
 import base64
 import concurrent.futures
 import http.client
@@ -8,14 +9,14 @@ import sys
 import time
 
 
-def codes(user, count):
-    """The codes of so many looks over one link."""
+def codes(user, path, count):
+    """The codes of so many requests over one link."""
     trusted = ssl.create_default_context(cafile=f"{sys.argv[2]}/tls/certificate.pem")
     link = http.client.HTTPSConnection(sys.argv[1].removeprefix("https://"), context=trusted)
     word = base64.b64encode(f"{user}:{user}'s word".encode()).decode()
     got = []
     for _ in range(count):
-        link.request("GET", "/lines/3/2026", headers={"Authorization": f"Basic {word}"})
+        link.request("GET", path, headers={"Authorization": f"Basic {word}"})
         answer = link.getresponse()
         answer.read()
         got.append(answer.status)
@@ -23,7 +24,7 @@ def codes(user, count):
 
 
 with concurrent.futures.ThreadPoolExecutor(8) as pool:
-    got = [code for each in pool.map(lambda _: codes("treasury", 60), range(8)) for code in each]
+    got = [code for each in pool.map(lambda _: codes("treasury", "/signout", 60), range(8)) for code in each]
 time.sleep(3)
-bounded = got.count(429) >= 20 and got.count(200) >= 200
-print("bounded" if bounded else f"{got.count(200)} {got.count(429)}", *codes("auditor", 1))
+bounded = got.count(429) >= 20 and got.count(401) >= 200
+print("bounded" if bounded else f"{got.count(401)} {got.count(429)}", *codes("auditor", "/lines/3/2026", 1))

@@ -306,7 +306,7 @@ for client in examples/clients/desk.sh examples/clients/desk.py; do
     verdict "another desk's day by $client: status $status: $(cat "$scratch/said")" $?
 done
 
-# One user asks more than its rate. Another one at the same address goes on.
+# One user asks for more than its rate. Another one at the same address goes on.
 said=$(python3 tests/asking.py "$url" "$etc")
 [ "$said" = "bounded 200" ]
 verdict "a user's rate: $said" $?
