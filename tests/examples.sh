@@ -3,7 +3,7 @@
 # examples/ over a journal of its own, founded with the chart of Rivertown, or with the chart that stands beside it,
 # with the statements that stand beside a talk, a journal that an earlier program wrote (examples/older/), a month's interest that
 # is shared among the funds (examples/pooled/), and the day of examples/two-runs/ by two desks, one after the other, over one journal. The journal of each talk is read by its format alone
-# (journal.py). Then what founding and opening refuse, the launcher with stubs (launcher.sh), the program books (books.sh) and its lists (lists.sh), calls of
+# (journal.py). Then what founding and opening refuse, the launcher and ./try with stubs (launcher.sh, try.sh), the program books (books.sh) and its lists (lists.sh), calls of
 # sheets (sheets.sh), the package (package.sh), the stored commands (commands), and a short run of the independent office (agree.sh).
 cd "$(dirname "$0")/.." || exit 1
 top=$(pwd)
@@ -248,6 +248,8 @@ expect "a desk after a refused chart" 7 "cityfund: not founded" desk
 
 sh tests/launcher.sh
 verdict "the launcher" $?
+sh tests/try.sh
+verdict "./try" $?
 sh tests/books.sh
 verdict "the program books" $?
 sh tests/lists.sh
