@@ -1,6 +1,7 @@
 #!/bin/sh
-# Tries ./try with an rt that is a stub: what it shows of a talk, which journal it hands over, that nothing is left behind, also where it
-# is stopped, and what it says of each fault. Where rt built the program, the journal is compared with the one that `found` makes.
+# Tries ./try with an rt that is a stub: what it shows of a talk, which journal it hands over, what it
+# says of each fault, and that nothing is left behind, also where it is stopped. Where rt built the
+# program, the journal is compared with the one that `found` makes.
 cd "$(dirname "$0")/.." || exit 1
 top=$(pwd)
 scratch=$(mktemp -d) || exit 1
@@ -13,8 +14,8 @@ export KEPT
 mkdir -p "$scratch/kit" "$scratch/bare" "$scratch/tmp" "$KEPT" "$city/crates/cityfund"
 cp try "$city/try"
 ln -s "$top/examples" "$city/examples"
-# The stub keeps what it is handed, answers by the file `replies`, and ends with the status of the file `status`. Where there is none it
-# works until it is told to stop.
+# The stub keeps what it is handed, answers by the file `replies`, and ends with the status of the file
+# `status`. Where there is no such file it works until it is told to stop.
 cat > "$scratch/kit/rt" << 'STUB'
 #!/bin/sh
 [ "$(basename "$PWD"): $1 $2 $4 $5" = "cityfund: try --data -- desk" ] || exit 64
@@ -39,12 +40,17 @@ answers() {
     echo "$1" > "$KEPT/status"
 }
 
-# tried NAME STATUS LAST-NOTE WORDS..: runs ./try in the folder of the city with the stub on the path. What it shows stands in `shown`,
-# what it says in `said`; nothing is left of it.
+# run WORDS..: ./try in the folder of the city, with the stub on the path, in place of this shell. The
+# files `shown` and `said` get what it shows and what it says.
+run() {
+    cd "$city" && PATH=$scratch/kit:$scratch/bare TMPDIR=$scratch/tmp exec ./try "$@" > "$scratch/shown" 2> "$scratch/said"
+}
+
+# tried NAME STATUS LAST-NOTE WORDS..: runs ./try with these words. It leaves nothing behind.
 tried() {
     name=$1 wanted=$2 note=$3
     shift 3
-    (cd "$city" && PATH=$scratch/kit:$scratch/bare TMPDIR=$scratch/tmp ./try "$@" > "$scratch/shown" 2> "$scratch/said")
+    (run "$@")
     status=$?
     [ "$status" -eq "$wanted" ] && [ "$(tail -n 1 "$scratch/said")" = "try: $note" ]
     verdict "$name: status $status: $(cat "$scratch/said")" $?
@@ -58,9 +64,10 @@ said() {
     verdict "$1: $(cat "$scratch/said")" $?
 }
 
-# shows NAME TALK REPLIES: each call with its reply stands in what is shown, and the stub got the calls.
+# shows NAME TALK: each call with its reply is shown, and the stub got the calls.
 shows() {
-    sed 's/^/> /' "$2" > "$scratch/asked" && sed 's/^/< /' "$3" | paste -d '\n' "$scratch/asked" - | cmp - "$scratch/shown" && cmp "$2" "$KEPT/calls"
+    sed 's/^/> /' "$2.jsonl" > "$scratch/asked" &&
+        sed 's/^/< /' "$2.replies" | paste -d '\n' "$scratch/asked" - | cmp - "$scratch/shown" && cmp "$2.jsonl" "$KEPT/calls"
     verdict "$1: each call with its reply" $?
 }
 
@@ -77,20 +84,20 @@ last="an hour on four processors, about 100 minutes on two."
 first=examples/first-day
 answers 0 $first.replies "run=ended status=0"
 tried "a first day" 0 "$last"
-shows "a first day" $first.jsonl $first.replies
+shows "a first day" $first
 said "a first day is the stored one" "these are the replies that stand in $first.replies."
 said "what isn't claimed" "nothing was proved. ./build proves every crate and then builds the programs: it takes about"
 journal rivertown
 answers 0 examples/fairview/lease.replies "run=ended status=0"
 tried "a talk with a chart beside it" 0 "$last" examples/fairview/lease.jsonl
-shows "a talk with a chart beside it" examples/fairview/lease.jsonl examples/fairview/lease.replies
+shows "a talk with a chart beside it" examples/fairview/lease
 journal fairview
 answers 0 $first.replies "run=ended status=0"
 tried "a talk that goes on" 0 "$last" examples/two-runs/afternoon.jsonl
 said "a talk that goes on can't be tried" "ended can't be tried alone: here each talk begins with an empty journal."
-(cd "$city" && PATH=$scratch/kit:$scratch/bare TMPDIR=$scratch/tmp ./try - < "$top/$first.jsonl" > "$scratch/shown" 2> "$scratch/said")
+(run - < $first.jsonl)
 verdict "the calls of the input" $?
-shows "the calls of the input" $first.jsonl $first.replies
+shows "the calls of the input" $first
 
 tried "two words" 1 "failed: the words are ./try [FILE], where FILE may be - for the calls of the input" one two
 tried "no such file" 1 "failed: there is no file examples/none.jsonl" examples/none.jsonl
@@ -103,14 +110,14 @@ verdict "what it said before, and the replies that came" $?
 : > "$scratch/part"
 answers 9 "$scratch/part" "cityfund: damaged at 6"
 tried "a chart with a fault" 1 "failed: rt try ended with status 9"
-said "a chart with a fault is named" "the chart examples/rivertown/chart.toml has a fault: docs/CHART.md lists what a chart is refused for."
+said "a chart with a fault is named" "the chart examples/rivertown/chart.toml has a fault: docs/CHART.md lists them."
 mv "$scratch/kit/rt" "$scratch/stub"
 tried "no rt" 1 "failed: there is no rt on the path: it comes with the Rattle kit"
 mv "$scratch/stub" "$scratch/kit/rt"
 
 # Stopped while rt works: rt is ended, and its end waited for.
 rm "$KEPT/status"
-(cd "$city" && PATH=$scratch/kit:$scratch/bare TMPDIR=$scratch/tmp exec ./try > "$scratch/shown" 2> "$scratch/said") &
+run &
 until [ -e "$KEPT/working" ] || ! kill -0 $! 2> /dev/null; do sleep 0.1; done
 kill -TERM $!
 wait $!
