@@ -4,9 +4,10 @@
 # with the statements that stand beside a talk, a journal that an earlier program wrote (examples/older/), a month's interest that
 # is shared among the funds (examples/pooled/), and the day of examples/two-runs/ by two desks, one after the other, over one journal. The journal of each talk is read by its format alone
 # (journal.py). Then what founding and opening refuse, where the doors of `serve` listen (listens.py), whether the edits
-# that the gate doesn't try still fit their files (edits.sh), the launcher and the build with stubs (launcher.sh), the
-# program books (books.sh) and its lists (lists.sh), calls of sheets (sheets.sh), the pages beside the sources (proved.py,
-# pages.py), the package (package.sh), the stored commands (commands), and a short run of the independent office (agree.sh).
+# that the gate doesn't try still fit their files (edits.sh), the launcher and the build with stubs (launcher.sh), ./try
+# with stubs (try.sh), the program books (books.sh) and its lists (lists.sh), calls of sheets (sheets.sh), the pages
+# beside the sources (proved.py, pages.py), the package (package.sh), the stored commands (commands), and a short run of
+# the independent office (agree.sh).
 cd "$(dirname "$0")/.." || exit 1
 top=$(pwd)
 . tests/program.sh
@@ -260,6 +261,8 @@ sh tests/edits.sh --apply
 verdict "the edits that the gate doesn't try" $?
 sh tests/launcher.sh
 verdict "the launcher and the build" $?
+sh tests/try.sh
+verdict "./try" $?
 sh tests/books.sh
 verdict "the program books" $?
 sh tests/lists.sh
