@@ -33,6 +33,7 @@ use Rattle.cf_model.specs.Receivables.{bill_at}
 use Rattle.cf_model.specs.RegisterRules.{due_year, payment_year, register_name_refusal, unknown_bond, unknown_payment}
 use Rattle.cf_model.specs.Registers.{Registers, no_registers, registers_of, registers_step}
 use Rattle.cf_model.specs.Results.{bond_at, draws}
+use Rattle.cf_model.specs.Report.{sums_of}
 use Rattle.cf_model.specs.Rules.{account_name, charge_names, first_refusal, is_spending, name_refusal, unknown, unknown_account, unknown_if, voucher_names}
 use Rattle.cf_model.specs.Spendings.{Spending, bonds_spendings, due_spendings, spendings_by, spendings_in}
 use Rattle.cf_model.specs.Step.{Adds, IsLegal}
@@ -240,7 +241,7 @@ record AreSpent (plan : Plan) (h : List Entry) : Type 0 where
       int_sum (to_spent year fund) (deeds_in plan h)
       ≡ int_sum (spent_part year fund) (registers_of plan h).documents.expenditures +ℤ int_sum (other_part year fund) (spendings_in plan h)
 
-draws_voucher_next : (s : Registers) (a : Act) (number : ℕ) → number ≡ (draws s a).number → DrawsVoucher s.documents.vouchers number a
+pub draws_voucher_next : (s : Registers) (a : Act) (number : ℕ) → number ≡ (draws s a).number → DrawsVoucher s.documents.vouchers number a
 draws_voucher_next s (act.Voucher v) number e = e
 draws_voucher_next s _ number e = tt
 
@@ -291,7 +292,7 @@ pub compares : (plan : Plan) (h : List Entry) (year : ℕ) → HasOwnAccounts pl
 compares plan h year own legal =
     let is = are_spent plan h legal in
     record {
-      earned = λ fund. earned _ year fund.id plan.sources;
+      earned = λ fund. earned (sums_of plan h) year fund.id plan.sources;
       spent = λ first fund.
           spent_is plan h year fund.id (subst (λ (d : Documents). AllByRecursion (IsLined plan) d.expenditures) (documents_are plan h) is.vouchers) is.others
           ∙ ap (λ (d : Documents). int_sum (spent_part year fund.id) d.expenditures +ℤ int_sum (other_part year fund.id) (spendings_in plan h)) (sym (documents_are plan h))

@@ -76,7 +76,7 @@ low (Amortize a) = credit a.year 0 account.amortization a.amount ∷ []
 low d = gov_rows d
 
 -- a post on another account adds nothing
-skip : (a n : ℕ) (b : Bool) (x z : ℤ) → (a ≡ n → ⊥) → (if (a == n) && b then x else pos 0) +ℤ z ≡ z
+pub skip : (a n : ℕ) (b : Bool) (x z : ℤ) → (a ≡ n → ⊥) → (if (a == n) && b then x else pos 0) +ℤ z ≡ z
 skip a n b x z e = ap (λ t. (if t && b then x else pos 0) +ℤ z) (other_numbers a n e) ∙ none_first z
 
 no_amount : (t b : Bool) (z : ℤ) → (if t && b then pos 0 else pos 0) +ℤ z ≡ z
@@ -173,7 +173,7 @@ leased_low year (Amortize a) = second _
 leased_low year _ = refl
 
 -- a credit, and a debit, alone or behind others
-owes : (b : Bool) (m : ℕ) → part b (pos 0 -ℤ pos m) +ℤ pos 0 ≡ pos 0 -ℤ part b (pos m)
+pub owes : (b : Bool) (m : ℕ) → part b (pos 0 -ℤ pos m) +ℤ pos 0 ≡ pos 0 -ℤ part b (pos m)
 owes true m = omega (arith, ints)
 owes false m = refl
 
@@ -181,7 +181,7 @@ owes_second : (b : Bool) (m : ℕ) → pos 0 +ℤ (part b (pos 0 -ℤ pos m) +�
 owes_second true m = omega (arith, ints)
 owes_second false m = refl
 
-pays : (b : Bool) (m : ℕ) → part b (pos m) +ℤ pos 0 ≡ pos 0 -ℤ part b (pos 0 -ℤ pos m)
+pub pays : (b : Bool) (m : ℕ) → part b (pos m) +ℤ pos 0 ≡ pos 0 -ℤ part b (pos 0 -ℤ pos m)
 pays true m = omega (arith, ints)
 pays false m = refl
 

@@ -16,6 +16,7 @@ mod ComparisonLines
 mod ComparisonDeeds
 mod VoucherStates
 mod Comparison
+mod OpenVouchers
 pub mod ReadCharts
 pub mod Articulated
 pub mod TrialBalances

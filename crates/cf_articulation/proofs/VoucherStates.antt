@@ -84,11 +84,11 @@ states_step xs count number desk on year is _ drawn = record {
 
 none_found : (p : Expenditure → Bool) (xs : List Expenditure) → find p xs ≡ None → AllByRecursion (λ x. p x ≡ false) xs
 none_found p [] e = tt
-none_found p (x ∷ xs) e = by (p x) refl e
+none_found p (x ∷ xs) e = by (p x) refl e (none_found p xs)
   where
-    by : (b : Bool) → p x ≡ b → (if b then Some x else find p xs) ≡ None → AllByRecursion (λ x. p x ≡ false) (x ∷ xs)
-    by true is e = cc
-    by false is e = (is, none_found p xs e)
+    by : (b : Bool) → p x ≡ b → (if b then Some x else find p xs) ≡ None → (find p xs ≡ None → AllByRecursion (λ x. p x ≡ false) xs) → AllByRecursion (λ x. p x ≡ false) (x ∷ xs)
+    by true is e rest = cc
+    by false is e rest = (is, rest e)
 
 -- an item of the voucher is open
 abbrev pub IsOpenOf : ℕ → Expenditure → Type 0
