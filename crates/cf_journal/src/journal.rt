@@ -8,6 +8,7 @@ ghost use Rattle.cf_base.specs.Causes.{HasCause};
 ghost use Rattle.cf_calls.specs.declared.acts.Act.{Act as ActOf};
 ghost use Rattle.cf_calls.specs.declared.entry.Entry.{Entry as EntryOf};
 ghost use Rattle.cf_calls.specs.Form.{IsEntryInForm};
+ghost use Rattle.cf_disk.specs.Images.{written};
 ghost use Rattle.cf_disk.specs.Moments.{AtEachMoment};
 ghost use Rattle.cf_journal.specs.Layout.{RecoversTo, RecoversToEither};
 ghost use Rattle.cf_journal.specs.Records as records;
@@ -185,6 +186,7 @@ impl Journal {
         ensures version { version_of self.new ≡ (if is_ok result then 2 else 1) }
         ensures has { OnOk result ((act : ActOf) → has_act self.new act ≡ true) }
         ensures already { version_of self.old ≡ 2 → (is_ok result ≡ true) × (disk.new ≡ disk.old) }
+        ensures byte { IsTrue D.tells → version_of self.old ≡ 1 → OnOk result (D.content disk.new ≡ written 1 (2 ∷ []) (D.content disk.old)) }
 
         // What a crash leaves at any moment of the call.
         ensures any_moment { IsTrue D.tells → (chart : List ℕ) (history : List EntryOf)
