@@ -1,8 +1,7 @@
-use Rattle.std.proofs.Common.{◌≡◌, ◌+◌, [], ◌∷◌, ℕ, length, replicate, refl, ◌∙◌, ap, arith, inl, length-append}
-use Rattle.cf_journal.specs.Records.{record_of, record_len}
+use Rattle.std.proofs.Common.{◌+◌, [], ◌∷◌, ℕ, length, replicate, refl, ◌∙◌, ap, arith, inl, length-append}
 use Rattle.cf_journal.specs.Layout.{RecoversToEither}
 use Rattle.cf_journal.proofs.Moments.{weaken, both}
-use Rattle.cf_journal.proofs.RecordLaws.{length-record_of, gate_after-push}
+use Rattle.cf_journal.proofs.RecordLaws.{gate_after-push}
 use Rattle.cf_journal.proofs.Layouts.{valid_push}
 use Rattle.cf_journal.proofs.Appending.{on_err, at_end, torn_at_rest, written_at_rest, torn_staged, opened, reserved_of}
 use Rattle.cf_journal.proofs.journal.Journal.append.Goals as goal
