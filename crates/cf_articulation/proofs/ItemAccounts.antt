@@ -103,7 +103,7 @@ collected_from plan on b l = by ((year_in plan.first_month on == b.levy_year) ||
     by true = omega arith
     by false = l
 
-allows_deferred : (plan : Plan) (s : Registers) (on : Day) (drawn : Drawn) → (a : Act) → drawn ≡ draws s a → register_name_refusal plan s on a ≡ None → levy_refusal plan s on a ≡ None →
+pub allows_deferred : (plan : Plan) (s : Registers) (on : Day) (drawn : Drawn) → (a : Act) → drawn ≡ draws s a → register_name_refusal plan s on a ≡ None → levy_refusal plan s on a ≡ None →
     AllowsDeferred plan s on drawn a
 allows_deferred plan s on drawn (act.Bill l) next names levy = ap (λ (d : Drawn). d.number) next
 allows_deferred plan s on drawn (act.Collect c) next names levy =
