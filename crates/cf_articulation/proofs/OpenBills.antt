@@ -1,5 +1,5 @@
 -- What is left of bills is what their funds' receivables have.
-use Rattle.std.proofs.Common.{◌≡◌, ◌⊎◌, inl, inr, ℕ, suc, ◌+◌, ◌-◌, ◌<◌, ◌≤◌, Bool, true, false, if◌then◌else◌, ◌==◌, ◌&&◌, nat_lt, List, [], ◌∷◌, ◌++◌, find, length, sum_by, Option, Some, None, option_map, ℤ, pos, ◌+ℤ◌, ◌-ℤ◌, refl, sym, ap, subst, ◌∙◌, arith, append-nil}
+use Rattle.std.proofs.Common.{◌≡◌, ◌⊎◌, inl, inr, ℕ, suc, ◌+◌, ◌-◌, ◌<◌, ◌≤◌, Bool, true, false, if◌then◌else◌, ◌==◌, ◌&&◌, nat_lt, List, [], ◌∷◌, ◌++◌, length, sum_by, Option, Some, None, option_map, ℤ, pos, ◌+ℤ◌, ◌-ℤ◌, refl, sym, ap, subst, ◌∙◌, arith, append-nil}
 use Rattle.std.specs.List.{filter, AllByRecursion}
 use Rattle.std.proofs.lemmas.Bool.Decides.{leb_tells}
 use Rattle.std.proofs.lemmas.Int.{ints}
@@ -22,7 +22,7 @@ use Rattle.cf_model.specs.Charted.{fund_of}
 use Rattle.cf_model.specs.Deeds.{collect_deeds, deeds_of, write_off_deeds}
 use Rattle.cf_model.specs.Moves.{spent_by}
 use Rattle.cf_model.specs.Postings.{posts_in}
-use Rattle.cf_model.specs.ReceivableRules.{bill_refusal, over_bill, over_refusal, receivable_refusal}
+use Rattle.cf_model.specs.ReceivableRules.{bill_refusal, over_bill, over_refusal}
 use Rattle.cf_model.specs.Receivables.{Bill, Receivables, Settlement, bill_at, bills_by, collected_of, collected_year, left_of, settled_of, settlements_by}
 use Rattle.cf_model.specs.Registers.{Registers, no_registers, registers_of}
 use Rattle.cf_model.specs.Step.{Adds, IsLegal}
@@ -35,7 +35,7 @@ use Rattle.cf_model.proofs.Lawful.{IsWhole}
 use Rattle.cf_model.proofs.Legal.{legal_induction, legal_push}
 use Rattle.cf_model.proofs.LegalReconciled.{is_lawful}
 use Rattle.cf_model.proofs.Pushes.{registers_push}
-use Rattle.cf_model.proofs.Totals.{all_so, find_sum, none_first, none_last, passing, same_all, sum_append, sum_plus, sum_same}
+use Rattle.cf_model.proofs.Totals.{all_so, find_sum, none_last, passing, same_all, sum_append, sum_plus, sum_same}
 use Rattle.cf_post.specs.declared.deed.Deed.{Deed}
 use Rattle.cf_post.specs.declared.deed.Deed.TheVariants as deed
 use Rattle.cf_post.specs.declared.deed.Spent.{Spent}
