@@ -4,7 +4,7 @@
 # the least of three runs, with entries a second and how many times that is of what `cityfund report` takes over the same journal.
 top=$(cd "$(dirname "$0")/.." && pwd)
 . "$top/tests/program.sh"
-books=${BOOKS:-$top/crates/books/out/books}
+books=${BOOKS:-$(built books)}
 scratch=$(mktemp -d) || exit 1
 trap 'rm -rf "$scratch"' EXIT
 cp "$top/examples/rivertown/chart.toml" "$scratch/chart.toml"

@@ -2,7 +2,7 @@
 # What the end of a fiscal year and its statements cost, on the built program: milliseconds the close of a year's last month,
 # which rolls it, beside that of the month before it. First over orders that are open and carried; then with 10 open orders
 # beside 100,000 orders of later years, of an earlier year, and of the same year but finished: the roll goes once over all
-# rows of documents (docs/DECISIONS.md). Then microseconds a look at each statement after 1,000 and after 100,000 vouchers.
+# rows of documents (crates/cf_orders). Then microseconds a look at each statement after 1,000 and after 100,000 vouchers.
 # The journal lies in memory (/dev/shm), where a sync costs nothing, so this is the work of the program and of the system's
 # calls.
 top=$(cd "$(dirname "$0")/.." && pwd)

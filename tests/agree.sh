@@ -6,13 +6,14 @@
 # Generated runs of some sizes, a talk through the last fifty fiscal years, and 100 talks of 1,500 calls where nothing else is said,
 # from the seed FIRST (1) on. It prints the calls that were compared, and the first lines of each talk that differs, with its seed.
 # Before all that the office answers the stored talks of examples/, prints their statements, and answers the stored commands, which needs
-# no program, and the quotes of docs/ are looked up in the talks: `tests/agree.sh 0` does this alone. The largest generated run comes with
-# 100 talks or more.
+# no program, the laws that tie statements and registers to the ledger are tried over these talks (ties.py), and the quotes of docs/ are
+# looked up in the talks: `tests/agree.sh 0` does this alone. The largest generated run comes with 100 talks or more.
 cd "$(dirname "$0")/.." || exit 1
 top=$(pwd)
 stored=0
 python3 tests/office/stored.py || stored=1
 python3 tests/office/commands.py tests/commands || stored=1
+python3 tests/office/ties.py || stored=1
 python3 tests/quotes.py || stored=1
 [ "$stored" -eq 0 ] && echo "the stored talks and statements agree"
 [ "${1:-100}" -gt 0 ] || exit "$stored"

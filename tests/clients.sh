@@ -8,7 +8,7 @@ for tool in curl python3; do
     command -v $tool > /dev/null || { echo "clients: skipped: there is no $tool"; exit 0; }
 done
 . tests/program.sh
-books=${BOOKS:-$top/crates/books/out/books}
+books=${BOOKS:-$(built books)}
 scratch=$(mktemp -d) || exit 1
 trap 'kill $serving $losing 2> /dev/null; rm -rf "$scratch"' EXIT
 . tests/expect.sh

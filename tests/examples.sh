@@ -3,8 +3,11 @@
 # examples/ over a journal of its own, founded with the chart of Rivertown, or with the chart that stands beside it,
 # with the statements that stand beside a talk, a journal that an earlier program wrote (examples/older/), a month's interest that
 # is shared among the funds (examples/pooled/), and the day of examples/two-runs/ by two desks, one after the other, over one journal. The journal of each talk is read by its format alone
-# (journal.py). Then what founding and opening refuse, the launcher with stubs (launcher.sh), the program books (books.sh) and its lists (lists.sh), calls of
-# sheets (sheets.sh), the package (package.sh), the stored commands (commands), and a short run of the independent office (agree.sh).
+# (journal.py). Then what founding and opening refuse, where the doors of `serve` listen (listens.py), whether the edits
+# that the gate doesn't try still fit their files (edits.sh), the launcher and the build with stubs (launcher.sh), ./try
+# with stubs (try.sh), the program books (books.sh) and its lists (lists.sh), calls of sheets (sheets.sh), the pages
+# beside the sources (proved.py, pages.py), the package (package.sh), the stored commands (commands), and a short run of
+# the independent office (agree.sh).
 cd "$(dirname "$0")/.." || exit 1
 top=$(pwd)
 . tests/program.sh
@@ -248,14 +251,28 @@ sed 's/^window = 60$/window = 61/' examples/rivertown/chart.toml > "$scratch/cha
 expect "a window of 61" 3 "cityfund: chart refused" found
 expect "a desk after a refused chart" 7 "cityfund: not founded" desk
 
+# The doors of `serve` listen at their ports of 127.0.0.1 and nowhere else.
+fresh rivertown
+expect "found for doors" 0 founded found
+(cd "$scratch" && python3 "$top/tests/listens.py" "$city/out/cityfund")
+verdict "where doors listen" $?
+
+sh tests/edits.sh --apply
+verdict "the edits that the gate doesn't try" $?
 sh tests/launcher.sh
-verdict "the launcher" $?
+verdict "the launcher and the build" $?
+sh tests/try.sh
+verdict "./try" $?
 sh tests/books.sh
 verdict "the program books" $?
 sh tests/lists.sh
 verdict "the lists of books" $?
 sh tests/sheets.sh
 verdict "calls of sheets, and the tables of docs/CALLS.md" $?
+python3 tests/proved.py --check
+verdict "docs/CLAUSES.md, made from the sources" $?
+python3 tests/pages.py
+verdict "the pages, beside the sources and each other" $?
 sh tests/package.sh
 verdict "the package" $?
 python3 tests/office/commands.py tests/commands "$program"

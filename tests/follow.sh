@@ -6,7 +6,7 @@
 # need cc, and are skipped without it. It takes some minutes. Not part of the merge gate.
 top=$(cd "$(dirname "$0")/.." && pwd)
 . "$top/tests/program.sh"
-books=${BOOKS:-$top/crates/books/out/books}
+books=${BOOKS:-$(built books)}
 scratch=$(mktemp -d) || exit 1
 trap 'rm -rf "$scratch"' EXIT
 cp "$top/examples/rivertown/chart.toml" "$scratch/chart.toml"

@@ -6,7 +6,7 @@
 # that it served as many links as there were. It stops after ten minutes. Not part of the merge gate.
 top=$(cd "$(dirname "$0")/.." && pwd)
 . "$top/tests/program.sh"
-books=${BOOKS:-$top/crates/books/out/books}
+books=${BOOKS:-$(built books)}
 scratch=$(mktemp -d) || exit 1
 trap 'rm -rf "$scratch"' EXIT
 cp "$top/examples/rivertown/chart.toml" "$scratch/chart.toml"

@@ -6,7 +6,7 @@
 cd "$(dirname "$0")/.." || exit 1
 top=$(pwd)
 . tests/program.sh
-books=${BOOKS:-$top/crates/books/out/books}
+books=${BOOKS:-$(built books)}
 if [ ! -x "$books" ]; then
     echo "there is no program books: run ./build" >&2
     exit 1

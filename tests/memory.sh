@@ -4,7 +4,7 @@
 # before it serves with a status of docs/OPERATE.md, and leaves the journal byte for byte. Or each answer is the one of a run that has
 # memory, until one is the fixed 503, which ends its link; a look on the next link shows what was accepted until then and nothing else,
 # what had no answer is answered there as if it came first, and the run ends as it should. After it the journal has exactly the calls
-# that were answered as accepted, as a desk says to which they are handed again. Growths are refused by a library in C that is
+# that were answered as accepted, as a desk says to which they are handed again. Growths are refused by a library in C (refuse.c) that is
 # compiled here and stands in front of malloc, calloc and realloc; so they are refused to the C library too, as where a thread is
 # started. Skipped where there is no cc or python3. It takes some minutes. Not part of the merge gate.
 top=$(cd "$(dirname "$0")/.." && pwd)
@@ -15,49 +15,7 @@ done
 scratch=$(mktemp -d) || exit 1
 trap 'rm -rf "$scratch"' EXIT
 cp "$top/crates/scenes/data/elm.toml" "$scratch/chart.toml"
-cat > "$scratch/refuse.c" <<'C'
-/* Counts the growths of a program in the file REFUSE_COUNT, and refuses those from REFUSE_FIRST to REFUSE_LAST. */
-#include <errno.h>
-#include <fcntl.h>
-#include <stdatomic.h>
-#include <stdlib.h>
-#include <sys/mman.h>
-
-void *__libc_malloc(size_t size);
-void *__libc_calloc(size_t count, size_t size);
-void *__libc_realloc(void *block, size_t size);
-
-/* How many growths were asked for, and how many of them were refused. */
-struct counts { atomic_ulong asked, refused; };
-
-static struct counts uncounted;
-static struct counts *counts = &uncounted;
-static unsigned long first, last;
-
-__attribute__((constructor)) static void begin(void) {
-    int file = open(getenv("REFUSE_COUNT"), O_RDWR);
-    void *shared = mmap(0, sizeof *counts, PROT_READ | PROT_WRITE, MAP_SHARED, file, 0);
-    if (shared == MAP_FAILED)
-        abort();
-    first = strtoul(getenv("REFUSE_FIRST"), 0, 10);
-    last = strtoul(getenv("REFUSE_LAST"), 0, 10);
-    counts = shared;
-}
-
-static int is_refused(void) {
-    unsigned long number = atomic_fetch_add(&counts->asked, 1) + 1;
-    if (number < first || number > last)
-        return 0;
-    atomic_fetch_add(&counts->refused, 1);
-    errno = ENOMEM;
-    return 1;
-}
-
-void *malloc(size_t size) { return is_refused() ? 0 : __libc_malloc(size); }
-void *calloc(size_t count, size_t size) { return is_refused() ? 0 : __libc_calloc(count, size); }
-void *realloc(void *block, size_t size) { return is_refused() ? 0 : __libc_realloc(block, size); }
-C
-cc -O1 -shared -fPIC -o "$scratch/refuse.so" "$scratch/refuse.c" || { echo "memory: cc makes no library"; exit 1; }
+cc -O1 -shared -fPIC -o "$scratch/refuse.so" "$top/tests/refuse.c" || { echo "memory: cc makes no library"; exit 1; }
 cd "$scratch" && PYTHONPATH=$top/tests timeout 1800 python3 - "$program" "$scratch/refuse.so" <<'PY'
 import collections, contextlib, itertools, os, pathlib, struct, subprocess, sys
 

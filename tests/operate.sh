@@ -1,12 +1,14 @@
 #!/bin/sh
 # Runs the files of examples/operate/ at a `serve` of this machine: nginx with TLS and passwords, in which only ports and paths are
-# others, asked by curl and by the clients of examples/clients/; the copy of a journal while it is written to; and what systemd
-# says of the unit. What isn't installed is skipped, and said so. On Debian: nginx, libnginx-mod-http-js, curl, openssl, nftables, systemd.
+# others, asked by curl and by the clients of examples/clients/; the copy of a journal while it is
+# written to; the packet filter in a network of its own; what systemd says of the units; and what
+# docs/OPERATE.md makes with rights. What isn't installed is skipped, and said so. On Debian: nginx,
+# libnginx-mod-http-js, apache2-utils, curl, openssl, nftables, systemd.
 cd "$(dirname "$0")/.." || exit 1
 top=$(pwd)
 PATH=$PATH:/usr/sbin
 . tests/program.sh
-books=${BOOKS:-$top/crates/books/out/books}
+books=${BOOKS:-$(built books)}
 scratch=$(mktemp -d) || exit 1
 trap 'kill $serving $proxy 2> /dev/null; rm -rf "$scratch"' EXIT
 . tests/expect.sh
@@ -29,44 +31,39 @@ cp "$books" "$city/out/books"
 # ---- the units
 
 if ! missing systemd-analyze; then
-    for unit in cityfund.service cityfund-page.service cityfund-page.timer; do
+    units=$(cd examples/operate && ls ./*.service ./*.timer)
+    for unit in $units; do
         sed "s|/opt/cityfund/|$city/|g" "examples/operate/$unit" > "$scratch/$unit"
     done
-    for unit in cityfund.service cityfund-page.service cityfund-page.timer; do
+    cp examples/operate/ship.sh "$city/"
+    for unit in $units; do
         said=$(systemd-analyze verify --man=no "$scratch/$unit" 2>&1)
         [ -z "$said" ]
         verdict "the unit $unit: $said" $?
     done
 fi
 
-# ---- the wall before the doors, in a network of its own: root and the proxy's user come through, nobody else
+# has UNIT LINE: a unit has this line.
+has() {
+    grep -qxF -- "$2" "examples/operate/$1"
+    verdict "the unit $1 has $2" $?
+}
+
+has cityfund.service "Requires=nftables.service"
+has cityfund.service "After=local-fs.target nftables.service"
+has cityfund.service "TimeoutStartSec=15min"
+has cityfund-ship.service "StateDirectory=cityfund-ship"
+grep -q '^ExecStart=.* ssh .* -o ServerAliveInterval=15 ' examples/operate/cityfund-ship.service
+verdict "a link to the second machine that breaks without a word is noticed" $?
+
+# ---- the packet filter, in a network of its own
 
 if missing curl python3; then
     summary operate
     exit
 fi
-if ! missing nft unshare setpriv; then
-    cp examples/operate/cityfund.nft "$scratch/"
-    chmod 755 "$scratch"
-    said=$(cd "$scratch" && unshare --net sh -c '
-        nft --file cityfund.nft || exit 7
-        python3 -c "import fcntl, socket, struct; fcntl.ioctl(socket.socket(), 0x8914, struct.pack(\"16sh\", b\"lo\", 0x41))"
-        mkdir empty
-        python3 -m http.server --directory empty --bind 127.0.0.1 8101 > /dev/null 2>&1 &
-        for user in root www-data nobody; do
-            setpriv --reuid=$user --clear-groups curl --silent --output /dev/null --retry 20 --retry-delay 1 \
-                $([ $user = nobody ] || echo --retry-connrefused) http://127.0.0.1:8101/
-            echo "$user $?"
-        done
-        kill $!' 2> "$scratch/said" | xargs)
-    if [ -z "$said" ]; then
-        echo "operate: skipped: no network of its own: $(cat "$scratch/said")"
-    else
-        [ "$said" = "root 0 www-data 0 nobody 7" ]
-        verdict "the wall: $said" $?
-    fi
-fi
-
+. tests/walling.sh
+. tests/setting-up.sh
 . tests/serving.sh
 . tests/proxying.sh
 serving 4 100000
@@ -89,15 +86,22 @@ MAINPID=2147483647 doors 1 0 1 4
 
 # ---- copies
 
-# copy STATUS TEXT: backup.sh ends so, and says a line that has the text.
+# copy STATUS TEXT: backup.sh ends so, and says a line that has the text. `clock` is a moment that
+# it takes for now.
 copy() {
-    said=$(CITYFUND=$city sh examples/operate/backup.sh "$scratch/serving" "$scratch/copies" 2>&1)
+    said=$(PATH=$scratch/clock:$PATH clock=$clock CITYFUND=$city sh examples/operate/backup.sh "$scratch/serving" "$scratch/copies" 2>&1)
     status=$?
     [ "$status" -eq "$1" ] && echo "$said" | grep -q "$2"
     verdict "a copy: status $status: $said" $?
 }
 
-mkdir "$scratch/copies"
+mkdir "$scratch/copies" "$scratch/clock"
+cat > "$scratch/clock/date" << 'CLOCK'
+#!/bin/sh
+[ -z "$clock" ] || { echo "$clock"; exit; }
+exec /bin/date "$@"
+CLOCK
+chmod +x "$scratch/clock/date"
 url=http://127.0.0.1:$first
 examples/clients/desk.sh "$url" < examples/clients/council.jsonl > "$scratch/got"
 copy 0 "entries: 1 "
@@ -117,15 +121,28 @@ copy 0 "entries: 501 "
 verdict "three copies, with their checksums" $?
 # The last copy, in its place: what was answered is there.
 mkdir "$scratch/restored"
-cp "$(find "$scratch/copies" -name '2*.journal' | sort | tail -n 1)" "$scratch/restored/fund.journal"
+cp "$scratch/copies/$(tail -n 1 "$scratch/copies/checksums" | cut -d ' ' -f 3)" "$scratch/restored/fund.journal"
 said=$(echo '{"call":"line","line":3,"year":2026,"after":501}' | (cd "$scratch/restored" && "$program" desk))
 [ "$said" = '{"at":501,"is":{"appropriated":"100000","encumbered":"0","expended":"500","held":"0","original":"100000","room":"99500"}}' ]
 verdict "a restored journal: $said" $?
-# A journal that lost its last entries: the closed gate of the first one ends it.
+# The clock is wrong for one copy. The next one is made all the same, and it is said once; the one
+# behind it is as ever.
+clock=2099-01-01T000000Z
+copy 0 "2099-01-01T000000Z.journal: .*entries: 501 "
+clock=
+copy 1 "the clock went back: the copy before this one is 2099-01-01T000000Z.journal"
+sleep 1
+copy 0 "entries: 501 "
+# Where nobody reads them these copies are lost entries, too.
+mv "$scratch/copies/checksums" "$scratch/checksums"
+copy 1 "has copies, and no line in checksums"
+mv "$scratch/checksums" "$scratch/copies/checksums"
+# A journal that lost its last entries: the closed gate of the first one ends it. The copies before
+# are more than it has.
 stop_serving
 (cd "$scratch/serving" && rm fund.journal && "$program" found > /dev/null && "$program" desk < "$top/examples/clients/council.jsonl" > /dev/null)
 sleep 1
-copy 1 "aren't in the journal"
+copy 1 "entries of .* aren't in the journal"
 echo no journal > "$scratch/serving/fund.journal"
 copy 1 "isn't sound"
 
@@ -215,6 +232,35 @@ asked "a look at the calls" council 405 '^{"form":"method"}$' "$calls"
 asked "no route" council 404 '^{"form":"route"}$' "$url/nothing"
 asked "no TLS" - 400 "" "http://localhost:$port/lines/3/2026"
 
+# What browsers are told with each answer.
+for path in lines/3/2026 reports/2026/balance whoami desk/ nothing; do
+    said=$(curl --silent --output /dev/null --dump-header - --cacert "$etc/tls/certificate.pem" --netrc-file "$etc/auditor.netrc" "$url/$path" | tr -d '\r')
+    missed=$(for field in 'Strict-Transport-Security: max-age=31536000' 'X-Content-Type-Options: nosniff' \
+        'Cross-Origin-Resource-Policy: same-origin' 'Cache-Control: no-'; do
+        [ "$(echo "$said" | grep -c "^$field")" -eq 1 ] || echo "$field"
+    done)
+    [ -z "$missed" ]
+    verdict "the fields of /$path: without $missed" $?
+done
+said=$(curl --silent --output /dev/null --write-out '%{http_code} %{redirect_url}' "http://localhost:$plain/desk/?a=1")
+[ "$said" = "301 https://localhost/desk/?a=1" ]
+verdict "a bare name: $said" $?
+
+# Bodies that take njs long to read, by the names of one object: none is read.
+names() { python3 -c 'import sys; print("{" + ",".join(f"\"n{i:06}\":1" for i in range(int(sys.argv[1]))) + "}")' "$1"; }
+names 10000 > "$scratch/wide"
+asked "an object of 10,000 names" council 400 '^{"proxy":"no call has this form"}$' "$calls" --data-binary "@$scratch/wide"
+{ printf '[1,{"a":'; names 10000; printf '}]'; } > "$scratch/wide"
+asked "an object of 10,000 names in another" council 400 '^{"proxy":"no call has this form"}$' "$calls" --data-binary "@$scratch/wide"
+{ printf '{"a":"\\"{}","b":{}'; names 10000 | sed 's/^{/,/'; } > "$scratch/wide"
+asked "an object of 10,000 names behind marks in a text" council 400 '^{"proxy":"no call has this form"}$' "$calls" --data-binary "@$scratch/wide"
+python3 -c 'print("{\"a\":" * 1000 + "1" + "}" * 1000)' > "$scratch/wide"
+asked "objects 1,000 deep" council 400 '^{"proxy":"no call has this form"}$' "$calls" --data-binary "@$scratch/wide"
+{ printf '{"desk":1,"key":"'; names 10000 | tr -d '"\n'; printf '",%s}' "$adopt"; } > "$scratch/wide"
+asked "marks in a text" council 200 '"was":1' "$calls" --data-binary "@$scratch/wide"
+python3 -c 'import json; print(json.dumps({"call": "adopt", "desk": 1, "key": "b2", "on": "2025-07-01", "fund": 1, "year": 2026, "lines": [{"line": n, "amount": 1} for n in range(4096)], "estimates": []}))' > "$scratch/wide"
+asked "an adoption of 4,096 lines" council 409 '"name":' "$calls" --data-binary "@$scratch/wide"
+
 # The page.
 echo '{}' > "$etc/page/chart.json"
 asked "the page without a password" - 401 "" "$url/desk/"
@@ -225,6 +271,9 @@ asked "a list without a password" - 401 "" "$url/desk/data/chart.json"
 asked "a file that isn't the page's" auditor 404 "" --path-as-is "$url/desk/../desk.js"
 asked "a file above the page" auditor 404 "" "$url/desk/tables.py"
 asked "a change of the page" council 403 "" --request PUT --data x "$url/desk/page.js"
+# A file that the program's user puts there as a link isn't given out.
+ln -s "$etc/passwords" "$etc/page/linked.json"
+asked "a list that is a link" auditor 403 "" "$url/desk/data/linked.json"
 asked "who asks" payables 200 '^{"user":"payables","desk":4}$' "$url/whoami"
 asked "who asks without a desk" auditor 200 '^{"user":"auditor","desk":0}$' "$url/whoami"
 asked "who asks without a password" - 401 "" "$url/whoami"
@@ -256,6 +305,12 @@ for client in examples/clients/desk.sh examples/clients/desk.py; do
     [ "$status" -eq 2 ] && [ ! -s "$scratch/got" ] && grep -q '403 {"proxy":"not your desk"}' "$scratch/said"
     verdict "another desk's day by $client: status $status: $(cat "$scratch/said")" $?
 done
+
+# One user asks for more than its rate. Another one at the same address goes on.
+said=$(python3 tests/asking.py "$url" "$etc")
+[ "$said" = "bounded 200" ]
+verdict "a user's rate: $said" $?
+sleep 3
 
 # The program starts anew under the proxy: a client tries again until it is there.
 stop_serving

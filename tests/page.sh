@@ -22,8 +22,9 @@ for tool in chromium nginx openssl curl; do
 done
 . tests/proxying.sh
 [ -e $module ] || { echo "page: skipped: there is no $module"; summary page; exit; }
-program=${PROGRAM:-$top/crates/cityfund/out/cityfund}
-BOOKS=${BOOKS:-$top/crates/books/out/books}
+. tests/built.sh
+program=${PROGRAM:-$(built cityfund)}
+BOOKS=${BOOKS:-$(built books)}
 export BOOKS
 for file in "$program" "$BOOKS"; do
     [ -x "$file" ] || { echo "page: skipped: nothing is built: there is no $file"; summary page; exit; }

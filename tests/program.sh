@@ -1,6 +1,8 @@
-# Read by the scripts of tests/ and bench/, with `top` set: sets `program` to the program that rt built last, by ./build
-# or rt ci, and ends where there is none or a source is newer. PROGRAM names another program, by its whole path.
-program=${PROGRAM:-$top/crates/cityfund/out/cityfund}
+# Read by the scripts of tests/ and bench/, with `top` set: sets `program` to the program that was
+# built last, by ./build or rt ci, and ends where there is none or a source is newer. PROGRAM names
+# another program, by its whole path.
+. "$top/tests/built.sh"
+program=${PROGRAM:-$(built cityfund)}
 if [ ! -x "$program" ]; then
     echo "there is no program: run ./build" >&2
     exit 1

@@ -22,11 +22,14 @@ def quoted(page):
 
 
 def unknown_quotes(page, pairs):
+    """Replies that no stored talk has, or not to the call above them. A call may go on on a further line, which begins with blanks."""
     said = {}
     replies = {reply for _, reply in pairs}
     for number, line in quoted(page):
         if line.startswith("> "):
             said = {number: line[2:]}
+        elif line.startswith("  ") and number - 1 in said:
+            said = {number: said[number - 1] + line.strip()}
         elif line.startswith('< {"at"'):
             call = said.get(number - 1)
             if line[2:] not in replies or call is not None and (call, line[2:]) not in pairs:

@@ -5,7 +5,7 @@
 cd "$(dirname "$0")/.." || exit 1
 top=$(pwd)
 . tests/program.sh
-books=${BOOKS:-$top/crates/books/out/books}
+books=${BOOKS:-$(built books)}
 scratch=$(mktemp -d) || exit 1
 trap 'rm -rf "$scratch"' EXIT
 . tests/expect.sh

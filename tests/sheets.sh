@@ -55,7 +55,8 @@ verdict "no call of a sheet with a fault is written: status $status: $(cat "$scr
 
 # ---- a second sending
 
-program=${PROGRAM:-crates/cityfund/out/cityfund}
+. tests/built.sh
+program=${PROGRAM:-$(built cityfund)}
 if [ ! -x "$program" ]; then
     echo "sheets: skipped: there is no program to send the calls to"
     summary sheets

@@ -5,7 +5,10 @@
 #
 # The copy is kept as the moment's name with .journal, with its checksum in COPIES/checksums, once the rules judged each entry again,
 # all entries of the last copy were found in it, and a desk opened it in a folder of its own. Else it says what is wrong, keeps
-# the copy that it made as refused.journal, and ends with 1. CITYFUND names the folder of the programs (/opt/cityfund).
+# the copy that it made as refused.journal, and ends with 1. The last copy is that of the last line
+# of checksums, whatever its name: a clock that was wrong once gives a copy a name of its own. Where
+# the new name isn't above the last one the copy is kept, the script says so, and it ends with 1.
+# CITYFUND names the folder of the programs (/opt/cityfund).
 city=${CITYFUND:-/opt/cityfund}
 journal=$1/fund.journal
 copies=$2
@@ -30,8 +33,11 @@ until cp "$journal" "$scratch/fund.journal" && "$city/books" check "$scratch/fun
     sleep 1
 done
 
-last=$(find "$copies" -maxdepth 1 -name '2*.journal' | sort | tail -n 1)
-if [ -n "$last" ]; then
+# The last copy. Without a line there must be no copy either.
+named=$(tail -n 1 "$copies/checksums" 2> /dev/null | cut -d ' ' -f 3-)
+[ -n "$named" ] || [ -z "$(find "$copies" -maxdepth 1 -name '2*.journal' | head -n 1)" ] || fail "$copies has copies, and no line in checksums"
+last=$copies/$named
+if [ -n "$named" ]; then
     (cd "$copies" && tail -n 1 checksums | sha256sum --check --status) || fail "$last isn't what it was: see its checksum"
     "$city/books" calls "$last" > "$scratch/before" && "$city/books" calls "$scratch/fund.journal" > "$scratch/now" ||
         fail "the calls of $last can't be read"
@@ -45,3 +51,8 @@ name=$(date -u +%Y-%m-%dT%H%M%SZ).journal
 mv "$scratch/fund.journal" "$copies/$name" && (cd "$copies" && sha256sum "$name" >> checksums && sync "$name" checksums) ||
     fail "$copies can't be written"
 echo "backup: $name: $(tr '\n' ' ' < "$scratch/has")"
+# The names of copies are moments, and rise.
+[ -z "$named" ] || [ "$(printf '%s\n%s\n' "$named" "$name" | sort | tail -n 1)" = "$name" ] || {
+    echo "backup: failed: the clock went back: the copy before this one is $named" >&2
+    exit 1
+}

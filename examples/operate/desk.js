@@ -1,4 +1,5 @@
-// Lets a user change things for its own desk alone: copied to /etc/cityfund/desk.js, and used by nginx.conf.
+// Lets a user change things for its own desk alone: imported by nginx.conf from where the package
+// installs both.
 //
 // The program takes the desk of a call as given. Of two fields of one name both JSON.parse and the program take the last, and what
 // JSON.parse doesn't read goes to no door. A call without a desk can change nothing: it is a look, or in no form.
@@ -21,6 +22,28 @@ function isOfAnother(r) {
     return user !== undefined && user !== encodeURIComponent(r.variables.remote_user);
 }
 
+// Whether no object of a body has more than 32 names, and none stands more than 16 deep: a call's
+// have at most 12, and stand 3 deep. njs finds an object's names by a hash without a seed, so
+// thousands of names of one hash take it seconds to read: they are counted before.
+function isNarrow(body) {
+    var names = [], depth = 0, isText = false;
+    for (var at = 0, size = body.length; at < size; at++) {
+        var byte = body[at];
+        if (isText) {
+            if (byte === 0x5C) at++;
+            else if (byte === 0x22) isText = false;
+        }
+        else if (byte === 0x22) isText = true;
+        else if (byte === 0x3A && ++names[depth] > 32) return false;
+        else if (byte === 0x7B) {
+            if (++depth > 16) return false;
+            names[depth] = 0;
+        }
+        else if (byte === 0x7D) depth--;
+    }
+    return true;
+}
+
 function post(r) {
     // What isn't a POST is no call, and a door says so.
     if (r.method !== 'POST') {
@@ -39,6 +62,10 @@ function post(r) {
         // It came in so many chunks that nginx keeps it in a file.
         return said(r, 413, {form: 'long'});
     }
+    // A short body can't have many names.
+    if (text.length > 4096 && !isNarrow(r.requestBuffer)) {
+        return said(r, 400, {proxy: 'no call has this form'});
+    }
     try {
         call = JSON.parse(text);
     } catch (fault) {
@@ -52,7 +79,6 @@ function post(r) {
 
 // Who asks, and for which desk: 0 where for none.
 function whoami(r) {
-    r.headersOut['Cache-Control'] = 'no-store';
     said(r, 200, {user: r.variables.remote_user, desk: Number(r.variables.cityfund_desk) || 0});
 }
 

@@ -3,10 +3,11 @@
 #
 #     ship.sh JOURNAL WORK COMMAND..
 #
-# WORK is a folder of its own, in which what the second machine answered last is kept (followed). Its last entry is compared, and those
-# behind it are sent; without that file all are compared. It prints what the second machine answers, and ends with the status
-# of `cityfund follow` there, or with that of `cityfund ship` here where that failed; docs/OPERATE.md says what each wants. CITYFUND
-# names the folder of the programs (/opt/cityfund).
+# WORK is a folder of its own, in which what the second machine answered last is kept (followed).
+# Its last entry is compared, and those behind it are sent; without that file all are compared. It
+# prints what the second machine answers, 4096 bytes of it at most, and ends with the status of
+# `cityfund follow` there, or with that of `cityfund ship` here where that failed; docs/OPERATE.md
+# says what each wants. CITYFUND names the folder of the programs (/opt/cityfund).
 city=${CITYFUND:-/opt/cityfund}
 umask 077
 [ $# -ge 3 ] || { echo "ship.sh JOURNAL WORK COMMAND.." >&2; exit 2; }
@@ -34,10 +35,10 @@ there=$(sed -n 's/^followed //p' followed 2> /dev/null)
 [ "${there:-0}" -le "$here" ] || fail "the second machine has $there entries, and $journal has $here: see docs/OPERATE.md" 17
 from=$((${there:-0} > 0 ? there - 1 : 0))
 
-"$city/cityfund" ship "$from" | "$@" > answer
+"$city/cityfund" ship "$from" | "$@" | head -c 4096 > answer
 status=("${PIPESTATUS[@]}")
 rm -f fund.journal
-if [ "${status[*]}" != "0 0" ]; then
+if [ "${status[*]}" != "0 0 0" ]; then
     # What the second machine has is asked anew: the next run compares all entries. A stream that was cut here is a fault there (16), and
     # a second machine that stops early is a fault of writing here (5).
     rm -f followed
@@ -45,5 +46,6 @@ if [ "${status[*]}" != "0 0" ]; then
     [ "${status[0]}" -eq 0 ] || [ "${status[0]}" -eq 5 ] || { [ "$code" -ne 0 ] && [ "$code" -ne 16 ]; } || code=${status[0]}
     fail "cityfund ship ended with ${status[0]} here, and cityfund follow with ${status[1]} there" "$code"
 fi
+grep -qxE 'followed [0-9]{1,7}' answer && [ "$(wc -l < answer)" -eq 1 ] || { rm -f followed; fail "the second machine answered other than 'followed N'"; }
 mv answer followed
 cat followed

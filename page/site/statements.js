@@ -1,5 +1,6 @@
 // Statements by the look `report`, with names and column heads; printed, and as a sheet.
 
+import {cell} from './cells.js';
 import {byId, give, made, row, table} from './dom.js';
 import {plain, money} from './money.js';
 
@@ -51,13 +52,13 @@ export class Statements {
     async save() {
         await this.shown;
         if (!this.made) return;
-        const {year, kind, heads, rows} = this.made, quoted = text => /[",\n]/.test(text) ? `"${text.replaceAll('"', '""')}"` : text;
+        const {year, kind, heads, rows} = this.made;
         let fund = '';
         const lines = [['Fund', 'Row', ...heads]];
         for (const each of rows) {
             if (each.isHead) fund = each.label;
             else lines.push([each.label === TOTAL ? '' : fund, each.label, ...each.amounts.map(amount => amount === '' ? '' : plain(amount))]);
         }
-        give(`${year}-${kind}.csv`, lines.map(line => line.map(quoted).join(',') + '\r\n').join(''), 'text/csv');
+        give(`${year}-${kind}.csv`, lines.map(line => line.map(cell).join(',') + '\r\n').join(''), 'text/csv');
     }
 }

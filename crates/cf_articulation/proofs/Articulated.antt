@@ -1,5 +1,5 @@
 -- The statements of each legal history articulate, in each fiscal year.
-use Rattle.std.proofs.Common.{◌≡◌, ℕ, ◌-◌, ◌≤◌, List, [], ◌∷◌, ◌++◌, flat_map, ℤ, pos, neg_ℤ, ◌+ℤ◌, ◌-ℤ◌, codes, Ok, refl, sym, ap, ◌∙◌, arith}
+use Rattle.std.proofs.Common.{◌≡◌, ℕ, ◌-◌, ◌≤◌, List, [], ◌∷◌, ◌++◌, flat_map, take, ℤ, pos, neg_ℤ, ◌+ℤ◌, ◌-ℤ◌, codes, Ok, refl, sym, ap, ◌∙◌, arith}
 use Rattle.std.proofs.lemmas.Int.{ints}
 use Rattle.cf_base.specs.declared.statement.Kind.TheVariants as kind
 use Rattle.cf_calls.specs.declared.entry.Entry.{Entry}
@@ -19,6 +19,7 @@ use Rattle.cf_model.specs.Step.{IsLegal}
 use Rattle.cf_model.specs.Sums.{int_sum}
 use Rattle.cf_model.proofs.FundAccounts.{fund_balance_is}
 use Rattle.cf_model.proofs.Lawful.{IsWhole}
+use Rattle.cf_model.proofs.Legal.{legal_take}
 use Rattle.cf_model.proofs.LegalReconciled.{changes_always, reconciles_always}
 use Rattle.cf_model.proofs.Totals.{all_so, sum_same}
 use Rattle.cf_statements.specs.Activities.{activity_row, change, function_rows as activity_rows, general_rows, gains, interest_of, total_activity}
@@ -27,9 +28,12 @@ use Rattle.cf_statements.specs.Operating.{financing_rows, function_rows, net_cha
 use Rattle.cf_statements.specs.Sums.{heading, single}
 use Rattle.cf_articulation.specs.Articulates.{AddUp, AllArticulate, Articulates, amount_of, balance_part, bottom_line, city_assets, city_liabilities, fund_assets, fund_liabilities, last_row, operating_part, rows_sum}
 use Rattle.cf_articulation.specs.OwnAccounts.{HasOwnAccounts}
+use Rattle.cf_articulation.proofs.Comparison.{compares}
 use Rattle.cf_articulation.proofs.FundPosts.{IsFundPost, fund_posts}
 use Rattle.cf_articulation.proofs.GovPosts.{IsGovPost, gov_posts, position_accounts}
+use Rattle.cf_articulation.proofs.ItemAccounts.{items_are}
 use Rattle.cf_articulation.proofs.NetChange.{net_change_is}
+use Rattle.cf_articulation.proofs.OpenVouchers.{vouchers_are}
 use Rattle.cf_articulation.proofs.PositionChange.{no_fund_posts, of_no_fund, position_change}
 use Rattle.cf_articulation.proofs.ReadCharts.{read_chart}
 use Rattle.cf_articulation.proofs.RowSums.{IsCounted, balances_sum, debit_change, funds_sum}
@@ -131,13 +135,16 @@ change_rows plan h year from is =
 pub articulates : (plan : Plan) (history : List Entry) (year : ℕ) → IsWhole plan → HasOwnAccounts plan → IsLegal plan history → Articulates plan history year
 articulates plan history year whole own legal = record {
   balance_sheet = balance_sheet plan history year;
+  vouchers = vouchers_are plan history legal;
   total_balances = ap amount_of (balance_ends plan history year) ∙ sym (of_funds plan history year own legal);
   net_change = λ fund. operating_ends plan history year fund ∙ net_change_is plan year fund.id history own legal;
+  comparison = compares plan history year own legal;
   net_position = city_sheet plan history year own legal;
   activities = ap amount_of (activities_end plan history year) ∙ position_change plan year history own legal;
   reconcile_first = sym (balance_ends plan history year);
   reconcile_last = refl;
   reconcile = reconcile_rows plan history year (reconciles_always plan history whole legal);
+  items = items_are plan history year whole own legal;
   changes_first = net_changes plan history year own legal;
   changes_last = sym (activities_end plan history year ∙ ap (single (codes "Change in net position")) (position_change plan year history own legal));
   changes = λ from. change_rows plan history year from (changes_always plan history whole legal);
@@ -145,8 +152,9 @@ articulates plan history year whole own legal = record {
 
 -- .. so it holds of an office of such a chart ..
 pub office_articulates : (s : OfficeState) → IsWhole s.plan → HasOwnAccounts s.plan → IsSoundState s → AllArticulate s.plan s.entries
-office_articulates s whole own sound = λ year. articulates s.plan s.entries year whole own sound.legal
+office_articulates s whole own sound = λ n year. articulates s.plan (take n s.entries) year whole own (legal_take s.plan s.entries n sound.legal)
 
 -- .. and under each chart that was read
 pub articulates_always : (bytes : List ℕ) (plan : Plan) (history : List Entry) → chart_of bytes ≡ Ok plan → IsLegal plan history → AllArticulate plan history
-articulates_always bytes plan history read legal = let is = read_chart bytes plan read in λ year. articulates plan history year is.whole is.own legal
+articulates_always bytes plan history read legal =
+    let is = read_chart bytes plan read in λ n year. articulates plan (take n history) year is.whole is.own (legal_take plan history n legal)

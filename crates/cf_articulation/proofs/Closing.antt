@@ -14,7 +14,7 @@ use Rattle.cf_model.proofs.Balanced.{each_entry_balances}
 use Rattle.cf_model.proofs.Totals.{none_first}
 use Rattle.cf_post.specs.Balance.{BalancesFunds}
 
-same_sum : (s t : Post → Bool) → ((p : Post) → s p ≡ t p) → (posts : List Post) → sum_where s posts ≡ sum_where t posts
+pub same_sum : (s t : Post → Bool) → ((p : Post) → s p ≡ t p) → (posts : List Post) → sum_where s posts ≡ sum_where t posts
 same_sum s t same [] = refl
 same_sum s t same (p ∷ posts) = λ i. (if same p i then p.amount else pos 0) +ℤ same_sum s t same posts i
 

@@ -61,7 +61,7 @@ three plan fund n a b c in_sources in_functions in_others =
     passing_append (λ m. n == m) (source_accounts plan fund) (function_accounts plan ++ other_accounts)
     ∙ (λ i. in_sources i + (passing_append (λ m. n == m) (function_accounts plan) other_accounts ∙ (λ j. in_functions j + in_others j)) i)
 
-no_source : (plan : Plan) (fund n : ℕ) → HasOwnAccounts plan → (n < 400000) ⊎ (400000 + 9999 < n) → times n (source_accounts plan fund) ≡ 0
+pub no_source : (plan : Plan) (fund n : ℕ) → HasOwnAccounts plan → (n < 400000) ⊎ (400000 + 9999 < n) → times n (source_accounts plan fund) ≡ 0
 no_source plan fund n own far =
     none_by_id (λ (s : RevenueSource). s.id) 400000 9999 n (filter (λ s. s.fund == fund) plan.sources) (all_filter (λ (s : RevenueSource). s.id ≤ 9999) (λ s. s.fund == fund) plan.sources (source_low plan own)) far
 

@@ -8,6 +8,15 @@ mod FundPosts
 mod NetChange
 mod GovPosts
 mod PositionChange
+mod DeedSums
+mod ItemDeeds
+mod ItemSteps
+mod ItemAccounts
+mod ComparisonLines
+mod ComparisonDeeds
+mod VoucherStates
+mod Comparison
+mod OpenVouchers
 pub mod ReadCharts
 pub mod Articulated
 pub mod TrialBalances

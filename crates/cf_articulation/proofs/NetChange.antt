@@ -58,7 +58,7 @@ revenue_change a b plan fund =
     by_test true f n same = ap (λ g. neg_ℤ (a g n -ℤ b g n)) (same refl)
     by_test false f n same = refl
 
-function_change : (a b : ℕ → ℤ) (plan : Plan) →
+pub function_change : (a b : ℕ → ℤ) (plan : Plan) →
     statement.sum_where (λ f. true) (λ f. a (500000 + f.id) -ℤ b (500000 + f.id)) plan.functions ≡ int_sum a (function_accounts plan) -ℤ int_sum b (function_accounts plan)
 function_change a b plan =
     let account : Function → ℕ = λ f. 500000 + f.id in

@@ -1,5 +1,5 @@
 -- How the statements of a fiscal year articulate: in accounting, statements articulate where the same amounts stand in them (GASB Statement 34).
-use Rattle.std.specs.Prelude.{◌≡◌, ℕ, ◌-◌, ◌≤◌, ℤ, pos, ◌+ℤ◌, ◌-ℤ◌, List, [], ◌∷◌}
+use Rattle.std.specs.Prelude.{◌≡◌, ℕ, ◌-◌, ◌≤◌, ℤ, pos, ◌+ℤ◌, ◌-ℤ◌, List, [], ◌∷◌, take}
 use Rattle.cf_base.specs.declared.statement.Kind.TheVariants as kind
 use Rattle.cf_calls.specs.declared.entry.Entry.{Entry}
 use Rattle.cf_calls.specs.declared.reply.Row.{Row}
@@ -11,6 +11,9 @@ use Rattle.cf_statements.specs.Balance as balance
 use Rattle.cf_statements.specs.Operating as operating
 use Rattle.cf_statements.specs.Position as position
 use Rattle.cf_statements.specs.Sums.{heading}
+use Rattle.cf_articulation.specs.Comparison.{Compares}
+use Rattle.cf_articulation.specs.ItemAccounts.{ItemsAreAccounts}
+use Rattle.cf_articulation.specs.OpenVouchers.{VouchersAreOwed}
 
 -- ---- rows
 
@@ -76,11 +79,15 @@ pub record Articulates (plan : Plan) (history : List Entry) (year : ℕ) : Type 
   -- on the balance sheet a fund's assets are its liabilities, its deferred inflow and its fund balance ..
   pub balance_sheet : (fund : Fund) →
       rows_sum (fund_assets plan history year fund) ≡ rows_sum (fund_liabilities plan history year fund) +ℤ bottom_line (balance_part plan history year fund)
-  -- .. and total fund balances those of the chart's funds
+  -- .. its vouchers payable, over all years, are the items of its open vouchers ..
+  pub vouchers : VouchersAreOwed plan history
+  -- .. and total fund balances are those of the chart's funds
   pub total_balances : bottom_line (report_rows plan history year kind.Balance) ≡ int_sum (λ f. bottom_line (balance_part plan history year f)) plan.funds
   -- a fund's net change in fund balance is its fund balance less that of the balance sheet of the year before
   pub net_change : (fund : Fund) →
       bottom_line (operating_part plan history year fund) ≡ bottom_line (balance_part plan history year fund) -ℤ bottom_line (balance_part plan history (year - 1) fund)
+  -- the actual amounts of the budgetary comparison are those of the operating statement
+  pub comparison : Compares plan history year
   -- the city's assets are its liabilities and its net position
   pub net_position : rows_sum (city_assets plan history year) ≡ rows_sum (city_liabilities plan history year) +ℤ bottom_line (report_rows plan history year kind.Position)
   -- the change in net position is net position less that of the year before
@@ -91,11 +98,13 @@ pub record Articulates (plan : Plan) (history : List Entry) (year : ℕ) : Type 
   pub reconcile_first : first_row (report_rows plan history year kind.Reconcile) ≡ last_row (report_rows plan history year kind.Balance)
   pub reconcile_last : last_row (report_rows plan history year kind.Reconcile) ≡ last_row (report_rows plan history year kind.Position)
   pub reconcile : AddUp (report_rows plan history year kind.Reconcile)
+  -- .. and each item between is what its own accounts have
+  pub items : ItemsAreAccounts plan history year
   -- .. and that of the changes from the net changes of the chart's funds to the last row of the activities
   pub changes_first : amount_of (first_row (report_rows plan history year kind.Changes)) ≡ int_sum (λ f. bottom_line (operating_part plan history year f)) plan.funds
   pub changes_last : last_row (report_rows plan history year kind.Changes) ≡ last_row (report_rows plan history year kind.Activities)
   pub changes : 1 ≤ year → AddUp (report_rows plan history year kind.Changes)
 
--- the statements of each fiscal year articulate
+-- at every place of a history the statements of each fiscal year articulate
 abbrev pub AllArticulate : Plan → List Entry → Type 0
-AllArticulate plan history = (year : ℕ) → Articulates plan history year
+AllArticulate plan history = (n year : ℕ) → Articulates plan (take n history) year

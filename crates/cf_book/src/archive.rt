@@ -200,8 +200,9 @@ impl<D: Disk + Drop> Archive<D> {
         }
     }
 
-    /// What comes of an entry of another history: the number of its refusal, or what is given where its change is accepted
-    /// with its numbers, as in `settle`.
+    /// Appends an entry that was taken from another history. `Err(n)`: the office refuses it with
+    /// the number n, which is 0 for a repeat and for other drawn numbers, and nothing changed.
+    /// `Ok`: what `settle` gives for its change.
     pub fn admit(&mut self, lines: &mut Lines, entry: Entry) -> Result<Settled, u8>
         requires form { IsEntryInForm entry }
         requires tables { AreTablesOf self.old.plan self.old.entries lines.old }

@@ -13,6 +13,7 @@ use Rattle.cf_classes.specs.Sizes.{AreSmall, IsSmallRecon}
 use Rattle.cf_classes.specs.Statements.{AddUp}
 use Rattle.cf_classes.proofs.Together.{funds_sum}
 use Rattle.cf_classes.proofs.Whole.{classes_sum, components_sum}
+use Rattle.cf_classes.proofs.Within.{balances_are, classes_within, others_sum}
 use Rattle.cf_ledger.specs.declared.post.Post.{Post}
 use Rattle.cf_ledger.specs.Posts.{is_in_total, sum_where}
 use Rattle.cf_ledger.proofs.Sums.{within_sizes}
@@ -139,6 +140,9 @@ small_recon plan h year whole legal few =
 pub add_up : (plan : Plan) (h : List Entry) (year : ℕ) → AddUp plan h year
 add_up plan h year = record {
   classes = classes_sum plan (sums_of plan h) year;
+  within = classes_within plan h year;
   components = components_sum plan (sums_of plan h) year (recon_shown plan year h);
+  balances = balances_are plan h year;
   funds = funds_sum plan (sums_of plan h) year;
+  others = others_sum plan (sums_of plan h) year;
 }

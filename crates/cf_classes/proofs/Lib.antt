@@ -2,3 +2,4 @@ pub mod Legal
 pub mod Next
 pub mod Together
 pub mod Whole
+pub mod Within

@@ -1,5 +1,5 @@
 -- The classes of fund balances (GASB Statement 54; which class a balance is in by the chart is an own profile of it).
-use Rattle.std.specs.Prelude.{◌≡◌, ℕ, ℤ, pos, ◌+◌, ◌==◌, ◌+ℤ◌, ◌-ℤ◌, int_lt, if◌then◌else◌, List, [], ◌∷◌, ◌++◌, Option, Some, None, flat_map, codes}
+use Rattle.std.specs.Prelude.{◌≡◌, ◌≤ℤ◌, ℕ, ℤ, pos, ◌+◌, ◌==◌, ◌+ℤ◌, ◌-ℤ◌, int_lt, if◌then◌else◌, List, [], ◌∷◌, ◌++◌, Option, Some, None, flat_map, codes}
 use Rattle.cf_calls.specs.declared.reply.Row.{Row}
 use Rattle.cf_chart.specs.Plan.{Plan}
 use Rattle.cf_chart.specs.declared.rows.BalanceClass.{BalanceClass}
@@ -79,3 +79,17 @@ classes_rows plan sums year = flat_map (fund_rows plan sums year) plan.funds ++ 
 -- the law of the statement: the classes of each fund sum to its balance
 abbrev pub ClassesSum : Plan → Sums → ℕ → Type 0
 ClassesSum plan sums year = (f : Fund) → class_sum (classes_of plan sums year f) ≡ sums.fund_balance year f.id
+
+-- no class of a balance that isn't below zero is below zero or above the balance
+abbrev pub IsWithin : ℤ → ℤ → Type 0
+IsWithin balance amount = (pos 0 ≤ℤ amount) × (amount ≤ℤ balance)
+
+pub record AreWithin (balance : ℤ) (c : Classes) : Type 0 where
+  pub nonspendable : IsWithin balance c.nonspendable
+  pub restricted : IsWithin balance c.restricted
+  pub committed : IsWithin balance c.committed
+  pub assigned : IsWithin balance c.assigned
+  pub unassigned : IsWithin balance c.unassigned
+
+abbrev pub ClassesWithin : Plan → Sums → ℕ → Type 0
+ClassesWithin plan sums year = (f : Fund) → pos 0 ≤ℤ sums.fund_balance year f.id → AreWithin (sums.fund_balance year f.id) (classes_of plan sums year f)

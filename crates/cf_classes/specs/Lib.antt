@@ -5,3 +5,4 @@ pub mod Rows
 pub mod Sizes
 pub mod Statements
 pub mod Titles
+pub mod Worked

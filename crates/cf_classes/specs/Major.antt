@@ -85,6 +85,10 @@ major_of plan sums year = over (major_part plan sums year (total_of plan sums ye
 abbrev pub others_of : Plan → Sums → ℕ → Elements
 others_of plan sums year = less (total_of plan sums year) (major_of plan sums year)
 
+-- what each fund gives that isn't major
+abbrev pub other_part : Plan → Sums → ℕ → Elements → Fund → Elements
+other_part plan sums year total f = if is_major plan sums year total f then nothing else elements_of plan sums year f
+
 -- ---- the statement
 
 abbrev pub amount_rows : Elements → List Row
@@ -109,6 +113,14 @@ major_rows plan sums year = rows_by plan sums year (total_of plan sums year) (ot
 -- the law of the statement: the major and the other funds come to the total in each element
 abbrev pub FundsSum : Plan → Sums → ℕ → Type 0
 FundsSum plan sums year = plus (major_of plan sums year) (others_of plan sums year) ≡ total_of plan sums year
+
+-- the other funds are those that aren't major, together
+abbrev pub OthersSum : Plan → Sums → ℕ → Type 0
+OthersSum plan sums year = others_of plan sums year ≡ over (other_part plan sums year (total_of plan sums year)) plan.funds
+
+-- a fund's assets less its liabilities, with its deferred inflows among them, are its fund balance
+abbrev pub BalancesAre : Plan → Sums → ℕ → Type 0
+BalancesAre plan sums year = (f : Fund) → (elements_of plan sums year f).assets -ℤ (elements_of plan sums year f).liabilities ≡ sums.fund_balance year f.id
 
 -- each element's size is at most this
 pub record AreWithin (most : ℕ) (e : Elements) : Type 0 where

@@ -3,6 +3,7 @@
 
 mod classes;
 mod elements;
+mod laws;
 mod major;
 mod net;
 mod rows;
@@ -10,6 +11,7 @@ mod titles;
 
 pub use classes::{Classes, fund_classes};
 pub use elements::Elements;
+pub use laws::worked_classes;
 pub use major::major_funds;
 pub use net::components;
 pub use titles::{classes_title, components_title, major_title};

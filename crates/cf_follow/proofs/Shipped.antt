@@ -107,8 +107,8 @@ module _ {F : Type 0} (o : Office F) (chart : List ℕ) (start : F) (whole : Lis
       same = λ k e. cc;
       taken = λ k n e. cc;
     }
-    ended left' bytes after how took' (Stops.read_fault same) = record { front = copied now after t.front (ap o.history same); all = λ e. cc; same = λ k e. cc; taken = λ k n e. cc }
-    ended left' bytes after how took' (Stops.memory same) = record { front = copied now after t.front (ap o.history same); all = λ e. cc; same = λ k e. cc; taken = λ k n e. cc }
+    ended left' bytes after how took' (Stops.read_fault part same) = record { front = copied now after t.front (ap o.history same); all = λ e. cc; same = λ k e. cc; taken = λ k n e. cc }
+    ended left' bytes after how took' (Stops.memory part same) = record { front = copied now after t.front (ap o.history same); all = λ e. cc; same = λ k e. cc; taken = λ k n e. cc }
     ended left' bytes after how took' (Stops.fault k is same) = record { front = copied now after t.front (ap o.history same); all = λ e. cc; same = λ k e. cc; taken = λ k n e. cc }
     ended left' bytes after how took' (Stops.forked x own frame stands differ same) =
         let mine : slice_get whole place ≡ Some own = get_take (length (o.history now)) whole place own (ap (λ (h : List Entry). slice_get h place) (sym t.front) ∙ stands) in
@@ -122,8 +122,8 @@ module _ {F : Type 0} (o : Office F) (chart : List ℕ) (start : F) (whole : Lis
     ended left' bytes after how took' (Stops.failed x frame ends fails) = record { front = copied now after t.front fails.stays; all = λ e. cc; same = λ k e. cc; taken = λ k n e. cc }
 
   at_front : (after : F) (left left' : Option (List ℕ)) (how : FollowEnd) → HeadEnds chart (length (o.history start)) left left' how → after ≡ start → IsCopy o whole after how
-  at_front after left left' how (HeadEnds.read_fault bytes took') same = record { front = copied start after behind_is.front (ap o.history same); all = λ e. cc; same = λ k e. cc; taken = λ k n e. cc }
-  at_front after left left' how (HeadEnds.memory bytes took') same = record { front = copied start after behind_is.front (ap o.history same); all = λ e. cc; same = λ k e. cc; taken = λ k n e. cc }
+  at_front after left left' how (HeadEnds.read_fault bytes took' part) same = record { front = copied start after behind_is.front (ap o.history same); all = λ e. cc; same = λ k e. cc; taken = λ k n e. cc }
+  at_front after left left' how (HeadEnds.memory bytes took' part) same = record { front = copied start after behind_is.front (ap o.history same); all = λ e. cc; same = λ k e. cc; taken = λ k n e. cc }
   at_front after left left' how (HeadEnds.fault bytes k took' is) same = record { front = copied start after behind_is.front (ap o.history same); all = λ e. cc; same = λ k e. cc; taken = λ k n e. cc }
   at_front after left left' how (HeadEnds.other_chart from theirs at reads differ) same = record { front = copied start after behind_is.front (ap o.history same); all = λ e. cc; same = λ k e. cc; taken = λ k n e. cc }
   at_front after left left' how (HeadEnds.gap from reads above) same = record { front = copied start after behind_is.front (ap o.history same); all = λ e. cc; same = λ k e. cc; taken = λ k n e. cc }
@@ -204,8 +204,8 @@ module _ {F : Type 0} (o : Office F) (chart : List ℕ) (start : F) (whole : Lis
   no_fault : (now : F) (middle : Option (List ℕ)) (lost behind : List ℕ) (place at : ℕ) (t : Took o whole now middle lost behind place) → lost ≡ [] → (left' : Option (List ℕ)) (bytes : List ℕ) (after : F) (how : FollowEnd) (offset : ℕ)
       → Consumes middle left' bytes → Stops o now place at bytes left' after how → how ≢ StreamFault offset
   no_fault now middle lost behind place at t all left' bytes after how offset took' (Stops.done is same) e = cc
-  no_fault now middle lost behind place at t all left' bytes after how offset took' (Stops.read_fault same) e = cc
-  no_fault now middle lost behind place at t all left' bytes after how offset took' (Stops.memory same) e = cc
+  no_fault now middle lost behind place at t all left' bytes after how offset took' (Stops.read_fault part same) e = cc
+  no_fault now middle lost behind place at t all left' bytes after how offset took' (Stops.memory part same) e = cc
   no_fault now middle lost behind place at t all left' bytes after how offset took' (Stops.fault k is same) e =
       let more = taken t.rest middle left' bytes t.left took' in
       let joins : bytes ++ more.0 ≡ records_of t.later ++ (0 ∷ behind) = sym more.2 ∙ sym (append-nil t.rest) ∙ ap (λ (l : List ℕ). t.rest ++ l) (sym all) ∙ t.joins in
@@ -215,8 +215,8 @@ module _ {F : Type 0} (o : Office F) (chart : List ℕ) (start : F) (whole : Lis
   no_fault now middle lost behind place at t all left' bytes after how offset took' (Stops.failed x frame ends fails) e = cc
 
   no_front_fault : (left left' : Option (List ℕ)) (how : FollowEnd) (s : IsShipped chart whole left) → s.lost ≡ [] → (offset : ℕ) → HeadEnds chart (length (o.history start)) left left' how → how ≢ StreamFault offset
-  no_front_fault left left' how s all offset (HeadEnds.read_fault bytes took') e = cc
-  no_front_fault left left' how s all offset (HeadEnds.memory bytes took') e = cc
+  no_front_fault left left' how s all offset (HeadEnds.read_fault bytes took' part) e = cc
+  no_front_fault left left' how s all offset (HeadEnds.memory bytes took' part) e = cc
   no_front_fault left left' how s all offset (HeadEnds.fault bytes k took' is) e =
       let first = taken s.given left left' bytes s.are took' in
       let more : List ℕ = (records_of (drop s.from whole) ++ 0 ∷ []) ++ s.behind in

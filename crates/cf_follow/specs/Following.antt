@@ -4,7 +4,7 @@ use Rattle.std.specs.Io.KnownBytes.{Consumes}
 use Rattle.cf_calls.specs.declared.entry.Entry.{Entry}
 use Rattle.cf_codec.specs.Entries.{payload}
 use Rattle.cf_journal.specs.Records.{records_of}
-use Rattle.cf_stream.specs.Streams.{HasFrame, HeadFault, RecordFault, most_chart, head_of, frame_of}
+use Rattle.cf_stream.specs.Streams.{HasFrame, HeadFault, HeadPart, RecordFault, RecordPart, most_chart, head_of, frame_of}
 use Rattle.cf_stream.specs.Readings.{ReadsHead}
 use Rattle.cf_follow.specs.Admitting.{Office, Fails}
 use Rattle.cf_follow.specs.declared.end.FollowEnd.{FollowEnd}
@@ -17,10 +17,12 @@ pub record DifferAt (a b : List ℕ) (at : ℕ) : Type 0 where
   pub same : take at a ≡ take at b
   pub differ : slice_get a at ≢ slice_get b at
 
--- the front of a stream wasn't read, or isn't one for an office of this chart and this many entries
+-- The front of a stream wasn't read, or isn't one for an office of this chart and this many
+-- entries. Where a read failed, fewer bytes were taken than the front has, and for want of memory
+-- no more than it has.
 pub data HeadEnds (chart : List ℕ) (len : ℕ) (left left' : Option (List ℕ)) : FollowEnd → Type 0 where
-  read_fault : (bytes : List ℕ) → Consumes left left' bytes → HeadEnds chart len left left' ReadFault
-  memory : (bytes : List ℕ) → Consumes left left' bytes → HeadEnds chart len left left' NoMemory
+  read_fault : (bytes : List ℕ) → Consumes left left' bytes → HeadPart 0 bytes → HeadEnds chart len left left' ReadFault
+  memory : (bytes : List ℕ) → Consumes left left' bytes → HeadPart 1 bytes → HeadEnds chart len left left' NoMemory
   fault : (bytes : List ℕ) (k : ℕ) → Consumes left left' bytes → HeadFault left' bytes k → HeadEnds chart len left left' (StreamFault k)
   other_chart : (from : ℕ) (theirs : List ℕ) (at : ℕ) → ReadsHead left left' from theirs → DifferAt chart theirs at → HeadEnds chart len left left' (OtherChart at)
   gap : (from : ℕ) → ReadsHead left left' from chart → len < from → HeadEnds chart len left left' (Gap from len)
@@ -38,11 +40,12 @@ pub record IsFrameOf (bytes : List ℕ) (e : Entry) : Type 0 where
   pub bytes_are : bytes ≡ frame_of (payload e)
 
 -- why it stops behind the records of the entries so far: the office as it is then, how many entries stand before the next record, where
--- that record begins, the bytes that were taken of it, and the office as it is left
+-- that record begins, the bytes that were taken of it, and the office as it is left. Where a read
+-- failed, they are fewer than a record, and for want of memory no more than one.
 pub data Stops {F : Type 0} (o : Office F) (now : F) (place at : ℕ) (bytes : List ℕ) (left : Option (List ℕ)) (after : F) : FollowEnd → Type 0 where
   done : bytes ≡ 0 ∷ [] → after ≡ now → Stops o now place at bytes left after Done
-  read_fault : after ≡ now → Stops o now place at bytes left after ReadFault
-  memory : after ≡ now → Stops o now place at bytes left after NoMemory
+  read_fault : RecordPart 0 bytes → after ≡ now → Stops o now place at bytes left after ReadFault
+  memory : RecordPart 1 bytes → after ≡ now → Stops o now place at bytes left after NoMemory
   fault : (k : ℕ) → RecordFault left bytes k → after ≡ now → Stops o now place at bytes left after (StreamFault (at + k))
   forked : (e own : Entry) → IsFrameOf bytes e → slice_get (o.history now) place ≡ Some own → own ≢ e → after ≡ now → Stops o now place at bytes left after (Forked (place + 1))
   refused : (e : Entry) (n : ℕ) → IsFrameOf bytes e → place ≡ length (o.history now) → o.refusal now e ≡ Some n → after ≡ now

@@ -107,7 +107,7 @@ impl Rest {
         }
     }
 
-    /// What the state grows by.
+    /// The allocator that the state takes its memory from.
     pub fn allocator(&self) -> Global {
         self.alloc
     }
@@ -161,8 +161,9 @@ impl Rest {
         adopted_place(&self.adopted, fund, year)
     }
 
-    /// Takes all memory for an entry that the rules accept, and keeps the entry ready, in the place of one that
-    /// was. The history stays. Where there is no memory, none is ready.
+    /// Reserves the memory that `apply` needs for an entry that the rules accept, and keeps the
+    /// entry as the ready (pending) one; an earlier ready entry is dropped. The history stays.
+    /// Where there is no memory, no entry is ready.
     pub fn reserve(&mut self, entry: Entry) -> Result<(), AllocError>
         requires { Adds self.old.plan self.old.entries entry }
         ensures plan { self.new.plan ≡ self.old.plan }

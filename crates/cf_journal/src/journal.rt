@@ -8,6 +8,7 @@ ghost use Rattle.cf_base.specs.Causes.{HasCause};
 ghost use Rattle.cf_calls.specs.declared.acts.Act.{Act as ActOf};
 ghost use Rattle.cf_calls.specs.declared.entry.Entry.{Entry as EntryOf};
 ghost use Rattle.cf_calls.specs.Form.{IsEntryInForm};
+ghost use Rattle.cf_disk.specs.Images.{written};
 ghost use Rattle.cf_disk.specs.Moments.{AtEachMoment};
 ghost use Rattle.cf_journal.specs.Layout.{RecoversTo, RecoversToEither};
 ghost use Rattle.cf_journal.specs.Records as records;
@@ -97,9 +98,10 @@ impl Journal {
         Ok(())
     }
 
-    /// Writes the reserved entry, whose act the journal's version has. From the start on a crash at any moment
-    /// leaves the history, or the history and the entry; after `Ok` it leaves both. After `Disk_` the entry is in
-    /// doubt exactly where the write of its gate, or the sync after that, failed. Where nothing is in doubt a
+    /// Writes the reserved entry, whose act the journal's version has. From the start of the call
+    /// on, a crash at any moment leaves the history, or the history with the entry. After `Ok` a
+    /// crash leaves the history with the entry. After `Disk_` the entry is in doubt exactly where
+    /// the write of its gate, or the sync after that write, failed. Where it isn't in doubt then, a
     /// crash leaves the history, and the next entry is written to the same place.
     pub fn append<D: Disk>(&mut self, disk: &mut D) -> Result<(), Disk_>
         requires reserved { (e : EntryOf) × Reserves self.old e × (has_act self.old e.change.act ≡ true) }
@@ -184,6 +186,7 @@ impl Journal {
         ensures version { version_of self.new ≡ (if is_ok result then 2 else 1) }
         ensures has { OnOk result ((act : ActOf) → has_act self.new act ≡ true) }
         ensures already { version_of self.old ≡ 2 → (is_ok result ≡ true) × (disk.new ≡ disk.old) }
+        ensures byte { IsTrue D.tells → version_of self.old ≡ 1 → OnOk result (D.content disk.new ≡ written 1 (2 ∷ []) (D.content disk.old)) }
 
         // What a crash leaves at any moment of the call.
         ensures any_moment { IsTrue D.tells → (chart : List ℕ) (history : List EntryOf)

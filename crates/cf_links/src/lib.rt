@@ -6,4 +6,4 @@ mod memory;
 mod tcp;
 
 pub use memory::{Coming, MemDoor, MemLink, Passed};
-pub use tcp::{TcpDoor, TcpLink};
+pub use tcp::{TcpDoor, TcpLink, doors_from};

@@ -5,6 +5,7 @@ ghost use Rattle.std.specs.Prelude.{◌≡◌, ◌≤◌, ◌+◌, None, [], tru
 use crate::fault::fault;
 use cf_base::Failed;
 use cf_http::{Door, Link};
+use std::alloc::{AllocError, Global};
 use std::io::{self, Read, Write};
 use std::net::{Net, Shutdown, TcpListener, TcpStream};
 use std::time::Duration;
@@ -158,6 +159,22 @@ impl<'a, R: Net<Listener = TcpListener, Stream = TcpStream>> TcpDoor<'a, R> {
             None => None,
         }
     }
+}
+
+/// Doors at so many ports from the first one on, each of which listens once it is asked for a link.
+pub fn doors_from<R: Net<Listener = TcpListener, Stream = TcpStream>>(
+    net: &R,
+    alloc: Global,
+    first: u16,
+    count: u16,
+) -> Result<Vec<TcpDoor<'_, R>>, AllocError>
+    requires { first + count ≤ 65535 }
+{
+    let mut doors = Vec::with_capacity(alloc, count as usize)?;
+    for place in 0..count {
+        doors.push(TcpDoor::new(net, first + place))?;
+    }
+    Ok(doors)
 }
 
 impl<R: Net<Listener = TcpListener, Stream = TcpStream>> Door for TcpDoor<'_, R> {

@@ -1,5 +1,6 @@
-//! The registers of a history as one, and what an entry makes of them: deeds and their posts, results, and the moves of
-//! control lines.
+//! The registers of a history as one, and what an entry makes of them: deeds and their posts,
+//! results, and the moves of control lines. Posts are made when an entry is reserved, which takes
+//! memory, and added to the ledger's sums when it is applied, which can't fail.
 #![tactic(auto)]
 
 mod accounts;

@@ -20,8 +20,9 @@ use cf_revenue::Revenue;
 use std::alloc::{AllocError, Global};
 use std::marker::Model;
 
-/// The registers that the entries of a history make. Each has the same five calls, and the office speaks to them
-/// through these alone. An act that no register knows leaves them all as they are.
+/// The registers that the entries of a history make. Each register has the calls `check`,
+/// `reserve`, `draws`, `apply` and `look`, with parameters of its own; the office speaks to all of
+/// them through this type. An act that no register knows leaves them as they are.
 pub struct Registers {
     orders: Orders,
     revenue: Revenue,

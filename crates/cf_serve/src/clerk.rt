@@ -55,6 +55,7 @@ fn body_code(body: &Body) -> u16
 }
 
 /// The code of what was given for a call: 500 for a fault of the disk, and 503 for want of memory.
+/// The program never asks for the 503: `write_given` leaves want of memory to the door.
 fn posted_code(given: &Posted) -> u16
     ensures { result ≡ code_of given.now }
 {

@@ -60,3 +60,25 @@ pub data RecordFault (left : Option (List ℕ)) (bytes : List ℕ) : ℕ → Typ
   bad_byte : (byte : ℕ) → bytes ≡ byte ∷ [] → byte ≢ 0 → byte ≢ 1 → RecordFault left bytes 0
   text : (part : List ℕ) (k : ℕ) → bytes ≡ 1 ∷ part → TextFault 1 most_payload left part k → RecordFault left bytes k
   no_payload : (text : List ℕ) → bytes ≡ frame_of text → length text ≤ most_payload → of_length (length text) (read_of 2 text) ≡ None → RecordFault left bytes 5
+
+-- ---- parts that weren't read whole. With `over` 0 the bytes that were taken are fewer than the
+-- part has that begins so, and with `over` 1 they may be all that it has.
+
+-- so many bytes
+abbrev pub PiecePart : ℕ → ℕ → List ℕ → Type 0
+PiecePart most over bytes = length bytes < most + over
+
+-- a length of at most `most`, and so many bytes
+pub data TextPart (most over : ℕ) (bytes : List ℕ) : Type 0 where
+  in_length : length bytes < 4 + over → TextPart most over bytes
+  in_text : (n : ℕ) (part : List ℕ) → n ≤ most → bytes ≡ to_be_bytes w32 n ++ part → length part < n + over → TextPart most over bytes
+
+-- FROM and the chart
+pub data HeadPart (over : ℕ) (bytes : List ℕ) : Type 0 where
+  in_from : length bytes < 8 + over → HeadPart over bytes
+  in_chart : (from : ℕ) (part : List ℕ) → bytes ≡ to_be_bytes w64 from ++ part → TextPart most_chart over part → HeadPart over bytes
+
+-- a record
+pub data RecordPart (over : ℕ) (bytes : List ℕ) : Type 0 where
+  in_byte : length bytes < 1 + over → RecordPart over bytes
+  in_payload : (part : List ℕ) → bytes ≡ 1 ∷ part → TextPart most_payload over part → RecordPart over bytes

@@ -1,11 +1,9 @@
 //! The program: the real ends of what `cf_top::run` works over.
 #![tactic(auto)]
 
-ghost use Rattle.std.specs.Prelude.{◌≤◌, ◌+◌};
-
 use cf_base::{FileSource, StdSink, StdSource};
 use cf_disk::FileDisk;
-use cf_links::TcpDoor;
+use cf_links::{TcpDoor, doors_from};
 use cf_runs::{Ran, Status, tell};
 use cf_top::run;
 use cf_words::{Command, WordsRefused, read_words};
@@ -28,22 +26,6 @@ fn wordless(error: &io::Error) -> Status {
     } else {
         Status::BadWords
     }
-}
-
-/// Doors at so many ports from the first one on, each of which listens once it is asked for a link.
-fn doors_from<R: Net<Listener = TcpListener, Stream = TcpStream>>(
-    net: &R,
-    alloc: Global,
-    first: u16,
-    count: u16,
-) -> Result<Vec<TcpDoor<'_, R>>, AllocError>
-    requires { first + count ≤ 65535 }
-{
-    let mut doors = Vec::with_capacity(alloc, count as usize)?;
-    for place in 0..count {
-        doors.push(TcpDoor::new(net, first + place))?;
-    }
-    Ok(doors)
 }
 
 /// The doors that the words ask for. Other words than those of `serve` ask for none.

@@ -3,6 +3,7 @@
 
 mod clerk;
 mod cut;
+mod net;
 mod peers;
 mod script;
 mod stage;

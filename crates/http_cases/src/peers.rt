@@ -1,9 +1,12 @@
 //! Peers over the loopback device.
 
+ghost use Rattle.std.specs.Prelude.{◌≤◌, ◌+◌};
+
 use crate::clerk::Clerk;
+use crate::net::ShownNet;
 use crate::script::{print_door_end, shown};
 use cf_http::{Door, serve_door};
-use cf_links::{Coming, TcpDoor};
+use cf_links::{Coming, TcpDoor, doors_from};
 use std::io::{self, Read, Write};
 use std::net::{Shutdown, TcpStream};
 use std::time::Duration;
@@ -58,7 +61,7 @@ fn see_served<D: Door>(
 
 fn see_at(
     rt: &HostRuntime,
-    door: &mut TcpDoor<'_, HostRuntime>,
+    door: &mut TcpDoor<'_, ShownNet<'_>>,
     links: u32,
     clerk: &mut Clerk,
     texts: &[Coming],
@@ -76,6 +79,21 @@ pub fn see_peers(
     clerk: &mut Clerk,
     texts: &[Coming],
 ) -> io::Result<()> {
-    let mut door = TcpDoor::patient(rt, 0, Duration::from_millis(100));
+    let net = ShownNet { rt, opens: true };
+    let mut door = TcpDoor::patient(&net, 0, Duration::from_millis(100));
     see_at(rt, &mut door, links, clerk, texts)
+}
+
+/// Has the doors of so many ports from the first one on be served, while the network opens none:
+/// what each asks for is printed.
+pub fn see_ports(rt: &HostRuntime, clerk: &mut Clerk, first: u16, count: u16) -> io::Result<()>
+    requires { first + count ≤ 65535 }
+{
+    let net = ShownNet { rt, opens: false };
+    let mut doors = doors_from(&net, rt.alloc(), first, count)?;
+    for door in &mut doors {
+        let end = serve_door(rt.alloc(), door, 1, clerk);
+        print_door_end(rt, end, clerk.asked)?;
+    }
+    Ok(())
 }

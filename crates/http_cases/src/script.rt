@@ -12,11 +12,12 @@
 //! | `reads N ..` | serves the link in pieces of N bytes; prints how many bytes had come, and how many were sent, before each read |
 //! | `count` | serves the link, each request by one fixed answer, and prints how it ended and how many bytes it took |
 //! | `link N` | lets the link be the next one of the door, in pieces of N bytes |
-//! | `peers LINKS` | serves so many links of a door over the loopback device, at which a peer for each `link` stands; one without bytes says nothing |
+//! | `peers LINKS` | serves so many links of a door over the loopback device, at which a peer for each `link` stands; one without bytes says nothing; prints the address at which the door asks to listen |
+//! | `ports FIRST DOORS` | serves the doors that `serve` has at so many ports, over a network that opens none |
 //! | `door LINKS N` | serves so many links of the door, whose call N of `next` fails, from 1 |
 
 use crate::clerk::Verdict;
-use crate::peers::see_peers;
+use crate::peers::{see_peers, see_ports};
 use crate::stage::{Played, Stage};
 use cf_http::{DoorEnd, LinkEnd};
 use cf_links::{MemLink, Passed};
@@ -211,6 +212,19 @@ fn see_peered(rt: &HostRuntime, stage: &Stage, words: &str) -> io::Result<()> {
     see_peers(rt, links, &mut stage.clerk(), stage.links.as_slice())
 }
 
+/// Shows what the doors of `serve` ask for: the words are the first port, and how many doors there
+/// are.
+fn see_asked(rt: &HostRuntime, stage: &Stage, words: &str) -> io::Result<()> {
+    let (first, count) = words.split_once(" ").unwrap_or((words, ""));
+    let first = first.parse::<u16>().unwrap_or(0);
+    let count = count.parse::<u16>().unwrap_or(0);
+    if u32::from(first) + u32::from(count) <= 65535 {
+        see_ports(rt, &mut stage.clerk(), first, count)
+    } else {
+        Ok(())
+    }
+}
+
 /// Plays a line.
 pub fn play(rt: &HostRuntime, stage: &mut Stage, line: &str) -> io::Result<()> {
     let (verb, rest) = line.split_once(" ").unwrap_or((line, ""));
@@ -237,6 +251,7 @@ pub fn play(rt: &HostRuntime, stage: &mut Stage, line: &str) -> io::Result<()> {
             stage.links.clear();
             Ok(())
         }
+        "ports" => see_asked(rt, stage, rest),
         _ => {
             prepare(stage, verb, rest)?;
             Ok(())

@@ -12,6 +12,8 @@
 //! | `fail N`, `stop N` | the next run's disk fails at its call N, or stops there |
 //! | `limit N` | the next run's output takes N bytes |
 //! | `feed`, `feed N` | the next run reads the stream that was shipped last, or N bytes of it |
+//! | `alter AT BYTE` | sets a byte of what it is fed |
+//! | `lose N` | read N of its input, from 0, fails |
 //! | `door`, `door N` | a door more for the next run, whose call N for a link fails |
 //! | `link`, `link N` | a link more at that door, which takes N bytes |
 //! | `get TARGET`, `post CALL` | a request more on that link |

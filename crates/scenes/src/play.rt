@@ -107,6 +107,8 @@ pub fn play<R: Files + Print + AllocGlobal + Threads + Wait + Sync>(
         Word::Stop(call) => stage.stop = call,
         Word::Limit(limit) => stage.limit = limit,
         Word::Feed(count) => stage.feed(count)?,
+        Word::Alter { at, byte } => stage.alter(at, byte),
+        Word::Lose(read) => stage.lose = read,
         Word::Empty => stage.bytes.clear(),
         Word::Cut(len) => stage.bytes.truncate(len),
         Word::Set { at, byte } => stage.set_byte(at, byte),

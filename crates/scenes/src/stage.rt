@@ -22,6 +22,8 @@ pub struct Stage {
     pub lines: String,
     /// What the next run reads behind these lines.
     pub fed: Vec<u8>,
+    /// The read of its input, from 0, that fails.
+    pub lose: u64,
     /// The stream that the last `ship` wrote.
     pub shipped: Vec<u8>,
     /// What the disk holds, all of it synced.
@@ -104,6 +106,7 @@ impl Stage {
             chart: String::new(alloc),
             lines: String::new(alloc),
             fed: Vec::new(alloc),
+            lose: u64::MAX,
             shipped: Vec::new(alloc),
             bytes: Vec::new(alloc),
             kept: Vec::new(alloc),
@@ -131,6 +134,13 @@ impl Stage {
         Ok(())
     }
 
+    /// Changes a byte of what the next run is fed.
+    pub fn alter(&mut self, at: usize, byte: u8) {
+        if let Some(slot) = self.fed.get_mut(at) {
+            *slot = byte;
+        }
+    }
+
     /// A run of these words at these doors, with what was prepared.
     fn ran<R: Threads + Wait + Sync, D: Door + Drop + Send>(
         &self,
@@ -145,7 +155,7 @@ impl Stage {
         let disk = disk_with(self.alloc, self.bytes.as_slice(), fails, stop)?;
         let words = words_of(self.alloc, words)?;
         let mut chart = source(self.alloc, self.chart.as_str())?;
-        let mut input = MemSource::new(self.input()?);
+        let mut input = MemSource::failing(self.input()?, self.lose);
         let mut out = MemSink::limited(self.alloc, self.limit);
         let Ran { status, disk } = run(
             rt,
@@ -167,6 +177,7 @@ impl Stage {
         self.last = Some(disk);
         self.lines.clear();
         self.fed.clear();
+        self.lose = u64::MAX;
         self.fails.clear();
         self.stop = 0;
         self.limit = usize::MAX;

@@ -14,6 +14,8 @@ pub enum Word<'a> {
     Stop(u64),
     Limit(usize),
     Feed(usize),
+    Alter { at: usize, byte: u8 },
+    Lose(u64),
     Door(u64),
     Link(usize),
     Get(&'a str),
@@ -64,12 +66,20 @@ fn check(rest: &str) -> Word<'_> {
     }
 }
 
-fn set(rest: &str) -> Word<'_> {
+/// A place and the byte that is to stand there.
+fn place_and_byte(rest: &str) -> (usize, u8) {
     let (at, value) = rest.split_once(" ").unwrap_or((rest, ""));
-    Word::Set {
-        at: size(at),
-        byte: byte(value),
-    }
+    (size(at), byte(value))
+}
+
+fn set(rest: &str) -> Word<'_> {
+    let (at, byte) = place_and_byte(rest);
+    Word::Set { at, byte }
+}
+
+fn alter(rest: &str) -> Word<'_> {
+    let (at, byte) = place_and_byte(rest);
+    Word::Alter { at, byte }
 }
 
 /// How many bytes a link takes, or a run is fed: all, where the script doesn't say.
@@ -131,6 +141,8 @@ pub fn word_of(line: &str) -> Word<'_> {
         "stop" => Word::Stop(number(rest)),
         "limit" => Word::Limit(size(rest)),
         "feed" => Word::Feed(count_or_all(rest)),
+        "alter" => alter(rest),
+        "lose" => Word::Lose(number(rest)),
         "run" => Word::Run(rest),
         "calls" => Word::Calls,
         _ => door_word(verb, rest),

@@ -1,0 +1,11 @@
+// Cells of a sheet of comma-separated values.
+
+// What a spreadsheet takes for a formula: it begins with one of these marks, or with a minus that
+// no amount follows.
+const FORMULA = /^[=+@\t\r]|^-(?![\d.]*$)/;
+
+/** A text as a cell: a formula has a quote before it, as `books` writes it, and is a text so. */
+export function cell(text) {
+    const guarded = FORMULA.test(text) ? `'${text}` : text;
+    return /[",\r\n]/.test(guarded) ? `"${guarded.replaceAll('"', '""')}"` : guarded;
+}
