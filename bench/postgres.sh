@@ -18,16 +18,15 @@ if [ "$(id -u)" -eq 0 ]; then
     chmod 755 "$scratch"
 fi
 mkdir "$scratch/data" "$scratch/ours" && { [ "$(id -u)" -ne 0 ] || chown "$user" "$scratch/data"; }
-server=
-trap '[ -z "$server" ] || { kill -INT "$server"; wait "$server"; }; rm -rf "$scratch"' EXIT
+lock=$scratch/data/base/postmaster.pid
+trap '[ ! -e "$lock" ] || { kill -INT "$(head -n 1 "$lock")"; wait; }; rm -rf "$scratch"' EXIT
 cd "$scratch/data" || exit 1
 as initdb --pgdata="$scratch/data/base" --auth=trust --username=bench > /dev/null || exit 1
 as postgres -D "$scratch/data/base" -c listen_addresses= -c unix_socket_directories="$scratch/data" -c synchronous_commit=on > "$scratch/log" 2>&1 &
-server=$!
 tries=100
 until psql -h "$scratch/data" -U bench -c "select 1" postgres > /dev/null 2>&1; do
     tries=$((tries - 1))
-    [ "$tries" -gt 0 ] && kill -0 "$server" || { cat "$scratch/log"; exit 1; }
+    [ "$tries" -gt 0 ] || { cat "$scratch/log"; exit 1; }
     sleep 0.1
 done
 psql -q -v ON_ERROR_STOP=1 -h "$scratch/data" -U bench postgres << 'SQL' || exit 1
