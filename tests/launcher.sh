@@ -88,7 +88,10 @@ for name in cityfund books low cases; do
     : > "$city/crates/$name/src/main.rt"
 done
 : > "$city/crates/low/must-fail/an.edit"
-cp build cityfund books "$city/"
+# The builds of the stub need next to no room.
+sed 's/^NEEDS = .*/NEEDS = 10_000_000/' build > "$city/build"
+chmod +x "$city/build"
+cp cityfund books "$city/"
 printf '# The crates.\ncases: low\ncityfund: low std\nbooks: low\nlow:\n' > "$city/crates.txt"
 echo 'Handles allowed: none.' > "$city/HANDLES"
 echo 1 > "$scratch/kit/line"
@@ -219,7 +222,7 @@ verdict "a disk that is full when rt writes" $?
 mkdir "$scratch/small"
 if [ "$(id -u)" -eq 0 ] && mount -t tmpfs -o size=1m tmpfs "$scratch/small" 2> /dev/null; then
     fails "a disk that is too small" "the disk of $scratch/small has 0.0 GB free, and a build needs \
-3.0; TMPDIR may name a folder of another one" env TMPDIR="$scratch/small" "$city/build"
+0.0; TMPDIR may name a folder of another one" env TMPDIR="$scratch/small" "$city/build"
     umount "$scratch/small"
 else
     echo "launcher: skipped: no disk of its own can be mounted"

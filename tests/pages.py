@@ -174,7 +174,8 @@ def link_faults(all_pages):
     for path, text in all_pages.items():
         flat = spaced(re.sub(r"^    .*$", "", text, flags=re.M))
         for span in re.findall(r"`([\w./-]+/[\w./-]*)`", flat):
-            if span.startswith(SHOWN[1:7]) and not os.path.exists(os.path.join(TOP, span)):
+            # A word in capitals stands for a name.
+            if span.startswith(SHOWN[1:7]) and not re.search(r"/[A-Z]+(/|$)", span) and not os.path.exists(os.path.join(TOP, span)):
                 yield f"{path}: there is no {span}"
         for page, heading in re.findall(r"`((?:docs/)?[\w-]+\.md)`,? \(?\"([^\"]+)\"", flat):
             target = page if page in all_pages else f"docs/{page}"
