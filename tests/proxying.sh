@@ -17,6 +17,7 @@ proxying() {
         printf 'machine localhost login %s password "%s"\n' "$user" "$user's word" > "$etc/$user.netrc"
     done > "$etc/passwords"
     sed -e "s|/etc/cityfund/|$etc/|" -e "s|/opt/cityfund/page/|$top/page/|" -e "s|/var/lib/cityfund-page/|$etc/page/|" \
+        -e "s|/var/log/nginx/|$etc/|" -e "s|/var/log/cityfund/|$etc/|" \
         -e "s|listen 443|listen 127.0.0.1:$port|" -e "s|127.0.0.1:8101|127.0.0.1:$first|" -e "s|127.0.0.1:8102|127.0.0.1:$((first + 1))|" \
         -e "s|127.0.0.1:8103|127.0.0.1:$((first + 2))|" -e "s|127.0.0.1:8104|127.0.0.1:$((first + 3))|" \
         -e "s|default none;|default none;$desks|" "$top/examples/operate/nginx.conf" > "$etc/cityfund.conf"
