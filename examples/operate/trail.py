@@ -75,11 +75,11 @@ class Log:
             raise Fault(f"{path}: another one is at work") from None
         self.lines, self.before, self.end, self.last = 0, FIRST, 0, b""
         last = self.last_line()
-        if last:
+        if last is not None:
             self.resume(last)
 
     def last_line(self):
-        """The last whole line. What stands behind it was being written when the machine stopped; it stands in ENTERED, and is cut off."""
+        """The last whole line, or None. What stands behind it was being written when the machine stopped, and is cut off: ENTERED has it."""
         size = os.fstat(self.file).st_size
         at, tail = size, b""
         while at > 0 and tail.count(b"\n") < 2:
@@ -90,7 +90,7 @@ class Log:
             say(f"{self.path}: a line of {cut} bytes without an end is taken back")
             os.ftruncate(self.file, size - cut)
         whole = tail[: len(tail) - cut]
-        return whole[:-1].rpartition(b"\n")[2]
+        return whole[:-1].rpartition(b"\n")[2] if whole else None
 
     def resume(self, last):
         fields = fields_of(last)
