@@ -11,8 +11,10 @@
     YEAR-fund-ID.json    what the fund's control lines have of that year: place, day, desk, key, call, cents, number, fund, department, object
 
 A file is written beside and moved into its place, and nothing is made where the journal hasn't changed. Years are apart, so a
-browser loads that which it shows. An entry that can't be followed is skipped, and said on standard error and in state.json, with
-the time: the lists of all others are made.
+browser loads that which it shows.
+
+An entry that can't be followed is skipped, and said on standard error and in state.json, with the time.
+The lists of all others are made.
 """
 import csv
 import datetime
@@ -64,7 +66,9 @@ class Calendar:
 
 
 class Item:
-    """An order's item: its fund, what is open of it, the fiscal year that it is of, whether it is live, and how often it was carried."""
+    """An order's item: its fund, what is open of it, the fiscal year that it is of, whether it is
+    live, and how often it was carried.
+    """
 
     def __init__(self, fund, left, year):
         self.fund, self.left, self.year, self.is_live, self.carried = fund, left, year, True, 0
@@ -77,8 +81,8 @@ class Documents:
         self.calendar = calendar
         self.lapsing = {row["id"] for row in chart["fund"] if row["policy"] == "lapse"}
         self.open = {kind: {} for kind in ("requisition", "order", "voucher", "bill", "asset", "bond")}
-        # Of each order what is shown of it, and its items; of each voucher that isn't paid what it took of which item, how often that
-        # was carried by then, and whether it ended it.
+        # Of each order what is shown of it, and its items; of each voucher that isn't paid what it
+        # took of which item, how often that was carried by then, and whether it ended it.
         self.orders, self.items, self.taken = {}, {}, {}
 
     def enter(self, kind, row, call, number, **more):
@@ -148,7 +152,9 @@ class Documents:
         return charge["order"], item, by, item.carried, is_final
 
     def take_void_voucher(self, row, call):
-        """What an item was carried with, an earlier voucher doesn't give back; one that the voucher ended is live again, in its year."""
+        """What an item was carried with, an earlier voucher doesn't give back; one that the voucher
+        ended is live again, in its year.
+        """
         self.end("voucher", call["voucher"])
         for order, item, by, carried, is_final in self.taken.pop(call["voucher"], ()):
             if item.carried == carried:
@@ -200,7 +206,9 @@ class Documents:
             self.list_order(number)
 
     def roll(self, item):
-        """An item's account may have no line in the year after; then it lapses, too, and is listed all the same."""
+        """An item's account may have no line in the year after; then it lapses, too, and is listed
+        all the same.
+        """
         if item.left == 0 or item.fund in self.lapsing:
             item.is_live = False
         else:

@@ -66,7 +66,9 @@ class Machine:
             subprocess.run([PROGRAM, "found"], cwd=self.path, check=True, stdout=subprocess.DEVNULL)
 
     def serve(self):
-        """Serves, and gives the first port. A group of its own: it is ended with all that runs beside it."""
+        """Serves, and gives the first port. A group of its own: it is ended with all that runs
+        beside it.
+        """
         first = doors.free_ports(4)
         words = [PROGRAM, "serve", "--port", str(first), "--doors", "4", "--links", "1000000"]
         self.serving = subprocess.Popen(words, cwd=self.path, stdout=subprocess.DEVNULL, stderr=subprocess.DEVNULL, start_new_session=True)
@@ -96,7 +98,9 @@ def ended(process):
 
 
 class Desk(threading.Thread):
-    """A desk at a door of its own: it writes each call down before it sends it, and its place when it was answered."""
+    """A desk at a door of its own: it writes each call down before it sends it, and its place when
+    it was answered.
+    """
 
     def __init__(self, make, door):
         super().__init__(daemon=True)
@@ -122,7 +126,9 @@ class Desk(threading.Thread):
 
 
 class Repeated(threading.Thread):
-    """A script that runs again and again, as the timer has it: the status and the last line of each run that ended."""
+    """A script that runs again and again, as the timer has it: the status and the last line of each
+    run that ended.
+    """
 
     def __init__(self, pause, *words):
         super().__init__(daemon=True)
@@ -153,7 +159,9 @@ def wait(name, until):
 
 
 def follow_ended(second):
-    """The second machine's `follow` ends by itself once the stream is cut: its link is that of a machine that is gone."""
+    """The second machine's `follow` ends by itself once the stream is cut: its link is that of a
+    machine that is gone.
+    """
     pid = second.path / "pid"
     wait("follow", lambda: not pid.exists() or not os.path.exists(f"/proc/{pid.read_text().strip()}"))
 
@@ -181,7 +189,9 @@ def went_on(name, machine, desks, kept):
 
 
 def named(name, machine, log, kept, desks):
-    """`trail` over the log of the first machine names each answer that the journal hasn't, and no other: by its place, desk and key."""
+    """`trail` over the log of the first machine names each answer that the journal hasn't, and no
+    other: by its place, desk and key.
+    """
     ran = subprocess.run([TRAIL, machine.path / "fund.journal", log], env=CITY, capture_output=True, text=True)
     told = sorted(line.split(": ")[2].split(" to ")[0] for line in ran.stderr.splitlines() if "an answer that was lost" in line)
     lost = sorted(f"{key} of desk {desk.sent[0]['desk']}, entry {place}" for desk in desks for key, place in desk.places.items() if place > kept)
@@ -237,7 +247,8 @@ def drill(number):
     answered = sum(len(each.places) for each in desks)
     log = kept_log(desks)
 
-    # What the second machine has: at least what it told last, and it is the beginning of what the first one accepted.
+    # What the second machine has: at least what it told last, and it is the beginning of what the
+    # first one accepted.
     follow_ended(second)
     shipped = int(shipping.done()[-1].split()[1])
     calls, there = first.calls(), second.calls()

@@ -1,8 +1,10 @@
 """The lists of the page (page/lists.py) beside what is open, which they may have more of and never less:
 
-    listed.py office TALKS CALLS [FIRST]    of random talks that the independent office (office/) answers, from a seed on, 25 calls by 25
+    listed.py office TALKS CALLS [FIRST]    of random talks that the independent office (office/)
+                                            answers, from a seed on, each 25 calls
     listed.py books BOOKS FOLDER            of the journal in a folder, beside `books open`
-    listed.py skips BOOKS FOLDER PLACE..    the same, where these entries are those that can't be followed, and are said with the time
+    listed.py skips BOOKS FOLDER PLACE..    the same, where these entries can't be followed, which is
+                                            said with the time
 
 It says the first difference, with status 1.
 """

@@ -1,5 +1,6 @@
-# Read by tests/operate.sh once nginx stands before the doors of a journal that is served (proxying.sh), with asked and verdict at hand: who
-# entered what, from the proxy's line to the copy of the log. `city` is the folder of the programs.
+# Read by tests/operate.sh once nginx stands before the doors of a journal that is served
+# (proxying.sh), with asked and verdict at hand: who entered what, from the proxy's line to the copy
+# of the log. `city` is the folder of the programs.
 
 trail=$city/examples/operate/trail
 log=$scratch/trail.log
@@ -108,7 +109,8 @@ sleep 1
 joined 0 "$((4 + $(cat "$scratch/gone"))) entries, 1 of them without a line"
 [ "$(cat "$scratch/gone")" -gt 0 ]
 verdict "some of them were taken" $?
-# While the keeper is down, and over a start of the program: nothing is lost, and a call without an answer is told by what was sent.
+# While the keeper is down, and over a start of the program: nothing is lost, and a call without an
+# answer is told by what was sent.
 kill "$keeping"
 wait "$keeping" 2> /dev/null
 stop_serving
@@ -122,7 +124,8 @@ lines "$had" "what came while the keeper was down"
 joined 0 " 1 without an answer, 0 without their entry"
 [ "$(grep -c '	late	' "$scratch/rows")" -eq 2 ]
 verdict "the rows of that call: $(grep '	late	' "$scratch/rows")" $?
-# A door that takes a call and doesn't answer: a stand-in takes the call, the program takes it at the machine, and the answer never comes.
+# A door that takes a call and doesn't answer: a stand-in takes the call, the program takes it at
+# the machine, and the answer never comes.
 stop_serving
 python3 - "$first" "$scratch/serving" "$program" << 'PY' &
 import socket, subprocess, sys

@@ -1,5 +1,6 @@
-"""Who entered what (docs/OPERATE.md), without a proxy: trail.py over files that a proxy might have written, and `trail` over logs that were
-changed, cut, of another journal, or of a clock that goes back:
+"""Who entered what (docs/OPERATE.md), without a proxy: trail.py over files that a proxy might have
+written, and `trail` over logs that were changed or cut, are of another journal, or of a clock that goes
+back:
 
     trails.py PROGRAM BOOKS    run by tests/trails.sh in a folder of its own
 """
@@ -37,7 +38,9 @@ os.chmod("city/books", 0o755)
 # ---- journals, the proxy's lines, and logs of them
 
 def journal(name, talk, lines=None):
-    """A journal in a folder of its own, of the first calls of a talk of examples/ under Rivertown's chart, or of these."""
+    """A journal in a folder of its own, of the first calls of a talk of examples/ under Rivertown's
+    chart, or of these.
+    """
     folder = pathlib.Path(name)
     folder.mkdir()
     shutil.copy(TOP / "examples/rivertown/chart.toml", folder)
@@ -80,7 +83,9 @@ def trail(*words):
 
 
 def asked(name, status, text, *words):
-    """`trail` with these words ends so, and says a line on standard error that begins so; no text, no finding."""
+    """`trail` with these words ends so, and says a line on standard error that begins so; no text,
+    no finding.
+    """
     ran = trail(*words)
     found = [line for line in ran.stderr.splitlines() if line.startswith("trail: line ") or text and line.startswith(text)]
     expect(name, ran.returncode == status and (any(line.startswith(text) for line in found) if text else not found), f"{ran.returncode} {ran.stderr}")
@@ -335,14 +340,14 @@ expect("the words of trail.py", ran.returncode == 2 and "trail.py ENTERED LOG" i
 
 # ---- how long it takes
 
-pathlib.Path("in").write_bytes(b"".join(line_of(place, calls[0], 0, key=f"k{place}") for place in range(1, 100001)))
+pathlib.Path("in").write_bytes(b"".join(line_of(place, calls[0], 0, key=f"k{place}") for place in range(1, 20001)))
 pathlib.Path("out").unlink()
 began = time.time()
 keeper("in", "out")
 kept_in = time.time() - began
 began = time.time()
 ran = trail("--check", "out")
-print(f"trails: 100,000 lines kept in {kept_in:.1f} s and checked in {time.time() - began:.1f} s, {os.stat('out').st_size // 100000} bytes each")
-expect("a long log", ran.returncode == 0 and ran.stdout.startswith("lines: 100000\n"), ran.stderr)
+print(f"trails: 20,000 lines kept in {kept_in:.1f} s and checked in {time.time() - began:.1f} s, {os.stat('out').st_size // 20000} bytes each")
+expect("a long log", ran.returncode == 0 and ran.stdout.startswith("lines: 20000\n"), ran.stderr)
 
 sys.exit(verdicts.status())

@@ -1,6 +1,7 @@
 #!/bin/sh
-# The log of who entered what (docs/OPERATE.md), tried by trails.py without a proxy: what `trail` joins, logs that were changed or cut, that
-# are of another journal, or whose clock goes back, and how trail.py goes on after each stop. tests/operate.sh runs it, too.
+# The log of who entered what (docs/OPERATE.md), tried by trails.py without a proxy: what `trail`
+# joins, logs that were changed or cut, that are of another journal, or whose clock goes back, and
+# how trail.py goes on after each stop. tests/operate.sh runs it, too.
 cd "$(dirname "$0")/.." || exit 1
 top=$(pwd)
 . tests/program.sh

@@ -17,16 +17,19 @@ fail() {
     exit 1
 }
 
-# LOG is the log of who entered what (docs/OPERATE.md). It is copied before the journal, so that each of its lines has its entry there,
-# and kept beside the journal's copy as .trail, with its checksum in COPIES/checksums-trail, where its chain is whole and the last copy is
-# the beginning of it. Else the journal's copy is kept all the same, the log's is kept as refused.trail, and the script ends with 1.
+# LOG is the log of who entered what (docs/OPERATE.md). It is copied before the journal, so that
+# each of its lines has its entry there, and kept beside the journal's copy as .trail, with its
+# checksum in COPIES/checksums-trail, where its chain is whole and the last copy is the beginning of
+# it. Else the journal's copy is kept all the same, the log's is kept as refused.trail, and the
+# script ends with 1.
 
 # copy_log: what is wrong with the log's copy in the scratch folder, or nothing.
 copy_log() {
     head -n "$(wc -l < "$log")" "$log" > "$scratch/trail" || { echo "$log can't be copied"; return; }
     "$city/examples/operate/trail" --check "$scratch/trail" > "$scratch/chain" 2> "$scratch/said"
     status=$?
-    # With 5 the clock went back, or the proxy's file was another one: the log tells it, and is whole.
+    # With 5 the clock went back, or the proxy's file was another one: the log tells it, and is
+    # whole.
     [ "$status" -eq 0 ] || [ "$status" -eq 5 ] || { echo "$log: $(head -n 1 "$scratch/said")"; return; }
     old=$(tail -n 1 "$copies/checksums-trail" 2> /dev/null | cut -d ' ' -f 3)
     [ -n "$old" ] || return

@@ -61,7 +61,8 @@ function whoami(r) {
 
 // ---- who entered what (docs/OPERATE.md): the line that nginx writes of a change, once it has answered it
 
-// A line for a change whose answer doesn't come: a door may have taken it. What is answered gets another line, or none.
+// A line for a change whose answer doesn't come: a door may have taken it. What is answered gets
+// another line, or none.
 function sent(r, call) {
     r.variables.cityfund_entered = JSON.stringify({
         time: r.variables.time_iso8601,
@@ -79,7 +80,8 @@ function digest(bytes) {
     return require('crypto').createHash('sha256').update(bytes).digest('hex');
 }
 
-// A call as the journal has it, however its caller wrote it: names in rising order, no spaces, and nothing that an entry doesn't keep.
+// A call as the journal has it, however its caller wrote it: names in rising order, no spaces, and
+// nothing that an entry doesn't keep.
 function plain(value) {
     if (Array.isArray(value)) {
         return '[' + value.map(plain).join(',') + ']';

@@ -1,16 +1,23 @@
 #!/usr/bin/env python3
-"""Keeps what the proxy writes of accepted changes in a log in which each line has the digest of the line before:
+"""Keeps what the proxy writes of accepted changes in a log in which each line has the digest of the line
+before:
 
-    trail.py ENTERED LOG            follows ENTERED, the proxy's file, and appends its lines to LOG, until it is stopped
+    trail.py ENTERED LOG            follows ENTERED, the proxy's file, and appends its lines to LOG
     trail.py ENTERED LOG --once     appends the lines that are there, and ends
 
-It begins behind the last line that LOG has, so what the proxy wrote while it wasn't at work comes then. A line of LOG is a line of
-ENTERED with three fields in front: `line`, its number; `before`, the SHA-256 digest of the line before without its newline, 64 zeros
-for the first; and `end`, where its line ends in ENTERED. So one ENTERED gives one LOG, byte for byte. Two lines aren't the
-proxy's: `mark` says that ENTERED is another file than it was, or was cut, and `bad` has a line that is no JSON object.
+It begins behind the last line that LOG has, so what the proxy wrote while it wasn't at work comes
+then. A line of LOG is a line of ENTERED with three fields in front:
 
-The status is 1 where a file can't be read or written, 2 for bad words, and 3 where LOG ends with a line that isn't of such a log:
-then nothing was appended, and a person must look. docs/OPERATE.md, "Who entered what".
+    line       its number
+    before     the SHA-256 digest of the line before without its newline; 64 zeros for the first line
+    end        where its line ends in ENTERED
+
+So one ENTERED gives one LOG, byte for byte. Two lines aren't the proxy's: `mark` says that ENTERED is
+another file than it was, or was changed, and `bad` has a line that is no JSON object.
+
+The status is 1 where a file can't be read or written, 2 for bad words, and 3 where LOG ends with a line
+that isn't of such a log. Then nothing was appended, and a person must look. docs/OPERATE.md, "Who
+entered what".
 """
 import datetime
 import fcntl
@@ -64,7 +71,9 @@ def taken(line, fields):
 
 
 class Log:
-    """The log, held against a second hand: how many lines it has, the digest of the last one, and where that ends in ENTERED."""
+    """The log, held against a second hand: how many lines it has, the digest of the last one, and
+    where that ends in ENTERED.
+    """
 
     def __init__(self, path):
         self.path = path
@@ -79,7 +88,9 @@ class Log:
             self.resume(last)
 
     def last_line(self):
-        """The last whole line, or None. What stands behind it was being written when the machine stopped, and is cut off: ENTERED has it."""
+        """The last whole line, or None. What stands behind it was being written when the machine
+        stopped, and is cut off: ENTERED has it.
+        """
         size = os.fstat(self.file).st_size
         at, tail = size, b""
         while at > 0 and tail.count(b"\n") < 2:
@@ -129,7 +140,8 @@ class Log:
 
 
 def as_kept(line):
-    """A line of ENTERED as it is kept: itself, or its bytes as a text where it is no JSON object."""
+    """A line of ENTERED as it is kept: itself, or its bytes as a text where it is no JSON object.
+    """
     fields = fields_of(line) if line.startswith(b'{"') else None
     if fields and not {"line", "before", "end", "mark", "bad"} & fields.keys():
         return line
