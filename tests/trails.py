@@ -185,6 +185,9 @@ ran = asked("a journal that was restored from an older copy", 4, "trail: line 7:
 expect("and the next one", "trail: line 8: r1 of desk 5, entry 4 " in ran.stderr and "trail: line 5:" not in ran.stderr, ran.stderr)
 again = journal("again", None, b"".join(json.dumps(call).encode() + b"\n" for call in [*calls[:3], calls[5], calls[3]]))
 ran = asked("and sent again", 4, "trail: line 8: r1 of desk 5, entry 4 to treasury at 2026-03-02T09:07:00+00:00: the journal has it as entry 5", again, "log")
+kept("twice", b"".join(entered[:3]) + line_of(2, calls[1], 8))
+asked("and sent again to the same place", 4, "trail: line 4: v1 of desk 4, entry 2 to payables at 2026-03-02T09:08:00+00:00: "
+      "it was entered before, so the journal went back between them", first, "twice")
 altered = [dict(call, vendor=78) if call["key"] == "v2" else call for call in calls]
 forged = journal("forged", None, b"".join(json.dumps(call).encode() + b"\n" for call in altered))
 asked("an entry that isn't what was sent", 4, "trail: line 5: v2 of desk 4, entry 3 to payables at 2026-03-02T09:04:00+00:00: the entry isn't the call that was sent", forged, "log")
