@@ -127,9 +127,11 @@ verdict "the rows of that call: $(grep '	late	' "$scratch/rows")" $?
 # A door that takes a call and doesn't answer: a stand-in takes the call, the program takes it at
 # the machine, and the answer never comes.
 stop_serving
-python3 - "$first" "$scratch/serving" "$program" << 'PY' &
+python3 - "$first" "$scratch/serving" "$program" "$scratch/listening" << 'PY' &
 import socket, subprocess, sys
 listening = socket.create_server(("127.0.0.1", int(sys.argv[1])))
+open(sys.argv[4], "w").close()
+listening.settimeout(60)
 link, _ = listening.accept()
 text = b""
 while b"}]}" not in text:
@@ -138,7 +140,10 @@ subprocess.run([sys.argv[3], "desk"], cwd=sys.argv[2], input=text.split(b"\r\n\r
 link.close()
 PY
 mute=$!
-sleep 1
+for try in $(seq 300); do
+    [ ! -e "$scratch/listening" ] || break
+    sleep 0.1
+done
 asked "an answer that is lost" deputy 502 '^{"proxy":"no door"}$' "$calls" --data "$(voucher lost)"
 wait "$mute"
 start_serving 4 100000
