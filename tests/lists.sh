@@ -1,8 +1,9 @@
 #!/bin/sh
 # Tries the lists of `books` on the journals of the examples (lists.py): posts and balances beside the looks of a desk and beside what
 # the independent office makes of the same talk, row by row; what is open beside the looks at each number; and each statement beside the
-# records of `report`, with the names of funds and control lines. Then that a row which is changed, lost or moved is seen; and two lists
-# of Rivertown's first day, worked by hand. BOOKS names another program than the one that rt built last.
+# records of `report`, with the names of funds and control lines. Then that a row which is changed, lost or moved is seen; two lists
+# of Rivertown's first day, worked by hand; and that the lists of the page (page/lists.py, tried by listed.py) have all that is open, and
+# go on where they can't follow an entry. BOOKS names another program than the one that rt built last.
 cd "$(dirname "$0")/.." || exit 1
 top=$(pwd)
 . tests/program.sh
@@ -35,6 +36,8 @@ for talk in examples/*.jsonl examples/*/*.jsonl; do
     founded "$talk" || continue
     python3 tests/lists.py "$program" "$books" "$scratch" "$chart" "$talk"
     verdict "the lists of $talk" $?
+    python3 tests/listed.py books "$books" "$scratch"
+    verdict "the page's lists of $talk" $?
 done
 
 # ---- a row that is changed, lost or moved
@@ -98,5 +101,21 @@ gov,0,,500002,Public works,1000.00" balances 2026 --csv
 expect "what is open of the first day" 0 "call,number,item,day,desk,key,party,year,line,fund_name,dept_name,open,next,closed
 bill,1,,2025-07-06,6,l1,5,2026,,,,900.00,,
 voucher,2,,2025-07-05,4,v2,77,2026,,,,400.00,," open --csv
+
+# ---- the lists of the page
+
+python3 tests/listed.py office 10 400
+verdict "the page's lists of random talks" $?
+# Two invoices on orders that aren't there: each is skipped and said, and what is open of the others is listed.
+founded examples/reopened-order.jsonl
+cat > "$scratch/changed" << PROGRAM
+#!/bin/sh
+"$books" "\$@" | case \$1 in
+calls) sed '4s/"order":1/"order":98/; 19s/"order":1/"order":99/' ;;
+*) cat ;;
+esac
+PROGRAM
+python3 tests/listed.py skips "$scratch/changed" "$scratch" 4 19
+verdict "the page's lists past what can't be followed" $?
 
 summary lists

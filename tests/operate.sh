@@ -10,7 +10,7 @@ PATH=$PATH:/usr/sbin
 . tests/program.sh
 books=${BOOKS:-$(built books)}
 scratch=$(mktemp -d) || exit 1
-trap 'kill $serving $proxy 2> /dev/null; rm -rf "$scratch"' EXIT
+trap 'kill $serving $proxy $keeping 2> /dev/null; rm -rf "$scratch"' EXIT
 . tests/expect.sh
 
 # missing TOOL..: says which tool isn't there.
@@ -27,6 +27,8 @@ mkdir -p "$city/out"
 cp -R cityfund books page examples/operate/doors.sh "$city/"
 cp "$program" "$city/out/cityfund"
 cp "$books" "$city/out/books"
+mkdir -p "$city/examples/operate"
+cp examples/operate/trail examples/operate/trail.py "$city/examples/operate/"
 
 # ---- the units
 
@@ -322,4 +324,12 @@ start_serving 4 100000
 wait "$sending"
 [ "$(grep -c '"ok".*"was"' "$scratch/got")" -eq 3 ]
 verdict "a day across a start" $?
+
+# ---- who entered what, and the second machine
+
+. tests/trailing.sh
+sh tests/trails.sh
+verdict "the log without a proxy" $?
+sh tests/drill.sh
+verdict "the drill" $?
 summary operate

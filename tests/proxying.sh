@@ -7,7 +7,8 @@ module=/usr/lib/nginx/modules/ngx_http_js_module.so
 # placed FILE: the text of a file of examples/operate/, with the paths of this try in place of those
 # of a city. `installed` names another folder that stands for /opt/cityfund than this checkout.
 placed() {
-    sed -e "s|/etc/cityfund/|$etc/|g" -e "s|/opt/cityfund/|${installed:-$top}/|g" -e "s|/var/lib/cityfund-page|$etc/page|g" -e "s|listen 80 |listen 127.0.0.1:$plain |" \
+    sed -e "s|/etc/cityfund/|$etc/|g" -e "s|/opt/cityfund/|${installed:-$top}/|g" -e "s|/var/lib/cityfund-page|$etc/page|g" \
+        -e "s|/var/log/nginx/|$etc/|g" -e "s|/var/log/cityfund/|$etc/|g" -e "s|listen 80 |listen 127.0.0.1:$plain |" \
         -e "s|listen 443 |listen 127.0.0.1:$port |" -e "s|127.0.0.1:8101|127.0.0.1:$first|" -e "s|127.0.0.1:8102|127.0.0.1:$((first + 1))|" \
         -e "s|127.0.0.1:8103|127.0.0.1:$((first + 2))|" -e "s|127.0.0.1:8104|127.0.0.1:$((first + 3))|" "${installed:-$top}/examples/operate/$1"
 }
