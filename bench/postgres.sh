@@ -9,7 +9,7 @@ PATH=$PATH:$(find /usr/lib/postgresql /usr/pgsql* -maxdepth 2 -name bin -type d 
 for tool in initdb postgres psql pgbench cc; do
     command -v $tool > /dev/null || { echo "postgres: skipped: there is no $tool"; exit 0; }
 done
-. "$top/tests/program.sh"
+. "$top/tests/lib/program.sh"
 scratch=$(mktemp -d "${1:-/var/tmp}/postgres.XXXXXX") || exit 1
 as() { "$@"; }
 if [ "$(id -u)" -eq 0 ]; then
@@ -54,7 +54,7 @@ end
 $$;
 SQL
 echo "select voucher('v' || nextval('number'), '2025-07-05', 77, :client_id, 1);" > "$scratch/voucher.sql"
-PYTHONPATH=$top/tests:$top/bench PYTHONDONTWRITEBYTECODE=1 python3 - "$program" "$top/examples/rivertown/chart.toml" "$scratch" << 'PY'
+PYTHONPATH=$top/tests/lib:$top/bench PYTHONDONTWRITEBYTECODE=1 python3 - "$program" "$top/examples/rivertown/chart.toml" "$scratch" << 'PY'
 import os, re, subprocess, sys
 
 import syncs
