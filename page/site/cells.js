@@ -4,7 +4,7 @@
 // no amount follows.
 const FORMULA = /^[=+@\t\r]|^-(?![\d.]*$)/;
 
-/** A text as a cell: a formula has a quote before it, as `books` writes it, and is a text so. */
+/** A text as a cell: a formula has a quote before it, and so is a text to a spreadsheet. */
 export function cell(text) {
     const guarded = FORMULA.test(text) ? `'${text}` : text;
     return /[",\r\n]/.test(guarded) ? `"${guarded.replaceAll('"', '""')}"` : guarded;

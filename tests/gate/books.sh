@@ -276,29 +276,6 @@ sed 's/^level = "department"$/level = "dept"/' examples/rivertown/chart.toml > "
 expect "a bad level, with the id of its row" 3 "books: chart refused: fund 1 (id 2) has a bad level" check-chart level.toml
 expect "the lines of a chart that is refused" 3 "books: chart refused: fund 1 (id 2) has a bad level" lines level.toml
 expect "a window of 61 days" 3 "books: chart refused: source 1 has a window of 61 days" check-chart window.toml
-# What a spreadsheet takes for a formula has a quote before it in records, and stands as it is with
-# tabs; an amount below zero stays.
-found again examples/rivertown/chart.toml
-for key in '=1+1' '+1' '-1+1' '@SUM(1)' '=1,2' '-' '-1.5' plain; do
-    echo '{"call":"receive","desk":5,"key":"'"$key"'","on":"2025-07-05","source":1,"amount":100}'
-done > "$scratch/formulas"
-(cd "$scratch/again" && "$program" desk < "$scratch/formulas" > replies && ! grep -v '"ok"' replies)
-verdict "keys that are formulas" $?
-said=$(cd "$scratch/again" && "$books" list --csv | sed '1d; s/^[0-9]*,2025-07-05,5,//; s/,receive,1.00,,$//' | xargs -d '\n')
-[ "$said" = "'=1+1 '+1 '-1+1 '@SUM(1) \"'=1,2\" - -1.5 plain" ]
-verdict "formulas in records: $said" $?
-said=$(cd "$scratch/again" && "$books" list | cut -f 4 | xargs)
-[ "$said" = "=1+1 +1 -1+1 @SUM(1) =1,2 - -1.5 plain" ]
-verdict "formulas with tabs: $said" $?
-said=$(cd "$scratch/again" && "$books" posts --account 400001 --csv | sed '1d; s/.*,//' | sort -u)
-[ "$said" = "-1.00" ]
-verdict "amounts below zero in records: $said" $?
-sed 's/^name = "General Fund"$/name = "=1+1"/' examples/rivertown/chart.toml > "$scratch/formula.toml"
-found again "$scratch/formula.toml"
-(cd "$scratch/again" && "$program" desk < "$top/examples/first-day.jsonl" > replies)
-said=$(cd "$scratch/again" && { "$books" statement 2026 balance --csv | sed -n 2p; "$program" report 2026 balance --csv | sed -n 1p; } | xargs -d '\n')
-[ "$said" = "'=1+1,Cash,400.00 =1+1,,,,," ]
-verdict "a fund whose name is a formula: $said" $?
 "$books" --help > "$scratch/help" 2> "$scratch/err" && grep -q '^books calls' "$scratch/help" && [ ! -s "$scratch/err" ]
 verdict "help" $?
 [ "$("$books" --version)" = "books 1" ]
