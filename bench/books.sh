@@ -3,7 +3,7 @@
 # programs. The journal has an adoption and 100,000 direct vouchers of one item, or as many as its argument says. Prints the seconds of each command,
 # the least of three runs, with entries a second and how many times that is of what `cityfund report` takes over the same journal.
 top=$(cd "$(dirname "$0")/.." && pwd)
-. "$top/tests/program.sh"
+. "$top/tests/lib/program.sh"
 books=${BOOKS:-$(built books)}
 scratch=$(mktemp -d) || exit 1
 trap 'rm -rf "$scratch"' EXIT

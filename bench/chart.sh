@@ -3,7 +3,7 @@
 # under the small example chart, on the built program. The journal lies in memory (/dev/shm), where a sync costs nothing.
 # Prints two rows.
 top=$(cd "$(dirname "$0")/.." && pwd)
-. "$top/tests/program.sh"
+. "$top/tests/lib/program.sh"
 scratch=$(mktemp -d /dev/shm/chart.XXXXXX) || exit 1
 trap 'rm -rf "$scratch"' EXIT
 cd "$scratch" && python3 - "$program" "$top" <<'PY'

@@ -3,7 +3,7 @@
 # the built program. The journal has an adoption, and receipts, vouchers and their payments in turn, 100,000 entries or as many as the
 # argument says; every fourth is a voucher that is paid and claimed. Each command is run three times; the least of its seconds count.
 top=$(cd "$(dirname "$0")/.." && pwd)
-. "$top/tests/program.sh"
+. "$top/tests/lib/program.sh"
 scratch=$(mktemp -d) || exit 1
 trap 'rm -rf "$scratch"' EXIT
 cp "$top/examples/milltown/chart.toml" "$scratch/chart.toml"

@@ -5,7 +5,7 @@
 # over 100,000 that are fully worn, void or disposed of, which cost nothing more than none; and the same over bonds. The journal lies in
 # memory (/dev/shm), where a sync costs nothing, so this is the work of the program and of the system's calls.
 top=$(cd "$(dirname "$0")/.." && pwd)
-. "$top/tests/program.sh"
+. "$top/tests/lib/program.sh"
 scratch=$(mktemp -d /dev/shm/close.XXXXXX) || exit 1
 trap 'rm -rf "$scratch"' EXIT
 cp "$top/examples/rivertown/chart.toml" "$scratch/rivertown.toml"

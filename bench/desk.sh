@@ -2,7 +2,7 @@
 # Lines a second and peak memory of the desk's loop, on the built program: form replies and looks over an empty
 # history, so nothing is written to the journal. Prints two rows.
 top=$(cd "$(dirname "$0")/.." && pwd)
-. "$top/tests/program.sh"
+. "$top/tests/lib/program.sh"
 scratch=$(mktemp -d) || exit 1
 trap 'rm -rf "$scratch"' EXIT
 cp "$top/examples/rivertown/chart.toml" "$scratch/chart.toml"

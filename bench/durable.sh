@@ -5,7 +5,7 @@
 # the time to open the journal is taken off. The files lie in a folder made in the folder of the argument, or in bench/. Syncs are
 # timed by a library that is put before the system's, so it needs cc. Where OTHER names another program it is measured in turn with the first.
 top=$(cd "$(dirname "$0")/.." && pwd)
-. "$top/tests/program.sh"
+. "$top/tests/lib/program.sh"
 command -v cc > /dev/null || { echo "durable: skipped: there is no cc"; exit 0; }
 scratch=$(mktemp -d "${1:-$top/bench}/durable.XXXXXX") || exit 1
 trap 'rm -rf "$scratch"' EXIT

@@ -5,7 +5,7 @@
 # that takes the opening of the journal, which a desk on empty input shows, and the comparison; and nothing may be written. Prints
 # the rates and the peak memory. Where TMPDIR is in memory the first part shows what following costs beside the disk.
 top=$(cd "$(dirname "$0")/.." && pwd)
-. "$top/tests/program.sh"
+. "$top/tests/lib/program.sh"
 scratch=$(mktemp -d) || exit 1
 trap 'rm -rf "$scratch"' EXIT
 cp "$top/examples/rivertown/chart.toml" "$scratch/chart.toml"

@@ -7,7 +7,7 @@
 # (/dev/shm), where a sync costs nothing, so this is the work of the program and of the system's calls; bench/durable.sh has
 # the disk's.
 top=$(cd "$(dirname "$0")/.." && pwd)
-. "$top/tests/program.sh"
+. "$top/tests/lib/program.sh"
 scratch=$(mktemp -d /dev/shm/growth.XXXXXX) || exit 1
 trap 'rm -rf "$scratch"' EXIT
 cp "$top/examples/rivertown/chart.toml" "$scratch/chart.toml"

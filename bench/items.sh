@@ -5,7 +5,7 @@
 # memory (/dev/shm), where a sync costs nothing. Prints a row a call, with the times of 32 items over those of one; where
 # calls are too few for the processor's clock, 0.
 top=$(cd "$(dirname "$0")/.." && pwd)
-. "$top/tests/program.sh"
+. "$top/tests/lib/program.sh"
 scratch=$(mktemp -d /dev/shm/items.XXXXXX) || exit 1
 trap 'rm -rf "$scratch"' EXIT
 cd "$scratch" && python3 - "$program" "${1:-20000}" <<'PY'

@@ -3,7 +3,7 @@
 # one item, or as many as its argument says. Its bytes are written here, as syncs would make a desk too slow for that.
 # Prints the seconds of a desk on empty input, and entries a second.
 top=$(cd "$(dirname "$0")/.." && pwd)
-. "$top/tests/program.sh"
+. "$top/tests/lib/program.sh"
 scratch=$(mktemp -d) || exit 1
 trap 'rm -rf "$scratch"' EXIT
 cp "$top/examples/rivertown/chart.toml" "$scratch/chart.toml"

@@ -6,7 +6,7 @@
 # microseconds in its two syncs and beside them, and its share of half the syncs of a file that keeps its length. Takes some minutes; a
 # first argument takes the place of 1,500,000.
 top=$(cd "$(dirname "$0")/.." && pwd)
-. "$top/tests/program.sh"
+. "$top/tests/lib/program.sh"
 scratch=$(mktemp -d /dev/shm/limit.XXXXXX) || exit 1
 trap 'rm -rf "$scratch"' EXIT
 cp "$top/examples/rivertown/chart.toml" "$scratch/chart.toml"

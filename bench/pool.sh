@@ -4,7 +4,7 @@
 # has 100,000 receipts over the days of a month, or as many as the argument says. Prints the least seconds of seven runs of each, in
 # turn; `pool` is to take at most 1.2 times what the report does.
 top=$(cd "$(dirname "$0")/.." && pwd)
-. "$top/tests/program.sh"
+. "$top/tests/lib/program.sh"
 scratch=$(mktemp -d) || exit 1
 trap 'rm -rf "$scratch"' EXIT
 cp "$top/examples/milltown/chart.toml" "$scratch/chart.toml"

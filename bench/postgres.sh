@@ -9,7 +9,7 @@ PATH=$PATH:$(find /usr/lib/postgresql /usr/pgsql* -maxdepth 2 -name bin -type d 
 for tool in initdb postgres psql pgbench cc; do
     command -v $tool > /dev/null || { echo "postgres: skipped: there is no $tool"; exit 0; }
 done
-. "$top/tests/program.sh"
+. "$top/tests/lib/program.sh"
 scratch=$(mktemp -d "${1:-/var/tmp}/postgres.XXXXXX") || exit 1
 as() { "$@"; }
 if [ "$(id -u)" -eq 0 ]; then
@@ -18,16 +18,15 @@ if [ "$(id -u)" -eq 0 ]; then
     chmod 755 "$scratch"
 fi
 mkdir "$scratch/data" "$scratch/ours" && { [ "$(id -u)" -ne 0 ] || chown "$user" "$scratch/data"; }
-server=
-trap '[ -z "$server" ] || { kill -INT "$server"; wait "$server"; }; rm -rf "$scratch"' EXIT
+lock=$scratch/data/base/postmaster.pid
+trap '[ ! -e "$lock" ] || { kill -INT "$(head -n 1 "$lock")"; wait; }; rm -rf "$scratch"' EXIT
 cd "$scratch/data" || exit 1
 as initdb --pgdata="$scratch/data/base" --auth=trust --username=bench > /dev/null || exit 1
 as postgres -D "$scratch/data/base" -c listen_addresses= -c unix_socket_directories="$scratch/data" -c synchronous_commit=on > "$scratch/log" 2>&1 &
-server=$!
 tries=100
 until psql -h "$scratch/data" -U bench -c "select 1" postgres > /dev/null 2>&1; do
     tries=$((tries - 1))
-    [ "$tries" -gt 0 ] && kill -0 "$server" || { cat "$scratch/log"; exit 1; }
+    [ "$tries" -gt 0 ] || { cat "$scratch/log"; exit 1; }
     sleep 0.1
 done
 psql -q -v ON_ERROR_STOP=1 -h "$scratch/data" -U bench postgres << 'SQL' || exit 1
@@ -55,7 +54,7 @@ end
 $$;
 SQL
 echo "select voucher('v' || nextval('number'), '2025-07-05', 77, :client_id, 1);" > "$scratch/voucher.sql"
-PYTHONPATH=$top/tests:$top/bench PYTHONDONTWRITEBYTECODE=1 python3 - "$program" "$top/examples/rivertown/chart.toml" "$scratch" << 'PY'
+PYTHONPATH=$top/tests/lib:$top/bench PYTHONDONTWRITEBYTECODE=1 python3 - "$program" "$top/examples/rivertown/chart.toml" "$scratch" << 'PY'
 import os, re, subprocess, sys
 
 import syncs

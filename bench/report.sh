@@ -3,7 +3,7 @@
 # generated, on the built program. The journal has an adoption and 1,000,000 direct vouchers of one item, or as many as the
 # argument says. Prints the seconds of each, and the calls a second of `generate 100000`, which is to be 100,000 at least.
 top=$(cd "$(dirname "$0")/.." && pwd)
-. "$top/tests/program.sh"
+. "$top/tests/lib/program.sh"
 scratch=$(mktemp -d) || exit 1
 trap 'rm -rf "$scratch"' EXIT
 cp "$top/examples/rivertown/chart.toml" "$scratch/chart.toml"

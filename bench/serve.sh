@@ -12,11 +12,11 @@
 # The files that are synced lie in a folder made in the folder of the argument, or in bench/. The callers run on the same processors.
 top=$(cd "$(dirname "$0")/.." && pwd)
 PATH=$PATH:/usr/sbin
-. "$top/tests/program.sh"
+. "$top/tests/lib/program.sh"
 scratch=$(mktemp -d "${1:-$top/bench}/serve.XXXXXX") || exit 1
 memory=$(mktemp -d -p /dev/shm) || exit 1
 trap 'rm -rf "$scratch" "$memory"' EXIT
-PYTHONPATH=$top/tests:$top/bench PYTHONDONTWRITEBYTECODE=1 timeout 1800 python3 - "$program" "$top/examples/rivertown/chart.toml" "$scratch" "$memory" "${OTHER:-}" <<'PY'
+PYTHONPATH=$top/tests/lib:$top/bench PYTHONDONTWRITEBYTECODE=1 timeout 1800 python3 - "$program" "$top/examples/rivertown/chart.toml" "$scratch" "$memory" "${OTHER:-}" <<'PY'
 import atexit, json, multiprocessing, os, re, shutil, subprocess, sys, time
 
 import city

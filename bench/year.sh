@@ -6,7 +6,7 @@
 # The journal lies in memory (/dev/shm), where a sync costs nothing, so this is the work of the program and of the system's
 # calls.
 top=$(cd "$(dirname "$0")/.." && pwd)
-. "$top/tests/program.sh"
+. "$top/tests/lib/program.sh"
 scratch=$(mktemp -d /dev/shm/year.XXXXXX) || exit 1
 trap 'rm -rf "$scratch"' EXIT
 cp "$top/examples/rivertown/chart.toml" "$scratch/chart.toml"

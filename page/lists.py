@@ -270,6 +270,8 @@ def rows_of(books, journal, capital):
     listed = csv.DictReader(io.StringIO(given(books, "list", journal, "--csv")))
     for row, line in zip(listed, given(books, "calls", journal).splitlines()):
         call = json.loads(line)
+        # As a record for a spreadsheet a key may have a quote more.
+        row["key"] = call["key"]
         row["cents"] = int(row["amount"].replace(".", "")) if row["amount"] else None
         row["number"], row["second"] = int(row["number"] or 0), int(row["second"] or 0)
         row["assets"] = sum(item["object"] in capital for item in call["items"]) if call["call"] == "voucher" else 0

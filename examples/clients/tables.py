@@ -3,7 +3,7 @@
 
     tables.py [CALLS.md]      prints each call with its fields, a line each
 
-It stops at a cell that it can't read. tests/fields.py finds where the tables and the program differ.
+It stops at a cell that it can't read. tests/gate/fields.py finds where the tables and the program differ.
 """
 import os
 import re

@@ -1,7 +1,7 @@
 #!/bin/sh
 # Copies the journal of the folder JOURNAL to the folder COPIES, while the desks are at work, and tries the copy:
 #
-#     backup.sh JOURNAL COPIES
+#     backup.sh JOURNAL COPIES [LOG]
 #
 # The copy is kept as the moment's name with .journal, with its checksum in COPIES/checksums, once the rules judged each entry again,
 # all entries of the last copy were found in it, and a desk opened it in a folder of its own. Else it says what is wrong, keeps
@@ -20,10 +20,44 @@ fail() {
     exit 1
 }
 
-[ $# -eq 2 ] || { echo "backup.sh JOURNAL COPIES" >&2; exit 2; }
+# LOG is the log of who entered what (docs/OPERATE.md). It is copied before the journal, so that
+# each of its lines has its entry there, and kept beside the journal's copy as .trail, with its
+# checksum in COPIES/checksums-trail, where its chain is whole and the last copy is the beginning of
+# it. Else the journal's copy is kept all the same, the log's is kept as refused.trail, and the
+# script ends with 1.
+
+# copy_log: what is wrong with the log's copy in the scratch folder, or nothing.
+copy_log() {
+    head -n "$(wc -l < "$log")" "$log" > "$scratch/trail" || { echo "$log can't be copied"; return; }
+    "$city/examples/operate/trail" --check "$scratch/trail" > "$scratch/chain" 2> "$scratch/said"
+    status=$?
+    # With 5 the clock went back, or the proxy's file was another one: the log tells it, and is
+    # whole.
+    [ "$status" -eq 0 ] || [ "$status" -eq 5 ] || { echo "$log: $(head -n 1 "$scratch/said")"; return; }
+    old=$(tail -n 1 "$copies/checksums-trail" 2> /dev/null | cut -d ' ' -f 3)
+    [ -n "$old" ] || return
+    (cd "$copies" && tail -n 1 checksums-trail | sha256sum --check --status) || { echo "$old isn't what it was: see its checksum"; return; }
+    head -c "$(wc -c < "$copies/$old")" "$scratch/trail" | cmp -s - "$copies/$old" || echo "lines of $old aren't in $log"
+}
+
+# keep_log NAME: keeps the log's copy under this name, and says what it has, or what is wrong.
+keep_log() {
+    if [ -n "$wrong" ]; then
+        [ ! -e "$scratch/trail" ] || mv -f "$scratch/trail" "$copies/refused.trail"
+        echo "backup: failed: $wrong" >&2
+        return 1
+    fi
+    mv "$scratch/trail" "$copies/$1" && (cd "$copies" && sha256sum "$1" >> checksums-trail && sync "$1" checksums-trail) || return 1
+    echo "backup: $1: $(tr '\n' ' ' < "$scratch/chain")"
+}
+
+[ $# -eq 2 ] || [ $# -eq 3 ] || { echo "backup.sh JOURNAL COPIES [LOG]" >&2; exit 2; }
+log=$3
 scratch=$(mktemp -d "$copies/trial.XXXXXX") || exit 1
 trap 'rm -rf "$scratch"' EXIT
 trap 'exit 1' HUP INT TERM
+
+[ -z "$log" ] || wrong=$(copy_log)
 
 # A desk that takes an entry back in the very moment, after a fault of the disk, can make a copy look damaged: then another is made.
 tries=3
@@ -51,8 +85,11 @@ name=$(date -u +%Y-%m-%dT%H%M%SZ).journal
 mv "$scratch/fund.journal" "$copies/$name" && (cd "$copies" && sha256sum "$name" >> checksums && sync "$name" checksums) ||
     fail "$copies can't be written"
 echo "backup: $name: $(tr '\n' ' ' < "$scratch/has")"
+status=0
+[ -z "$log" ] || keep_log "${name%.journal}.trail" || status=1
 # The names of copies are moments, and rise.
 [ -z "$named" ] || [ "$(printf '%s\n%s\n' "$named" "$name" | sort | tail -n 1)" = "$name" ] || {
     echo "backup: failed: the clock went back: the copy before this one is $named" >&2
-    exit 1
+    status=1
 }
+exit "$status"

@@ -74,6 +74,9 @@ function post(r) {
     if (call !== null && call.desk !== undefined && call.desk !== Number(r.variables.cityfund_desk)) {
         return said(r, 403, {proxy: 'not your desk'});
     }
+    if (call !== null && call.desk !== undefined) {
+        return sent(r, call);
+    }
     r.internalRedirect('@doors');
 }
 
@@ -82,4 +85,75 @@ function whoami(r) {
     said(r, 200, {user: r.variables.remote_user, desk: Number(r.variables.cityfund_desk) || 0});
 }
 
-export default {post, whoami};
+// ---- who entered what (docs/OPERATE.md): the line that nginx writes of a change, once it has answered it
+
+// A line for a change whose answer doesn't come: a door may have taken it. What is answered gets
+// another line, or none.
+function sent(r, call) {
+    r.variables.cityfund_entered = JSON.stringify({
+        time: r.variables.time_iso8601,
+        user: r.variables.remote_user,
+        address: r.variables.remote_addr,
+        desk: call.desk,
+        key: typeof call.key === 'string' && call.key.length <= 40 ? call.key : '',
+        place: 0,
+        body: digest(r.requestBuffer)
+    });
+    r.internalRedirect('@entry');
+}
+
+function digest(bytes) {
+    return require('crypto').createHash('sha256').update(bytes).digest('hex');
+}
+
+// A call as the journal has it, however its caller wrote it: names in rising order, no spaces, and
+// nothing that an entry doesn't keep.
+function plain(value) {
+    if (Array.isArray(value)) {
+        return '[' + value.map(plain).join(',') + ']';
+    }
+    if (value === null || typeof value !== 'object') {
+        return JSON.stringify(value);
+    }
+    return '{' + Object.keys(value).sort().map(name => JSON.stringify(name) + ':' + plain(value[name])).join(',') + '}';
+}
+
+// The line of a change that was answered so: empty where it wasn't accepted.
+function lineOf(r, answer) {
+    var reply = JSON.parse(answer);
+    if (reply.ok === undefined) {
+        return '';
+    }
+    var line = JSON.parse(r.variables.cityfund_entered), call = JSON.parse(r.requestText);
+    delete call.after;
+    if (call.back === false) {
+        delete call.back;
+    }
+    line.time = r.variables.time_iso8601;
+    line.place = reply.at;
+    if (reply.was !== undefined) {
+        line.place = reply.was;
+        line.repeat = true;
+    }
+    line.call = digest(plain(call));
+    return JSON.stringify(line);
+}
+
+// The answer goes on as it came. One to a change is short; each request has this text of its own.
+var answer = '';
+
+function entered(r, data, flags) {
+    if (answer.length < 4096) {
+        answer += data;
+    }
+    if (flags.last) {
+        try {
+            r.variables.cityfund_entered = lineOf(r, answer);
+        } catch (fault) {
+            r.error(`an answer that can't be read: ${fault}`);
+        }
+    }
+    r.sendBuffer(data, flags);
+}
+
+export default {post, whoami, entered};

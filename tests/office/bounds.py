@@ -1,4 +1,4 @@
-"""The commands at their bounds, a program against the independent office; tests/reach.sh calls it:
+"""The commands at their bounds, a program against the independent office; tests/long/reach.sh calls it:
 
     bounds.py PROGRAM FOLDER
 """

@@ -1,6 +1,6 @@
 """What each call is answered: the least broken rule, or what the call makes.
 
-It takes calls in form only, and of issues and leases also those that break a rule of form of their own (forms.py). tests/agree.sh
+It takes calls in form only, and of issues and leases also those that break a rule of form of their own (forms.py). tests/gate/agree.sh
 compares it with the program over random talks, and with the stored replies of examples/.
 """
 import datetime

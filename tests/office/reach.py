@@ -1,4 +1,4 @@
-"""The commands beside desk and found over random histories, a program against the independent office; tests/reach.sh calls it:
+"""The commands beside desk and found over random histories, a program against the independent office; tests/long/reach.sh calls it:
 
     reach.py PROGRAM FOLDER TALKS CALLS FIRST
 

@@ -377,7 +377,7 @@ class Talk:
 
 
 def write_talk(folder, office, lines):
-    """Writes a talk, each call with its reply, its chart, and the statements of some years at its end: tests/agree.sh reads them."""
+    """Writes a talk, each call with its reply, its chart, and the statements of some years at its end: tests/gate/agree.sh reads them."""
     os.makedirs(folder)
     with open(folder + "/chart.toml", "w") as file:
         file.write(toml_of(office.chart))

@@ -1,4 +1,4 @@
-"""The page in a real browser, over `serve` and nginx: run by tests/page.sh, which says where they are.
+"""The page in a real browser, over `serve` and nginx: run by tests/long/page.sh, which says where they are.
 
     page.py URL JOURNAL LISTS PROGRAM FIRSTPORT [PICTURES]
 
@@ -10,7 +10,7 @@ import os
 import sys
 
 HERE = os.path.dirname(os.path.abspath(__file__))
-sys.path[:0] = [HERE, os.path.dirname(HERE)]
+sys.path[:0] = [HERE, os.path.join(os.path.dirname(HERE), "lib")]
 import entering
 import faults
 import looking

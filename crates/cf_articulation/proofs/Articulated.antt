@@ -33,6 +33,7 @@ use Rattle.cf_articulation.proofs.FundPosts.{IsFundPost, fund_posts}
 use Rattle.cf_articulation.proofs.GovPosts.{IsGovPost, gov_posts, position_accounts}
 use Rattle.cf_articulation.proofs.ItemAccounts.{items_are}
 use Rattle.cf_articulation.proofs.NetChange.{net_change_is}
+use Rattle.cf_articulation.proofs.OpenBills.{bills_are}
 use Rattle.cf_articulation.proofs.OpenVouchers.{vouchers_are}
 use Rattle.cf_articulation.proofs.PositionChange.{no_fund_posts, of_no_fund, position_change}
 use Rattle.cf_articulation.proofs.ReadCharts.{read_chart}
@@ -135,6 +136,7 @@ change_rows plan h year from is =
 pub articulates : (plan : Plan) (history : List Entry) (year : ℕ) → IsWhole plan → HasOwnAccounts plan → IsLegal plan history → Articulates plan history year
 articulates plan history year whole own legal = record {
   balance_sheet = balance_sheet plan history year;
+  bills = bills_are plan history whole legal;
   vouchers = vouchers_are plan history legal;
   total_balances = ap amount_of (balance_ends plan history year) ∙ sym (of_funds plan history year own legal);
   net_change = λ fund. operating_ends plan history year fund ∙ net_change_is plan year fund.id history own legal;

@@ -1,7 +1,7 @@
 -- The budgetary comparison of each legal history articulates with its operating statement: what a
 -- fund's lines have expended in a year
 -- is the expenditures of the year.
-use Rattle.std.proofs.Common.{◌≡◌, ℕ, ◌+◌, ◌≤◌, Bool, true, false, not, if◌then◌else◌, ◌==◌, ◌&&◌, List, [], ◌∷◌, ◌++◌, map, Option, Some, None, is_some, ℤ, pos, ◌+ℤ◌, ◌-ℤ◌, refl, sym, ap, subst, ◌∙◌, arith}
+use Rattle.std.proofs.Common.{◌≡◌, ℕ, Bool, true, false, not, if◌then◌else◌, ◌==◌, ◌&&◌, List, [], ◌∷◌, ◌++◌, map, Option, Some, None, is_some, ℤ, pos, ◌+ℤ◌, ◌-ℤ◌, refl, sym, ap, subst, ◌∙◌, arith}
 use Rattle.std.specs.List.{filter, list_any, AllByRecursion}
 use Rattle.std.proofs.lemmas.Int.{ints}
 use Rattle.cf_base.specs.declared.calendar.Day.{Day}
@@ -23,15 +23,15 @@ use Rattle.cf_chart.specs.Plan.{Plan, department_at, fund_at, line_of, object_at
 use Rattle.cf_model.specs.Bonds.{Bond, Due, coupon, next_due}
 use Rattle.cf_model.specs.Calendar.{document_year, year_of_day}
 use Rattle.cf_model.specs.Charted.{is_capital, is_current, is_interest, is_principal}
-use Rattle.cf_model.specs.Deeds.{bonds_deeds, deeds_of, dispose_deed, due_deeds, spent_item}
+use Rattle.cf_model.specs.Deeds.{bonds_deeds, deeds_of, due_deeds, spent_item}
 use Rattle.cf_model.specs.DocumentRules.{state_refusal}
-use Rattle.cf_model.specs.Documents.{Documents, Expenditure, documents_of, draws_voucher, expenditure_of, expenditure_step, expenditures_step, paid_after}
+use Rattle.cf_model.specs.Documents.{Documents, Expenditure, documents_of, expenditure_of, expenditure_step, expenditures_step, paid_after}
 use Rattle.cf_model.specs.LineNumbers.{expended_amount}
 use Rattle.cf_model.specs.Months.{year_at}
 use Rattle.cf_model.specs.Moves.{spent_by}
 use Rattle.cf_model.specs.Receivables.{bill_at}
 use Rattle.cf_model.specs.RegisterRules.{due_year, payment_year, register_name_refusal, unknown_bond, unknown_payment}
-use Rattle.cf_model.specs.Registers.{Registers, no_registers, registers_of, registers_step}
+use Rattle.cf_model.specs.Registers.{Registers, no_registers, registers_of}
 use Rattle.cf_model.specs.Results.{bond_at, draws}
 use Rattle.cf_model.specs.Report.{sums_of}
 use Rattle.cf_model.specs.Rules.{account_name, charge_names, first_refusal, is_spending, name_refusal, unknown, unknown_account, unknown_if, voucher_names}
@@ -45,10 +45,9 @@ use Rattle.cf_model.proofs.Legal.{legal_induction, legal_push}
 use Rattle.cf_model.proofs.Pushes.{documents_are, registers_push}
 use Rattle.cf_model.proofs.SpendingPushes.{spendings_push}
 use Rattle.cf_model.proofs.Tidy.{all_append, all_map}
-use Rattle.cf_model.proofs.Totals.{all_so, none_first, none_last, stepped_all, stepped_sum, sum_append, sum_filter, sum_map, sum_none, sum_same}
+use Rattle.cf_model.proofs.Totals.{all_so, none_last, stepped_all, stepped_sum, sum_append, sum_filter, sum_map, sum_none}
 use Rattle.cf_post.specs.declared.deed.Deed.TheVariants as deed
-use Rattle.cf_statements.specs.Operating.{total_expenditures}
-use Rattle.cf_articulation.specs.Comparison.{Compares, actuals, line_part}
+use Rattle.cf_articulation.specs.Comparison.{Compares}
 use Rattle.cf_articulation.specs.OwnAccounts.{HasOwnAccounts}
 use Rattle.cf_articulation.proofs.ComparisonDeeds.{expenditures_are, of_fund, to_spent}
 use Rattle.cf_articulation.proofs.ComparisonLines.{HasLine, earned, other_part, spent_is, spent_part}

@@ -1,7 +1,7 @@
 -- What each deed spends of a fund in a year, and that the total expenditures of a fund's operating
 -- statement come to that.
 use Rattle.std.proofs.Common.{◌≡◌, ◌⊎◌, inl, inr, ℕ, suc, ◌+◌, ◌-◌, ◌<◌, ◌≤◌, Bool, true, false, not, if◌then◌else◌, ◌==◌, ◌&&◌, nat_lt, nat_le, List, [], ◌∷◌, ◌++◌, ℤ, pos, ◌+ℤ◌, ◌-ℤ◌, refl, sym, ap, subst, ◌∙◌, arith}
-use Rattle.std.specs.List.{list_all, AllByRecursion}
+use Rattle.std.specs.List.{AllByRecursion}
 use Rattle.std.proofs.lemmas.Bool.Decides.{leb_tells}
 use Rattle.std.proofs.lemmas.Grind.{common_steps}
 use Rattle.std.proofs.lemmas.Int.{ints}
@@ -29,12 +29,12 @@ use Rattle.cf_post.specs.declared.deed.Spent.TheVariants as spent
 use Rattle.cf_post.specs.Table.{expenditure, fund_rows}
 use Rattle.cf_statements.specs.Operating.{total_expenditures}
 use Rattle.cf_articulation.specs.OwnAccounts.{HasOwnAccounts}
-use Rattle.cf_articulation.proofs.Closing.{is_change, same_sum}
-use Rattle.cf_articulation.proofs.Counts.{less_is, number_is, passing_append}
+use Rattle.cf_articulation.proofs.Closing.{same_sum}
+use Rattle.cf_articulation.proofs.Counts.{less_is, passing_append}
 use Rattle.cf_articulation.proofs.DeedSums.{deeds_in, posted, pushed_deeds}
 use Rattle.cf_articulation.proofs.FundPosts.{IsFundPost, fund_posts, no_source, operating_accounts, other_accounts, source_accounts}
 use Rattle.cf_articulation.proofs.Named.{are_named}
-use Rattle.cf_articulation.proofs.NamedDeeds.{IsNamed, IsSourceOf, IsSpent, deeds_named}
+use Rattle.cf_articulation.proofs.NamedDeeds.{IsNamed, IsSpent, deeds_named}
 use Rattle.cf_articulation.proofs.NetChange.{function_change}
 use Rattle.cf_articulation.proofs.Rows.{function_accounts, no_function, none_where, one_function, one_source, times}
 use Rattle.cf_articulation.proofs.RowSums.{IsCounted, balances_sum}

@@ -1,6 +1,6 @@
 -- The actual amounts of the budgetary comparison: of a fund's sources, and of its lines, item by
 -- item of what was spent.
-use Rattle.std.proofs.Common.{◌≡◌, ℕ, ◌+◌, ◌<◌, Bool, true, false, cond, not, if◌then◌else◌, ◌==◌, ◌&&◌, nat_lt, List, [], ◌∷◌, ◌++◌, length, Option, Some, None, is_some, sum_by, ℤ, pos, ◌+ℤ◌, refl, sym, ap, subst, ◌∙◌, arith}
+use Rattle.std.proofs.Common.{◌≡◌, ℕ, ◌+◌, ◌<◌, Bool, true, false, cond, not, if◌then◌else◌, ◌==◌, ◌&&◌, nat_lt, List, [], ◌∷◌, ◌++◌, length, Option, Some, None, is_some, sum_by, ℤ, pos, ◌+ℤ◌, refl, sym, ap, ◌∙◌, arith}
 use Rattle.std.specs.Bool.{beq}
 use Rattle.std.specs.List.{AllByRecursion, position_or_len}
 use Rattle.std.proofs.lemmas.Int.{ints}
@@ -16,11 +16,11 @@ use Rattle.cf_model.specs.Report.{sums_of}
 use Rattle.cf_model.specs.Spendings.{Spending, spendings_in}
 use Rattle.cf_model.specs.Sums.{int_sum}
 use Rattle.cf_model.proofs.Tidy.{both}
-use Rattle.cf_model.proofs.Totals.{none_first, none_last, same_all, sum_pos, sum_same}
+use Rattle.cf_model.proofs.Totals.{none_first, none_last, sum_pos, sum_same}
 use Rattle.cf_statements.specs.Budget.{fund_revenue, line_row, line_rows, source_row, source_rows}
 use Rattle.cf_statements.specs.Operating.{total_revenues}
 use Rattle.cf_statements.specs.Sums.{Sums}
-use Rattle.cf_articulation.specs.Comparison.{actual, actuals}
+use Rattle.cf_articulation.specs.Comparison.{actuals}
 use Rattle.cf_articulation.proofs.Counts.{less_is, number_is, other_numbers, same_numbers}
 
 -- ---- sources

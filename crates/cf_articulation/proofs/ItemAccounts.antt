@@ -1,6 +1,5 @@
 -- After each legal history each item of the summary reconciliation is what its own accounts have.
-use Rattle.std.proofs.Common.{◌≡◌, ◌⊎◌, inl, inr, ℕ, suc, ◌+◌, ◌<◌, ◌≤◌, Bool, true, false, not, if◌then◌else◌, ◌==◌, ◌||◌, nat_lt, List, [], ◌∷◌, ◌++◌, length, Option, Some, None, is_some, ℤ, pos, ◌+ℤ◌, ◌-ℤ◌, refl, sym, ap, subst, ◌∙◌, arith}
-use Rattle.std.specs.List.{AllByRecursion}
+use Rattle.std.proofs.Common.{◌≡◌, ◌⊎◌, inl, inr, ℕ, suc, ◌<◌, ◌≤◌, Bool, true, false, not, if◌then◌else◌, ◌==◌, ◌||◌, nat_lt, List, [], ◌∷◌, ◌++◌, Option, Some, None, is_some, ℤ, pos, ◌+ℤ◌, ◌-ℤ◌, refl, sym, ap, subst, ◌∙◌, arith}
 use Rattle.std.proofs.lemmas.Bool.Decides.{leb_tells}
 use Rattle.std.proofs.lemmas.Int.{ints}
 use Rattle.cf_base.specs.Calendar.{is_day}
@@ -17,18 +16,16 @@ use Rattle.cf_calls.specs.declared.read.Basis.TheVariants.{Fund as FundBasis, Go
 use Rattle.cf_calls.specs.declared.refusal.AssetFault.TheVariants as fault
 use Rattle.cf_calls.specs.declared.refusal.Refusal.{Refusal}
 use Rattle.cf_calls.specs.declared.refusal.Refusal.TheVariants as refusal
-use Rattle.cf_chart.specs.declared.rows.Fund.{Fund}
 use Rattle.cf_chart.specs.Plan.{Plan, source_at}
 use Rattle.cf_ledger.specs.Posts.{sum_where, total}
 use Rattle.cf_ledger.specs.declared.post.Post.{Post}
 use Rattle.cf_model.specs.Assets.{Asset, asset_step, assets_by, is_leased, net}
-use Rattle.cf_model.specs.Bonds as bond
-use Rattle.cf_model.specs.Bonds.{Bond, bond_step, bonds_by, issues, owed_through}
+use Rattle.cf_model.specs.Bonds.{Bond, bond_step, bonds_by, owed_through}
 use Rattle.cf_model.specs.Calendar.{is_before, year_of_day}
 use Rattle.cf_model.specs.Deeds.{deeds_of}
 use Rattle.cf_model.specs.Items as item
 use Rattle.cf_model.specs.Items.{absences, accrued, deferred, fund_balances, items, net_position, right_to_use}
-use Rattle.cf_model.specs.Postings.{posts_by, posts_in}
+use Rattle.cf_model.specs.Postings.{posts_in}
 use Rattle.cf_model.specs.Receivables.{Bill, bill_at, collected_year, window_if}
 use Rattle.cf_model.specs.Recognition.{year_in}
 use Rattle.cf_model.specs.RegisterRules.{asset_refusal, disposed_asset, later_levy, levy_refusal, not_held, register_name_refusal}
@@ -38,7 +35,6 @@ use Rattle.cf_model.specs.Rules.{period_refusal, refuse_if}
 use Rattle.cf_model.specs.Step.{Adds, IsLegal}
 use Rattle.cf_model.specs.Sums.{int_sum}
 use Rattle.cf_model.proofs.Accepted.{accepted}
-use Rattle.cf_model.proofs.Allowed.{FindsBill}
 use Rattle.cf_model.proofs.DeedLaw.{deeds_law, to_absences, to_accrued, to_deferred, to_items}
 use Rattle.cf_model.proofs.Deferred.{by_bill}
 use Rattle.cf_model.proofs.First.{or_else_none, refuse_none}
@@ -103,7 +99,7 @@ collected_from plan on b l = by ((year_in plan.first_month on == b.levy_year) ||
     by true = omega arith
     by false = l
 
-allows_deferred : (plan : Plan) (s : Registers) (on : Day) (drawn : Drawn) → (a : Act) → drawn ≡ draws s a → register_name_refusal plan s on a ≡ None → levy_refusal plan s on a ≡ None →
+pub allows_deferred : (plan : Plan) (s : Registers) (on : Day) (drawn : Drawn) → (a : Act) → drawn ≡ draws s a → register_name_refusal plan s on a ≡ None → levy_refusal plan s on a ≡ None →
     AllowsDeferred plan s on drawn a
 allows_deferred plan s on drawn (act.Bill l) next names levy = ap (λ (d : Drawn). d.number) next
 allows_deferred plan s on drawn (act.Collect c) next names levy =

@@ -1,5 +1,5 @@
 -- What an entry makes of each item of the summary reconciliation is what its deeds add to it.
-use Rattle.std.proofs.Common.{◌≡◌, ℕ, ◌+◌, ◌-◌, ◌<◌, ◌≤◌, Bool, true, false, not, if◌then◌else◌, ◌==◌, nat_le, List, [], ◌∷◌, ◌++◌, map, length, Option, Some, None, option_map, sum_by, ℤ, pos, ◌+ℤ◌, ◌-ℤ◌, refl, sym, ap, ◌∙◌, arith, append-nil}
+use Rattle.std.proofs.Common.{◌≡◌, ℕ, ◌+◌, ◌<◌, ◌≤◌, Bool, true, false, not, if◌then◌else◌, ◌==◌, nat_le, List, [], ◌∷◌, ◌++◌, map, length, Option, Some, None, option_map, sum_by, ℤ, pos, ◌+ℤ◌, ◌-ℤ◌, refl, sym, ap, ◌∙◌, arith, append-nil}
 use Rattle.std.specs.List.{filter, AllByRecursion}
 use Rattle.std.proofs.lemmas.Int.{ints}
 use Rattle.cf_base.specs.declared.calendar.Day.{Day}
@@ -18,11 +18,11 @@ use Rattle.cf_model.specs.Bonds.{Bond, Due, accrued_through, bond_step, bonds_by
 use Rattle.cf_model.specs.Bonds as bond
 use Rattle.cf_model.specs.Calendar.{document_year, year_of_day}
 use Rattle.cf_model.specs.Charted.{is_capital}
-use Rattle.cf_model.specs.Deeds.{bonds_deeds, collect_deeds, deeds_of, dispose_deed, due_deeds, function_charge, write_off_deeds}
+use Rattle.cf_model.specs.Deeds.{bonds_deeds, collect_deeds, deeds_of, due_deeds, function_charge, write_off_deeds}
 use Rattle.cf_model.specs.Documents.{is_number}
 use Rattle.cf_model.specs.Items.{absences, accrued}
 use Rattle.cf_model.specs.Leave.{LeaveChange, leave_by}
-use Rattle.cf_model.specs.Months.{number_of_day, year_at}
+use Rattle.cf_model.specs.Months.{year_at}
 use Rattle.cf_model.specs.Moves.{spent_by}
 use Rattle.cf_model.specs.Receivables.{Bill, Settlement, bill_at, bills_by, collected_of, collected_year, settlements_by}
 use Rattle.cf_model.specs.Registers.{Registers, closed_after}
@@ -39,7 +39,7 @@ use Rattle.cf_model.proofs.Totals.{all_so, none_first, none_last, stepped_all, s
 use Rattle.cf_post.specs.declared.deed.Deed.{Deed}
 use Rattle.cf_post.specs.declared.deed.Deed.TheVariants as deed
 use Rattle.cf_articulation.proofs.DeedSums.{between_none, close_none, collect_none, dispose_none, dues_none, pay_none, void_none, voucher_none, write_off_none}
-use Rattle.cf_articulation.proofs.ItemDeeds.{bond_part, lease_part, to_issues, to_leased, to_leases}
+use Rattle.cf_articulation.proofs.ItemDeeds.{to_issues, to_leased, to_leases}
 
 -- ---- lists
 

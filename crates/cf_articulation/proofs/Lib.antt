@@ -17,6 +17,7 @@ mod ComparisonDeeds
 mod VoucherStates
 mod Comparison
 mod OpenVouchers
+mod OpenBills
 pub mod ReadCharts
 pub mod Articulated
 pub mod TrialBalances

@@ -22,12 +22,11 @@ use Rattle.cf_ledger.specs.Posts.{is_of, sum_where}
 use Rattle.cf_model.specs.Calendar.{document_year, year_of_day}
 use Rattle.cf_model.specs.Deeds.{deeds_of, pay_deed, pay_items, spent_item}
 use Rattle.cf_model.specs.DocumentRules.{not_open_voucher, paid_state, state_refusal, voided_state}
-use Rattle.cf_model.specs.Documents.{Documents, Expenditure, documents_of, expenditure_of, expenditure_step, paid_after, voucher_at}
+use Rattle.cf_model.specs.Documents.{Documents, Expenditure, expenditure_of, expenditure_step, paid_after, voucher_at}
 use Rattle.cf_model.specs.Moves.{spent_by}
 use Rattle.cf_model.specs.Postings.{posts_in}
 use Rattle.cf_model.specs.Receivables.{bill_at}
 use Rattle.cf_model.specs.Registers.{Registers, no_registers, registers_of}
-use Rattle.cf_model.specs.Results.{draws}
 use Rattle.cf_model.specs.Rules.{first_refusal}
 use Rattle.cf_model.specs.Step.{Adds, IsLegal}
 use Rattle.cf_model.specs.Sums.{int_sum}
@@ -45,7 +44,7 @@ use Rattle.cf_post.specs.Table.{expenditure, fund_rows}
 use Rattle.cf_articulation.specs.OpenVouchers.{VouchersAreOwed, open_amount, open_part}
 use Rattle.cf_articulation.proofs.Closing.{same_sum}
 use Rattle.cf_articulation.proofs.Comparison.{draws_voucher_next}
-use Rattle.cf_articulation.proofs.Counts.{number_is, other_numbers, same_numbers}
+use Rattle.cf_articulation.proofs.Counts.{number_is}
 use Rattle.cf_articulation.proofs.DeedSums.{between_none, close_none, collect_none, deeds_in, deeds_push, dispose_none, dues_none, posted, write_off_none}
 use Rattle.cf_articulation.proofs.ItemDeeds.{owes, pays, skip}
 use Rattle.cf_articulation.proofs.VoucherStates.{AreStates, IsOpenOf, open_items, states_step}

@@ -13,6 +13,7 @@ use Rattle.cf_statements.specs.Position as position
 use Rattle.cf_statements.specs.Sums.{heading}
 use Rattle.cf_articulation.specs.Comparison.{Compares}
 use Rattle.cf_articulation.specs.ItemAccounts.{ItemsAreAccounts}
+use Rattle.cf_articulation.specs.OpenBills.{BillsAreReceivable}
 use Rattle.cf_articulation.specs.OpenVouchers.{VouchersAreOwed}
 
 -- ---- rows
@@ -79,7 +80,9 @@ pub record Articulates (plan : Plan) (history : List Entry) (year : ℕ) : Type 
   -- on the balance sheet a fund's assets are its liabilities, its deferred inflow and its fund balance ..
   pub balance_sheet : (fund : Fund) →
       rows_sum (fund_assets plan history year fund) ≡ rows_sum (fund_liabilities plan history year fund) +ℤ bottom_line (balance_part plan history year fund)
-  -- .. its vouchers payable, over all years, are the items of its open vouchers ..
+  -- .. its receivables, over all years, are what is left of its bills, and its vouchers payable the
+  -- items of its open vouchers ..
+  pub bills : BillsAreReceivable plan history
   pub vouchers : VouchersAreOwed plan history
   -- .. and total fund balances are those of the chart's funds
   pub total_balances : bottom_line (report_rows plan history year kind.Balance) ≡ int_sum (λ f. bottom_line (balance_part plan history year f)) plan.funds

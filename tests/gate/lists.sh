@@ -1,0 +1,121 @@
+#!/bin/sh
+# Tries the lists of `books` on the journals of the examples (lists.py): posts and balances beside the looks of a desk and beside what
+# the independent office makes of the same talk, row by row; what is open beside the looks at each number; and each statement beside the
+# records of `report`, with the names of funds and control lines. Then that a row which is changed, lost or moved is seen; two lists
+# of Rivertown's first day, worked by hand; and that the lists of the page (page/lists.py, tried by listed.py) have all that is open, and
+# go on where they can't follow an entry. BOOKS names another program than the one that rt built last.
+cd "$(dirname "$0")/../.." || exit 1
+top=$(pwd)
+. tests/lib/program.sh
+books=${BOOKS:-$(built books)}
+if [ ! -x "$books" ]; then
+    echo "there is no program books: run ./build" >&2
+    exit 1
+fi
+PYTHONDONTWRITEBYTECODE=1
+export PYTHONDONTWRITEBYTECODE
+[ -w /dev/shm ] && TMPDIR=/dev/shm && export TMPDIR # where syncs cost nothing
+scratch=$(mktemp -d) || exit 1
+trap 'rm -rf "$scratch"' EXIT
+. tests/lib/expect.sh
+tried=$books folder=$scratch
+
+# founded TALK: the journal of a talk of examples/, and `chart` names its chart.
+founded() {
+    case $1 in
+    examples/*/*) chart=$(dirname "$1")/chart.toml ;;
+    *) chart=examples/rivertown/chart.toml ;;
+    esac
+    [ -e "$chart" ] || return 1
+    rm -f "$scratch/fund.journal"
+    cp "$chart" "$scratch/chart.toml"
+    (cd "$scratch" && "$program" found > /dev/null 2>&1 && "$program" desk < "$top/$1" > /dev/null)
+}
+
+for talk in examples/*.jsonl examples/*/*.jsonl; do
+    founded "$talk" || continue
+    python3 tests/lib/lists.py "$program" "$books" "$scratch" "$chart" "$talk"
+    verdict "the lists of $talk" $?
+    python3 tests/lib/listed.py books "$books" "$scratch"
+    verdict "the page's lists of $talk" $?
+done
+
+# ---- a row that is changed, lost or moved
+
+# changed SCRIPT WORDS..: where the list of these words goes through sed with this script, it is named as other than what it is to be.
+changed() {
+    script=$1
+    shift
+    cat > "$scratch/changed" << PROGRAM
+#!/bin/sh
+case "\$*" in
+"$*") "$books" "\$@" | sed '$script' ;;
+*) exec "$books" "\$@" ;;
+esac
+PROGRAM
+    chmod +x "$scratch/changed"
+    (cd "$scratch" && "$books" "$@" > was && sed "$script" was > is && ! cmp -s was is)
+    verdict "$script changes $*" $?
+    said=$(python3 tests/lib/lists.py "$program" "$scratch/changed" "$scratch" "$chart" "$talk" 2>&1)
+    status=$?
+    [ "$status" -eq 1 ] && [ "${said#"$talk: "}" != "$said" ]
+    verdict "$* with $script: status $status: $said" $?
+}
+
+talk=examples/a-year.jsonl
+founded "$talk"
+changed '5s/\.00$/.01/' posts --csv
+changed '3d' posts --csv
+changed '3s/\.00$/.01/' balances 2026 --csv
+changed '4d' balances 2026 --csv
+changed '2{h;d};3G' balances 2026 --csv
+changed '3s/Receivables/Cash/' balances 2026 --csv
+changed '2d' open --csv
+changed '3s/^General Fund/Street Fund/' statement 2026 balance --csv
+changed '4s/Administration/Streets/' statement 2026 budget --csv
+changed '4s/object 510/object 520/' statement 2026 budget --csv
+changed '5s/0\.00/0.01/' statement 2026 budget --csv
+changed '6d' statement 2026 operating --csv
+changed '3{h;d};4G' statement 2026 activities --csv
+changed '2s/\t/ /' statement 2026 reconcile
+
+# ---- two lists of Rivertown's first day
+
+founded examples/first-day.jsonl
+expect "what moved cash in the first day" 0 "4	2025-07-06	5	r1	receive		fund	2026	1	General Fund	100000	Cash	1000.00
+4	2025-07-06	5	r1	receive		gov	2026	0		100000	Cash	1000.00
+5	2025-07-06	5	p1	pay		fund	2026	1	General Fund	100000	Cash	-600.00
+5	2025-07-06	5	p1	pay		gov	2026	0		100000	Cash	-600.00" posts --account 100000
+expect "the balances of the first day" 0 "basis,fund,fund_name,account,account_name,balance
+fund,1,General Fund,100000,Cash,400.00
+fund,1,General Fund,110000,Receivables,900.00
+fund,1,General Fund,200000,Vouchers payable,-400.00
+fund,1,General Fund,290000,Unavailable revenue,-900.00
+fund,1,General Fund,400001,Property tax,-1000.00
+fund,1,General Fund,500002,Public works,1000.00
+gov,0,,100000,Cash,400.00
+gov,0,,110000,Receivables,900.00
+gov,0,,200000,Vouchers payable,-400.00
+gov,0,,400001,Property tax,-1900.00
+gov,0,,500002,Public works,1000.00" balances 2026 --csv
+expect "what is open of the first day" 0 "call,number,item,day,desk,key,party,year,line,fund_name,dept_name,open,next,closed
+bill,1,,2025-07-06,6,l1,5,2026,,,,900.00,,
+voucher,2,,2025-07-05,4,v2,77,2026,,,,400.00,," open --csv
+
+# ---- the lists of the page
+
+python3 tests/lib/listed.py office 10 400
+verdict "the page's lists of random talks" $?
+# Two invoices on orders that aren't there: each is skipped and said, and what is open of the others is listed.
+founded examples/reopened-order.jsonl
+cat > "$scratch/changed" << PROGRAM
+#!/bin/sh
+"$books" "\$@" | case \$1 in
+calls) sed '4s/"order":1/"order":98/; 19s/"order":1/"order":99/' ;;
+*) cat ;;
+esac
+PROGRAM
+python3 tests/lib/listed.py skips "$scratch/changed" "$scratch" 4 19
+verdict "the page's lists past what can't be followed" $?
+
+summary lists

@@ -1,0 +1,249 @@
+"""The pages beside the sources and beside each other.
+
+    python3 tests/gate/pages.py            says what isn't so, and ends with 1 where something isn't
+    python3 tests/gate/pages.py --words    the words of each page, and of all, without docs/CLAUSES.md
+    python3 tests/gate/pages.py --runs     which pages share runs of nine words, tables and code aside
+
+It checks that
+- crates.txt has a crate below those that it uses, and names the libraries that files of the crate name, and
+  no others; docs/ARCHITECTURE.md lists the same crates in the same groups and order;
+- each file and each name of the tables of docs/NEW-CALL.md is there, and its counts are right;
+- a page, a heading of a page, a script or a folder that a page names is there.
+"""
+import collections
+import functools
+import glob
+import os
+import re
+import sys
+
+TOP = os.path.join(os.path.dirname(os.path.abspath(__file__)), "..", "..")
+MADE = "docs/CLAUSES.md"
+
+
+@functools.cache
+def read(path):
+    with open(os.path.join(TOP, path), encoding="utf-8") as file:
+        return file.read()
+
+
+@functools.cache
+def files(*patterns):
+    """The files of the patterns below the top, without those that rt made."""
+    found = sorted(path for one in patterns for path in glob.glob(os.path.join(TOP, one), recursive=True))
+    return [os.path.relpath(path, TOP) for path in found if "/out/" not in path]
+
+
+def pages():
+    return {path: read(path) for path in files("README.md", "docs/*.md")}
+
+
+# ---- crates.txt
+
+def crates():
+    """The lines of crates.txt: each crate with its group and what it uses."""
+    group, made = "", {}
+    for line in read("crates.txt").split("\n"):
+        head = re.match(r"# (\w+): ", line)
+        group = head.group(1) if head else group
+        name, _, uses = line.partition("#")[0].strip().partition(":")
+        if name:
+            made[name] = (group, uses.split())
+    return made
+
+
+def named(crate):
+    """The libraries that files of a crate name."""
+    text = "\n".join(read(path) for path in files(f"crates/{crate}/**/*.rt", f"crates/{crate}/**/*.antt"))
+    return set(re.findall(r"\bRattle\.(\w+)", text)) | set(re.findall(r"(?<![\w:])(\w+)::", text)) | set(re.findall(r"\buse (\w+);", text))
+
+
+def crate_faults(lines):
+    below = set()
+    for name, (_, uses) in lines.items():
+        for other in uses:
+            if other in lines and other not in below:
+                yield f"crates.txt: {name} stands above {other}, which it uses"
+        below.add(name)
+        has = named(name)
+        for other in sorted(set(uses) - has):
+            yield f"crates.txt: no file of {name} names {other}"
+        for other in sorted(one for one in has & set(lines) if one.startswith("cf_") and one not in (*uses, name)):
+            yield f"crates.txt: {name} doesn't name {other}, which its files do"
+
+
+def listed():
+    """The crates of the table of docs/ARCHITECTURE.md, each with its group."""
+    group, made = "", []
+    part = read("docs/ARCHITECTURE.md").split("\n## The crates\n")[1].split("\n## ")[0]
+    for first in re.findall(r"^\| (\S+) \|", part, re.M):
+        if first.startswith("**"):
+            group = first.strip("*")
+        elif first.startswith("`"):
+            made.append((first.strip("`"), group))
+    return made
+
+
+# ---- docs/NEW-CALL.md
+
+def has_name(path, name):
+    """Whether a file of source has a function, a type or a value of the name, or one of definitions a definition."""
+    text = read(path)
+    if path.endswith(".rt"):
+        return re.search(rf"\b(?:fn|enum|struct|trait|const) {name}\b", text)
+    return re.search(rf"^\s*(?:(?:pub|abbrev|unfoldable|record|data) )*{name}(?=[ :({{])", text, re.M)
+
+
+def where(span):
+    """The path of a file that a page names, from the top or from crates/."""
+    return next((path for path in (span, f"crates/{span}") if os.path.exists(os.path.join(TOP, path))), None)
+
+
+def call_faults():
+    page = read("docs/NEW-CALL.md")
+    for line in page.split("\n"):
+        if not line.startswith("| ") or "." not in line:
+            continue
+        for cell in line.strip("|").split(" | "):
+            path = None
+            for span in re.findall(r"`([^`]+)`", cell):
+                if re.fullmatch(r"[\w./-]+/[\w./-]+", span):
+                    path = where(span)
+                    if path is None:
+                        yield f"docs/NEW-CALL.md: no file {span}"
+                elif path and os.path.isfile(os.path.join(TOP, path)) and re.fullmatch(r"\w+", span) and not has_name(path, span):
+                    yield f"docs/NEW-CALL.md: {path} has no {span}"
+    numbers = [str(counted(word, kind)) for word in ("Receive", "Lease") for kind in ("src", "specs", "proofs")]
+    said = re.search(r"stands in (\d+) files of source, (\d+) of definitions and (\d+) of proofs; `lease` in (\d+), (\d+)\s+and (\d+)", spaced(page))
+    if not said or list(said.groups()) != numbers:
+        yield f"docs/NEW-CALL.md: receive and lease stand in {', '.join(numbers)} files"
+    whole, silent = matches()
+    said = re.search(r"Of (\d+) matches on `Act` (\d+) end with `_ =>`", spaced(page))
+    if not said or said.groups() != (str(len(whole) + len(silent)), str(len(silent))):
+        yield f"docs/NEW-CALL.md: of {len(whole) + len(silent)} matches on Act {len(silent)} end with _ =>"
+    said = re.search(r"in the (\d+) functions that list every act \| (.*?) \|", page)
+    if not said or sorted(re.findall(r"`(\w+)`", said.group(2))) != sorted(whole) or said.group(1) != str(len(whole)):
+        yield f"docs/NEW-CALL.md: these functions list every act: {', '.join(sorted(whole))}"
+
+
+def spaced(text):
+    return " ".join(text.split())
+
+
+def counted(word, kind):
+    """How many files have a word; of proofs those of all folders."""
+    kinds = {"src": "rt", "specs": "antt", "proofs": "antt"}
+    return sum(1 for path in files(f"crates/*/{kind}/**/*.{kinds[kind]}") if re.search(rf"\b{word}\b", read(path)))
+
+
+def matches():
+    """The functions with a match on acts: those that list every act, and those that end with `_ =>`."""
+    whole, silent = [], []
+    for path in files("crates/*/src/**/*.rt"):
+        text = read(path)
+        for found in re.finditer(r"\bmatch [^{;]+? \{", text):
+            body = text[found.end():closing(text, found.end() - 1)]
+            if not any(re.search(r"\bAct::", arm) for arm in re.findall(r"[^{},;=]+?=>", body)):
+                continue
+            name = re.findall(r"fn (\w+)", text[:found.start()])[-1]
+            (silent if re.search(r"^\s*_ =>", body, re.M) else whole).append(name)
+    return whole, silent
+
+
+def closing(text, start):
+    """The place of the brace that closes the one at `start`."""
+    depth = 0
+    for place in range(start, len(text)):
+        depth += (text[place] == "{") - (text[place] == "}")
+        if depth == 0:
+            return place
+    return len(text)
+
+
+# ---- what pages name
+
+SHOWN = ("README.md", "docs/", "tests/", "bench/", "examples/", "crates/", "page/", "build", "package", ".ci/run", "cityfund", "books")
+
+
+def headings(text):
+    """The headings of a page, and the bold words that paragraphs begin with."""
+    return re.findall(r"^#+ (.*)$", text, re.M) + re.findall(r"^(?:- )?\*\*([^*]+?)\.?\*\*", text, re.M)
+
+
+def link_faults(all_pages):
+    for path, text in all_pages.items():
+        flat = spaced(re.sub(r"^    .*$", "", text, flags=re.M))
+        for span in re.findall(r"`([\w./-]+/[\w./-]*)`", flat):
+            # A word in capitals stands for a name.
+            if span.startswith(SHOWN[1:7]) and not re.search(r"/[A-Z]+(/|$)", span) and not os.path.exists(os.path.join(TOP, span)):
+                yield f"{path}: there is no {span}"
+        for page, heading in re.findall(r"`((?:docs/)?[\w-]+\.md)`,? \(?\"([^\"]+)\"", flat):
+            target = page if page in all_pages else f"docs/{page}"
+            if target not in all_pages:
+                yield f"{path}: there is no {page}"
+            elif heading not in headings(all_pages[target]):
+                yield f"{path}: {target} has no heading \"{heading}\""
+        for heading in re.findall(r"(?<!` )\((?:see )?\"([A-Z][^\"]+)\"\)", flat):
+            if heading not in headings(text):
+                yield f"{path}: it has no heading \"{heading}\""
+        for target, anchor in re.findall(r"\]\(([\w./-]+\.md)(?:#([\w-]*))?\)", text):
+            target = os.path.normpath(os.path.join(os.path.dirname(path), target))
+            if target not in all_pages:
+                yield f"{path}: there is no {target}"
+            elif anchor and anchor not in [anchored(one) for one in re.findall(r"^#+ (.*)$", all_pages[target], re.M)]:
+                yield f"{path}: {target} has no heading with the anchor {anchor}"
+
+
+def anchored(heading):
+    """The anchor of a heading, as pages of Markdown have it."""
+    return re.sub(r"[^\w -]", "", heading.lower()).replace(" ", "-")
+
+
+# ---- measures
+
+def words(all_pages):
+    made = {path: len(text.split()) for path, text in all_pages.items()}
+    for path, count in made.items():
+        print(f"{count:7} {path}")
+    print(f"{sum(made.values()) - made.get(MADE, 0):7} all but {MADE}")
+
+
+def runs(all_pages):
+    """How many runs of nine words each two pages share."""
+    found = collections.defaultdict(set)
+    for path, text in all_pages.items():
+        if path == MADE:
+            continue
+        prose = re.sub(r"^(?:\||    |```).*$", " \0 ", text, flags=re.M)
+        for part in prose.split("\0"):
+            said = re.findall(r"[\w'-]+", part.lower())
+            for place in range(len(said) - 8):
+                found[tuple(said[place:place + 9])].add(path)
+    shared = collections.Counter(tuple(sorted(paths)) for paths in found.values() if len(paths) > 1)
+    for paths, count in shared.most_common():
+        print(f"{count:5} {' '.join(paths)}")
+    if "--show" in sys.argv:
+        for run, paths in sorted(found.items(), key=lambda one: sorted(one[1])):
+            if len(paths) > 1:
+                print(" ".join(sorted(paths)), ":", " ".join(run))
+
+
+def main(said):
+    all_pages = pages()
+    if "--words" in said:
+        return words(all_pages)
+    if "--runs" in said:
+        return runs(all_pages)
+    lines = crates()
+    faults = [*crate_faults(lines), *call_faults(), *link_faults(all_pages)]
+    if listed() != [(name, group) for name, (group, _) in lines.items()]:
+        faults.append("docs/ARCHITECTURE.md: its table hasn't the crates of crates.txt, in their groups and order")
+    for fault in faults:
+        print(fault)
+    if not faults:
+        print(f"pages: {len(lines)} crates and {len(all_pages)} pages name what is there")
+    return min(len(faults), 1)
+
+
+if __name__ == "__main__":
+    sys.exit(main(sys.argv[1:]))
