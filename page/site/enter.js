@@ -195,7 +195,18 @@ export class Enter {
         if (!said || input.value !== asked) return;
         const now = said.is ? this.states.say(kind, said.is) : this.words.of(said).text.replace(' Nothing was entered.', '');
         place.textContent = (found ? found.key + ': ' : '') + now;
+        if (kind === 'bond' && this.context?.name === 'pay_due' && said.is?.next) await this.debt(number, input, place);
         if (ofItems && said.is) this.orderItems(found, said.is.items.map((each, at) => this.states.item(each, at)));
+    }
+
+    /** The accounts of a debt's last payment, and the principal that is due. The interest the program computes. */
+    async debt(number, input, place) {
+        const {due, accounts} = await this.lists.debt(number).catch(() => ({accounts: []})), {elements} = byId('form');
+        if (input.value.trim() !== number || !place.isConnected) return;
+        if (due !== undefined) place.textContent += `; it pays ${money(due)} of principal, and interest`;
+        const [fund, dept, principal, interest] = accounts;
+        if (accounts.length && !elements.fund.value) this.chosen.choose({fund, dept, principal, interest});
+        this.changed();
     }
 
     /** A change of an order names an item: its account is that of the order. */

@@ -82,7 +82,11 @@ export class Account {
     }
 
     set(fund, dept, object) {
-        for (const [name, id] of Object.entries({fund, dept, object})) {
+        this.choose({fund, dept, object});
+    }
+
+    choose(values) {
+        for (const [name, id] of Object.entries(values)) {
             this.inputs[name].value = String(id);
             this.offer();
         }

@@ -54,21 +54,27 @@ export class Lists {
             .map(([place, day, desk, key, call, cents, number]) => ({place, day, desk, key, call, cents, number}));
     }
 
-    /** Rows of a kind of papers, of all years. */
-    async rows(kind) {
-        const years = this.state.files[kind] || [];
+    /** Rows of a kind of papers, of all years or of the last ones. */
+    async rows(kind, last = Infinity) {
+        const years = (this.state.files[kind] || []).slice(-last);
         return (await Promise.all(years.map(year => got(`data/${year}-${kind}.json`)))).flat();
     }
 
-    /** Invoices with a key, letters in upper or lower case. */
+    /** Invoices of the last two years with a key, letters in upper or lower case. */
     async invoices(key) {
-        const rows = await this.rows('invoices').catch(() => []);
+        const rows = await this.rows('invoices', 2).catch(() => []);
         return rows.filter(each => each[3].toLowerCase() === key).map(invoiceOf);
     }
 
     /** What a payment paid, by the place of its entry. */
     async ofRun(place) {
         return (await this.rows('invoices')).filter(each => each[7] === place).map(invoiceOf);
+    }
+
+    /** A bond's or lease's principals, how many are paid, and the accounts of its last payment. */
+    async debt(number) {
+        const [principals, paid, accounts] = (await got('data/debts.json'))[number] || [[], 0, []];
+        return {due: principals[paid], accounts};
     }
 
     async receipt(place) {

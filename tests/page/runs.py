@@ -1,6 +1,7 @@
 """A payment run of 150 vouchers, its remittance list, other paper, the names of vendors, and lists that fall behind."""
 import os
 
+import looking
 from slips import AHEAD, DAY, HOUR, SAID, SUBMIT, prepared
 
 COUNT = 150
@@ -48,6 +49,10 @@ def many(stand):
     cash = stand.ask({"call": "account", "basis": "fund", "year": 2026, "fund": 2, "account": 100000})["is"]["balance"]
     stand.holds("the cash of each fund", f"{int(cash) // 100:,}.{int(cash) % 100:02}" in said and f"{all_} ticked" in said and "calls of at most 64" in said, said)
     stand.picture(page, "run")
+    page.size(390, 844, True)
+    wide = "[...document.querySelectorAll('#form .scroll')].filter(node => node.scrollWidth > node.clientWidth + 1).length"
+    stand.same("a run on a phone needs no scrolling sideways", page.do(wide), 0)
+    page.send("Emulation.clearDeviceMetricsOverride")
     before = stand.entries()
     page.do(SUBMIT)
     said = page.until(SAID)
@@ -69,6 +74,12 @@ def many(stand):
     said = clerk.page.until("/Total/.test(document.getElementById('paper-sheet').textContent) && document.getElementById('paper-sheet').textContent")
     stand.holds("a remittance list", "remittance list" in said and "run-40-3" in said and "650 Acme <b>& Sons</b>" in said, said[:300])
     stand.picture(clerk.page, "remittance")
+    for scheme in ("light", "dark"):
+        clerk.page.media(prefers_color_scheme=scheme)
+        clerk.page.size(390, 844, True)
+        stand.same(f"contrast of paper: {scheme}", clerk.page.do(looking.CONTRAST), [])
+        stand.holds(f"paper on a phone: {scheme}", clerk.page.do("document.documentElement.scrollWidth") <= 390)
+    clerk.page.send("Emulation.clearDeviceMetricsOverride")
     clerk.page.media(media="print")
     stand.same("without buttons on paper", clerk.page.do("[...document.querySelectorAll('form, button, nav')].filter(node => node.getClientRects().length).length"), 0)
     clerk.page.media()

@@ -1,4 +1,5 @@
 """Slips that the page asks about before a call is sent, what it never proposes, and half-filled forms, which nothing loses."""
+import looking
 
 DAY = "2025-08-12"  # the browser's
 SAID = "document.getElementById('prepared').hidden ? '' : document.getElementById('prepared').textContent"
@@ -32,6 +33,10 @@ def closes(stand):
     stand.same("no month is proposed before it has ended", page.do(VALUE.format("month")), "")
     said = prepared(clerk, {"call": "close", "what": "month", "month": "2025-08"})
     stand.holds("a close is said in a sentence", said.startswith("Close August 2025, 19 days before it ends."), said)
+    for scheme in ("light", "dark"):
+        page.media(prefers_color_scheme=scheme)
+        stand.same(f"contrast of the sentence: {scheme}", page.do(looking.CONTRAST), [])
+    page.media()
     page.key("Enter", code="Enter", text="\r", windowsVirtualKeyCode=13)
     stand.holds("one more Enter sends nothing", stand.entries() == before and page.do(SAID), stand.entries() - before)
     page.do("clerk.set(document.getElementById('form').elements.month, '2025-07')")
@@ -176,9 +181,23 @@ def items(stand):
     stand.holds("an order's items with what is open", "1: City Clerk, Office supplies, 50.00 open" in said and "2: " in said, said)
     stand.same("its vendor", clerk.page.do(VALUE.format("vendor")), "642")
     clerk.page.close()
+    debts(stand)
     clerk = stand.clerk("assets")
     clerk.page.do("location.hash = '#open/asset'; true")
-    clerk.page.until("document.querySelector('#open-table button')")
+    clerk.page.until("Boolean(document.querySelector('#open-table button'))")
     number = clerk.page.do("document.querySelector('#open-table button').click(), document.getElementById('form').elements.asset.value")
     stand.holds("a disposal from Open", clerk.page.do(VALUE.format("what")) == "dispose" and number, number)
+    clerk.page.close()
+
+
+def debts(stand):
+    """A bond gives the accounts of its last payment, and what is due."""
+    bond = stand.ask({"call": "issue", "desk": 5, "key": "bond-slips", "on": DAY, "fund": 4, "amount": 30000, "rate_bp": 425, "every": 1, "principals": [10000, 20000]})["ok"]["bond"]
+    stand.ask({"call": "pay_due", "desk": 5, "key": "debt-slips-1", "on": "2025-09-12", "bond": bond, "fund": 5, "dept": 11, "principal": 811, "interest": 821})
+    stand.make_lists()
+    clerk = stand.clerk("treasury")
+    clerk.fill({"call": "pay_due", "on": DAY, "bond": bond})
+    said = clerk.page.until("/it pays 200.00 of principal/.test(document.getElementById('form').textContent) && "
+                            "['fund', 'dept', 'principal', 'interest'].map(name => document.getElementById('form').elements.namedItem(name).value).join()")
+    stand.same("a bond's accounts, and the principal that is due", said, "5,11,811,821")
     clerk.page.close()
