@@ -1,5 +1,5 @@
-// An adoption's lines or estimates: each of the fund's with a place for its amount, typed or pasted from a sheet, with what the year before
-// had beside it, and totals by department.
+// An adoption's lines or estimates: each of the fund's with a place for its amount, typed or pasted
+// from a sheet, with what the year before had beside it, and totals by department.
 
 import {labelled, made, row, table} from './dom.js';
 import {fundsOf} from './bars.js';
@@ -99,7 +99,10 @@ export class Amounts {
         return table('By department', ['Department', [this.field.label, true], ...more], rows);
     }
 
-    /** Puts the rows of a sheet into the fields; where one can't be read nothing is put in, and it is named. */
+    /**
+     * Puts the rows of a sheet into the fields; where one can't be read nothing is put in, and it
+     * is named.
+     */
     paste() {
         const inputs = new Map(this.inputs().map(input => [Number(input.dataset.id), input])), put = new Map(), faults = [];
         this.pasted.value.split(/\r?\n/).forEach((text, place) => {

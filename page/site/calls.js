@@ -1,4 +1,5 @@
-// What a call says in a sentence, its amount and its party: for what is asked before it is sent, and for what was sent.
+// What a call says in a sentence, its amount and its party: for what is asked before it is sent,
+// and for what was sent.
 
 import {dated, today} from './chart.js';
 import {money, sum} from './money.js';

@@ -1,4 +1,5 @@
-// What is half filled in, kept in this tab until it is taken: it survives another form, another view and a reload.
+// What is half filled in, kept in this tab until it is taken: it survives another form, another
+// view and a reload.
 
 // These come first, since the choices of others follow them.
 const FIRST = ['on', 'what', 'year', 'levy_year', 'back', 'fund', 'dept'];
@@ -8,7 +9,9 @@ export class Drafts {
         this.mark = `draft ${encodeURIComponent(me.user)} ${me.desk} `;
     }
 
-    /** The fields of a form by their names, and its items. A day is kept only where it was chosen. */
+    /**
+     * The fields of a form by their names, and its items. A day is kept only where it was chosen.
+     */
     keep(name, form, hasDay, ownKey, ticked = []) {
         const fields = {}, items = [], isLeft = ({name: own}) => !own || own === 'on' && !hasDay || own === 'key' && !ownKey || /^voucher-/.test(own);
         for (const input of form.elements) {

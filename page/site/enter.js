@@ -1,5 +1,6 @@
-// The form of a call: its fields, its key, what it comes to, and the room of the lines that it would post or hold in. What can't be undone
-// is said in a sentence first, and sent by a second button.
+// The form of a call: its fields, its key, what it comes to, and the room of the lines that it
+// would post or hold in. What can't be undone is said in a sentence first, and sent by a second
+// button.
 
 import {byId, fill, labelled, made, wrong} from './dom.js';
 import {local, today} from './chart.js';
@@ -47,7 +48,10 @@ export class Enter {
         if (this.context) this.drafts.keep(this.context.name, byId('form'), this.ownDay, this.ownKey, this.run?.ticked);
     }
 
-    /** Where a night has passed over an open page its form has the new day, unless the clerk chose one. */
+    /**
+     * Where a night has passed over an open page its form has the new day, unless the clerk chose
+     * one.
+     */
     wake() {
         const on = byId('form').elements.on;
         if (!on || this.ownDay || on.value === today()) return;
@@ -199,7 +203,10 @@ export class Enter {
         if (ofItems && said.is) this.orderItems(found, said.is.items.map((each, at) => this.states.item(each, at)));
     }
 
-    /** The accounts of a debt's last payment, and the principal that is due. The interest the program computes. */
+    /**
+     * The accounts of a debt's last payment, and the principal that is due. The interest the
+     * program computes.
+     */
     async debt(number, input, place) {
         const {due, accounts} = await this.lists.debt(number).catch(() => ({accounts: []})), {elements} = byId('form');
         if (input.value.trim() !== number || !place.isConnected) return;
@@ -220,7 +227,10 @@ export class Enter {
         item.onchange();
     }
 
-    /** After each change: what stands with the word that is chosen, the choices of the year, the key, the total and the room. */
+    /**
+     * After each change: what stands with the word that is chosen, the choices of the year, the
+     * key, the total and the room.
+     */
     changed() {
         const {context} = this, form = byId('form');
         if (!context) return;
@@ -240,7 +250,10 @@ export class Enter {
         this.room.show(context, () => tried(() => this.read(false), call => call));
     }
 
-    /** The key by what the clerk has: each part is that field's value. It is empty while one of them is. */
+    /**
+     * The key by what the clerk has: each part is that field's value. It is empty while one of them
+     * is.
+     */
     key() {
         let whole = true;
         const made = this.context.call.key.replace(/\{([\w/]+)\}/g, (all, names) => {
@@ -372,7 +385,10 @@ export class Enter {
         if (reply.ok || which) this.run?.renew();
     }
 
-/** Begins a new form where what this one says was taken. Of a payment run what wasn't taken stays ticked. */
+/**
+ * Begins a new form where what this one says was taken. Of a payment run what wasn't taken stays
+ * ticked.
+ */
     done(call) {
         const form = byId('form'), isShown = this.context?.name === call.call;
         if (isShown && this.run) this.run.took(JSON.parse(call.text).vouchers);

@@ -1,5 +1,5 @@
-// The desk page: it puts forms, lists and statements before the doors. It decides nothing and keeps no books: what it shows as a number
-// a door said, and what it sends the program judges.
+// The desk page: it puts forms, lists and statements before the doors. It decides nothing and keeps
+// no books: what it shows as a number a door said, and what it sends the program judges.
 
 import {byId, fill} from './dom.js';
 import {Calls} from './calls.js';
@@ -17,8 +17,8 @@ import {Sent} from './sent.js';
 import {Vendors} from './vendors.js';
 import {Views} from './views.js';
 
-// How often the lists are asked for again, and from when on they are behind, in milliseconds. Where they haven't changed the proxy says so
-// alone.
+// How often the lists are asked for again, and from when on they are behind, in milliseconds. Where
+// they haven't changed the proxy says so alone.
 const RENEWED = 60 * 1000, BEHIND = 3 * 60 * 1000;
 
 async function begin() {
@@ -49,7 +49,10 @@ async function begin() {
     document.body.dataset.ready = 'yes';
 }
 
-/** The fiscal years that can be asked for; today's is shown first, whatever year the last entry is of. */
+/**
+ * The fiscal years that can be asked for; today's is shown first, whatever year the last entry is
+ * of.
+ */
 function years(chart, lists) {
     const now = Math.max(chart.yearOf(today()), chart.first_year), last = Math.max(now, ...lists.state.files.entries) + 1;
     const shown = Array.from({length: last + 1 - chart.first_year}, (_, place) => [last - place, String(last - place)]);
@@ -59,7 +62,10 @@ function years(chart, lists) {
     }
 }
 
-/** Says where answers are ahead of the lists for minutes, and what of the entries the lists don't follow. */
+/**
+ * Says where answers are ahead of the lists for minutes, and what of the entries the lists don't
+ * follow.
+ */
 class Age {
     constructor(doors, lists) {
         Object.assign(this, {doors, lists, since: undefined});

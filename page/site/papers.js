@@ -1,5 +1,6 @@
-// Paper: a purchase order, the remittance list of a payment run, and a receipt, each a page that prints. #paper/order/12, #paper/run/40 and
-// #paper/receipt/41 are their addresses: an order's number, and the places of the entries.
+// Paper: a purchase order, the remittance list of a payment run, and a receipt, each a page that
+// prints. #paper/order/12, #paper/run/40 and #paper/receipt/41 are their addresses: an order's
+// number, and the places of the entries.
 
 import {byId, made, row, table} from './dom.js';
 import {dated} from './chart.js';

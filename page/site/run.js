@@ -1,5 +1,6 @@
-// A payment run: the vouchers that may be owed through a day, by fund with its cash and what it lacks, ticked all, by vendor or by fund, and
-// sent as calls of at most so many with keys of one family.
+// A payment run: the vouchers that may be owed through a day, by fund with its cash and what it
+// lacks, ticked all, by vendor or by fund, and sent as calls of at most so many with keys of one
+// family.
 
 import {choice, fill, labelled, made, row, table} from './dom.js';
 import {many} from './calls.js';
@@ -148,7 +149,10 @@ export class Run {
             (calls > 1 ? `. They are sent as ${calls} calls of at most ${this.field.most}` : '') : '';
     }
 
-    /** The calls of a run: one under its key, or several under keys of one family, which no taken call has. */
+    /**
+     * The calls of a run: one under its key, or several under keys of one family, which no taken
+     * call has.
+     */
     calls(call, kept) {
         const {most} = this.field, own = kept.filter(each => each.reply?.ok && each.call === 'pay').map(each => each.key);
         if (call.vouchers.length <= most && !own.includes(call.key)) return [call];

@@ -1,4 +1,5 @@
-// What a form asks once more before a call is sent: what can't be undone, a day that is far away, and an invoice that looks like another.
+// What a form asks once more before a call is sent: what can't be undone, a day that is far away,
+// and an invoice that looks like another.
 
 import {dated, today} from './chart.js';
 import {daysFrom, isFinal, many} from './calls.js';
@@ -10,7 +11,10 @@ export class Slips {
         Object.assign(this, {chart, lists, calls, vendors});
     }
 
-    /** What is said of a call before it is sent, and the doubts that want a tick each; nothing where it can go at once. */
+    /**
+     * What is said of a call before it is sent, and the doubts that want a tick each; nothing where
+     * it can go at once.
+     */
     async of(call) {
         const doubts = [this.day(call), ...await this.invoice(call), ...this.order(call)].filter(Boolean);
         return isFinal(call) || doubts.length ? {sentence: this.calls.sentence(call), isFinal: isFinal(call), doubts} : null;
@@ -24,7 +28,10 @@ export class Slips {
         return Math.abs(away) >= FAR ? `The day is ${dated(call.on)}, ${far}.` : '';
     }
 
-    /** The same invoice, letters in upper or lower case, at any desk. Under its own key the program finds it. */
+    /**
+     * The same invoice, letters in upper or lower case, at any desk. Under its own key the program
+     * finds it.
+     */
     async invoice(call) {
         if (call.call !== 'voucher') return [];
         const key = call.key.toLowerCase(), desk = Number(call.desk);

@@ -1,7 +1,9 @@
-// The views, each with an address of its own: #enter/voucher, #lines/2027, #open/order, #statements/2027/budget, #council/2027, #sent and
-// #paper/order/12. What isn't one of them leaves the view as it is.
+// The views, each with an address of its own: #enter/voucher, #lines/2027, #open/order,
+// #statements/2027/budget, #council/2027, #sent and #paper/order/12. What isn't one of them leaves
+// the view as it is.
 
 import {byId} from './dom.js';
+import {today} from './chart.js';
 
 // The choices of a view that stand in its address.
 const CHOICES = {enter: ['call'], lines: ['lines-year', 'lines-fund', 'lines-dept'], open: ['open-kind'], statements: ['report-year', 'report-kind'],
@@ -9,7 +11,8 @@ const CHOICES = {enter: ['call'], lines: ['lines-year', 'lines-fund', 'lines-dep
 
 export class Views {
     constructor(chart, roles, views) {
-        Object.assign(this, {chart, roles, views});
+        // Today's year is left out of an address, so that a bookmark shows that of its day.
+        Object.assign(this, {chart, roles, views, year: String(chart.yearOf(today()))});
         for (const button of document.querySelectorAll('nav button')) button.addEventListener('click', () => this.go(button.dataset.view));
         for (const id of Object.values(CHOICES).flat()) if (id !== 'call') byId(id).addEventListener('change', () => this.tell());
         addEventListener('hashchange', () => this.follow());
@@ -26,7 +29,7 @@ export class Views {
         if (!this.views[name] || ['enter', 'sent'].includes(name) && !this.roles.length) return false;
         this.name = name;
         (CHOICES[name] || []).forEach((id, place) => {
-            const input = byId(id), value = rest[place] ?? '';
+            const input = byId(id), value = rest[place] || (id.endsWith('-year') ? this.year : '');
             if (input.value === value || ![...input.options].some(option => option.value === value)) return;
             input.value = value;
             if (id === 'call') input.dispatchEvent(new Event('change'));
@@ -44,7 +47,7 @@ export class Views {
 
     /** Puts the view and its choices into the address. */
     tell(isFirst = false) {
-        const values = (CHOICES[this.name] || []).map(id => byId(id).value);
+        const values = (CHOICES[this.name] || []).map(id => id.endsWith('-year') && byId(id).value === this.year ? '' : byId(id).value);
         while (values.length && !values.at(-1)) values.pop();
         const address = '#' + [this.name, ...values].map(encodeURIComponent).join('/');
         if (this.name === 'paper' || address === location.hash) return;
