@@ -202,6 +202,7 @@ def items(stand):
 def debts(stand):
     """A bond gives the accounts of its last payment, and what is due."""
     bond = stand.ask({"call": "issue", "desk": 5, "key": "bond-slips", "on": DAY, "fund": 4, "amount": 30000, "rate_bp": 425, "every": 1, "principals": [10000, 20000]})["ok"]["bond"]
+    stand.ask({"call": "collect", "desk": 5, "key": "collect-2-debts", "on": DAY, "bill": 2, "amount": 20000})
     stand.ask({"call": "pay_due", "desk": 5, "key": "debt-slips-1", "on": "2025-09-12", "bond": bond, "fund": 5, "dept": 11, "principal": 811, "interest": 821})
     stand.make_lists()
     clerk = stand.clerk("treasury")
