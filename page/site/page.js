@@ -32,10 +32,10 @@ async function begin() {
     byId('city').textContent = chart.city;
     byId('who').textContent = me.user + (desk ? `, desk ${desk.id} ${desk.name} (${roles.join(', ')})` : ', without a desk: may look alone');
     const enter = new Enter(city);
+    city.begin = (call, values) => { enter.begin(call, values); views.go('enter'); byId('call').focus(); };
     years(chart, lists);
     const sent = new Sent(city), views = new Views(chart, roles,
         {enter, lines: new Lines(city), open: new Open(city), statements: new Statements(city), council: new Council(city), sent, paper: city.papers});
-    city.begin = (call, values) => { enter.begin(call, values); views.go('enter'); byId('call').focus(); };
     enter.chose = () => views.tell();
     doors.addEventListener('changed', event => changed(event.detail, city, enter, sent));
     enter.offer(roles);
