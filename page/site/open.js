@@ -50,21 +50,23 @@ export class Open {
     }
 
     async show() {
+        const turn = this.turn = Symbol();
         byId('open-said').textContent = 'Asking for what is open ..';
         const kind = byId('open-kind').value, find = byId('open-find').value.trim().toLowerCase();
         await this.lists.load().catch(() => {});
+        if (turn !== this.turn) return;
         const who = each => kind === 'bill' ? String(each.who ?? '') : this.vendors.cell(each.who);
         const has = each => !find || [each.key, each.day, String(each.number), who(each)].some(text => text.toLowerCase().includes(find));
         this.left = this.lists.of(kind).filter(has);
         this.rows = [];
-        this.turn = Symbol();
+        this.kind = kind;
         byId('open-table').replaceChildren();
         await this.more();
     }
 
     /** Asks a door for the states of the next documents, a few at a time. */
     async more() {
-        const kind = byId('open-kind').value, {turn} = this, until = this.rows.length + MORE;
+        const {kind, turn} = this, until = this.rows.length + MORE;
         byId('open-more').hidden = true;
         byId('open-said').textContent = 'Asking for their states ..';
         while (this.left.length && this.rows.length < until) {
