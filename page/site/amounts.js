@@ -60,7 +60,7 @@ export class Amounts {
         if (!fund || year <= this.chart.first_year) return;
         const said = await this.doors.look({call: 'report', year: year - 1, kind: 'budget'}).catch(() => null);
         const found = said?.is && fundsOf(said.is.rows, this.chart).find(each => each.fund === fund);
-        if (!found || this.body.dataset.of !== now) return;
+        if (!found || this.body.dataset.of !== now || !this.body.isConnected) return;
         const sources = this.chart.source.filter(source => source.fund === fund);
         this.before = new Map(this.isLines ? found.lines.map(each => [each.line, each.all]) : found.sources.map((each, place) => [sources[place].id, each.estimated]));
         for (const input of this.inputs()) {

@@ -7,12 +7,20 @@ from slips import AHEAD, DAY, HOUR, SAID, SUBMIT, prepared
 COUNT = 150
 BUTTON = "[...document.querySelectorAll('#form button')].find(each => each.textContent === '{}').click()"
 TICKED = "document.querySelectorAll('#form .run input:checked').length"
-NAMES = 'vendor,name,address\n650,"Acme <b>& Sons</b>","12 Mill Road\nHarborview"\n651,Ü. Olsen\n'.replace("651,Ü. Olsen\n", "651,Ü. Olsen,\n")
+NAMES = 'vendor,name,address\n650,"Acme <b>& Sons</b>","12 Mill Road\nHarborview"\n651,Ü. Olsen,\n'
+# In pictures a name is as a city has it.
+PLAIN = {"Acme <b>& Sons</b>": "Acme & Sons"}
+
+
+def named(stand, text):
+    for marked, plain in PLAIN.items() if stand.pictures else ():
+        text = text.replace(marked, plain)
+    return text
 
 
 def run(stand):
     with open(os.path.join(stand.journal, "vendors.csv"), "w", encoding="utf-8") as file:
-        file.write(NAMES)
+        file.write(named(stand, NAMES))
     for place in range(COUNT):
         stand.ask({"call": "voucher", "desk": 4, "key": f"many-{place}", "on": DAY, "vendor": 650 + place % 3,
                    "items": [{"fund": 1 + place % 2, "dept": 40 if place % 2 == 0 else 30, "object": 522 if place % 2 == 0 else 513, "amount": 1000 + place}]})
@@ -72,7 +80,7 @@ def many(stand):
     clerk = stand.clerk("treasury")
     clerk.page.do(f"location.hash = '#paper/run/{place}'; true")
     said = clerk.page.until("/Total/.test(document.getElementById('paper-sheet').textContent) && document.getElementById('paper-sheet').textContent")
-    stand.holds("a remittance list", "remittance list" in said and "run-40-3" in said and "650 Acme <b>& Sons</b>" in said, said[:300])
+    stand.holds("a remittance list", "remittance list" in said and "run-40-3" in said and named(stand, "650 Acme <b>& Sons</b>") in said, said[:300])
     stand.picture(clerk.page, "remittance")
     for scheme in ("light", "dark"):
         clerk.page.media(prefers_color_scheme=scheme)
@@ -95,8 +103,8 @@ def short(stand):
     clerk.fill({"call": "pay", "on": DAY, "vouchers": made}, paper="41")
     stand.ask({"call": "void_voucher", "desk": 4, "key": "void-late", "on": DAY, "voucher": made[1]})
     said = clerk.send()
-    named = f"The voucher is: {made[1]} (late-1, vendor 651 Ü. Olsen, 10.00)" in said and "None of this call was paid" in said
-    stand.holds("a refused payment names its voucher", named, said)
+    meant = f"The voucher is: {made[1]} (late-1, vendor 651 Ü. Olsen, 10.00)" in said and "None of this call was paid" in said
+    stand.holds("a refused payment names its voucher", meant, said)
     stand.same("its vouchers stay ticked", clerk.page.do(TICKED), 3)
     stand.ask({"call": "pay", "desk": 15, "key": "run-late", "on": DAY, "vouchers": [made[0], made[2]]})
     clerk.page.close()
@@ -108,7 +116,7 @@ def papers(stand):
     place = stand.ask({"call": "collect", "desk": 5, "key": "collect-2-paper", "on": DAY, "bill": 2, "amount": 4321})["at"]
     stand.make_lists()
     clerk = stand.clerk("auditor")
-    wanted = {f"order/{order}": ("purchase order", "po-paper", "Acme <b>& Sons</b> (vendor 650)", "12 Mill Road", "50.00"),
+    wanted = {f"order/{order}": ("purchase order", "po-paper", named(stand, "Acme <b>& Sons</b> (vendor 650)"), "12 Mill Road", "50.00"),
               f"receipt/{place}": ("receipt", "collect-2-paper", "43.21", "payer 5000", "Debt levy")}
     for address, words in wanted.items():
         clerk.page.do(f"location.hash = '#paper/{address}'; true")
