@@ -24,6 +24,7 @@ done
 # began: starts it, and waits until it has said everything. Sets `demo` and `url`.
 began() {
     mkdir -p "$TMPDIR"
+    : > "$scratch/said"
     python3 examples/operate/demo > "$scratch/said" 2>&1 &
     demo=$!
     for try in $(seq 600); do
