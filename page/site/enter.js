@@ -367,7 +367,7 @@ export class Enter {
 
     /** Says an answer above the others. */
     say({kind, text, todo}, key, ...more) {
-        const said = made('div', {className: 'said ' + kind}, key ? made('b', {}, key + ' ') : '', text, todo ? made('p', {}, todo) : '', ...more);
+        const said = made('div', {className: 'said ' + kind}, key ? made('b', {}, key + ' ') : '', text + ' ', todo ? made('p', {}, todo) : '', ...more);
         byId('said').prepend(said);
         said.scrollIntoView({block: 'nearest'});
         while (byId('said').children.length > 20) byId('said').lastChild.remove();
