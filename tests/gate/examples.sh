@@ -253,7 +253,7 @@ expect "a desk after a refused chart" 7 "cityfund: not founded" desk
 # The doors of `serve` listen at their ports of 127.0.0.1 and nowhere else.
 fresh rivertown
 expect "found for doors" 0 founded found
-(cd "$scratch" && python3 "$top/tests/gate/listens.py" "$city/out/cityfund")
+(cd "$scratch" && python3 "$top/tests/lib/listens.py" "$city/out/cityfund")
 verdict "where doors listen" $?
 
 summary examples

@@ -1,8 +1,11 @@
-"""What README.md and the pages of docs/ quote stands in the stored talks and statements of examples/: each call with its reply, each statement whole.
+"""What README.md and the pages of docs/ quote stands in the stored talks and statements of examples/: each call with its reply, each
+statement whole below its title, and without a title rows that follow one another.
 
     python3 tests/gate/quotes.py
 """
 import glob
+import itertools
+import re
 import sys
 
 
@@ -45,12 +48,23 @@ def broken_statements(page, statements):
             yield number + 1
 
 
+def rows_apart(page, statements):
+    """Rows of a statement without its title, as those of one fund, that no stored statement has in this order."""
+    lines = quoted(page)
+    for _, block in itertools.groupby(enumerate(lines), lambda one: one[1][0] - one[0]):
+        numbers, rows = zip(*(one for _, one in block))
+        if re.fullmatch(r"\S[^\t]{38,} -?\d+\.\d\d", rows[-1]) and not any(
+            list(rows) == whole[place : place + len(rows)] for whole in statements for place in range(len(whole))
+        ):
+            yield numbers[0]
+
+
 def main():
     pairs = set(stored_pairs())
     statements = [lines_of(name) for name in glob.glob("examples/**/*.reports/*.txt", recursive=True)]
     faults = 0
     for page in ["README.md", *sorted(glob.glob("docs/*.md"))]:
-        for number in [*unknown_quotes(page, pairs), *broken_statements(page, statements)]:
+        for number in [*unknown_quotes(page, pairs), *broken_statements(page, statements), *rows_apart(page, statements)]:
             print("%s:%d: not in the stored talks and statements" % (page, number))
             faults += 1
     return min(faults, 1)

@@ -28,18 +28,22 @@ fn put(bytes: &mut Vec<u8>, at: u64, piece: &[u8]) -> Result<(), AllocError> {
     if bytes.len() < end {
         bytes.resize(end, 0)?;
     }
-    for (slot, byte) in bytes.iter_mut().skip(start).zip(piece) {
-        *slot = *byte;
-    }
+    let start = start.min(bytes.len());
+    let (_, behind) = bytes.as_mut_slice().split_at_mut(start);
+    let len = piece.len().min(behind.len());
+    let (slots, _) = behind.split_at_mut(len);
+    slots.copy_from_slice(&piece[..len]);
     Ok(())
 }
 
 /// Puts a byte 1 in the place of each byte of a piece.
 fn put_ones(bytes: &mut Vec<u8>, at: u64, piece: &[u8]) -> Result<(), AllocError> {
     put(bytes, at, piece)?;
-    for (slot, _) in bytes.iter_mut().skip(at as usize).zip(piece) {
-        *slot = 1;
-    }
+    let start = (at as usize).min(bytes.len());
+    let (_, behind) = bytes.as_mut_slice().split_at_mut(start);
+    let len = piece.len().min(behind.len());
+    let (slots, _) = behind.split_at_mut(len);
+    slots.fill(1);
     Ok(())
 }
 
