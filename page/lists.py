@@ -1,13 +1,15 @@
 #!/usr/bin/env python3
 """Makes what the page can't ask of a door, of what `books` prints of a journal, which it only reads:
 
-    lists.py BOOKS JOURNAL FOLDER
+    lists.py BOOKS JOURNAL FOLDER [VENDORS]
 
     chart.json           the chart
     state.json           the entries, the last day, the closed months and years, the fiscal years that have entries, when this was made,
                          and the entries that couldn't be followed
     open.json            the documents that may still be open, by kind, each with its items. Whether one is, a door is asked
     YEAR-entries.json    the entries of the days of a fiscal year: place, day, desk, key, call, cents, number
+    YEAR-invoices.json   the invoices, and YEAR-receipts.json the receipts: papers.py says their columns
+    vendors.json         the names of VENDORS, as vendors.py reads them, and what is wrong with it
     YEAR-fund-ID.json    what the fund's control lines have of that year: place, day, desk, key, call, cents, number, fund, department, object
 
 A file is written beside and moved into its place, and nothing is made where the journal hasn't changed. Years are apart, so a
@@ -25,6 +27,9 @@ import subprocess
 import sys
 import tomllib
 from collections import defaultdict
+
+import papers
+import vendors
 
 SKIPS = 100  # of entries that can't be followed, so many are said; all are counted
 TABLES = ("function", "fund", "department", "object", "source", "line", "desk")
@@ -283,6 +288,7 @@ class Lists:
     def __init__(self, chart):
         self.chart, self.calendar = chart, Calendar(chart)
         self.documents = Documents(chart, self.calendar)
+        self.papers = papers.Papers(self.calendar)
         self.entries, self.funds, self.closed, self.last = defaultdict(list), defaultdict(list), {"month": 0, "year": 0}, ""
         self.made = datetime.datetime.now(datetime.timezone.utc).isoformat(timespec="seconds")
         self.skips, self.skipped = [], []
@@ -293,7 +299,7 @@ class Lists:
         self.entries[self.calendar.year(row["day"])].append([*head, row["cents"], row["number"]])
         if call["call"] == "close":
             self.closed[call["what"]] += 1
-        for part in (self.spend, self.documents.take):
+        for part in (self.spend, self.documents.take, self.papers.take):
             try:
                 part(row, call)
             except Exception as fault:  # pylint: disable=broad-except
@@ -318,7 +324,7 @@ class Lists:
             self.funds[call["year"], fund].append([*head, cents, row["number"], line])
 
     def state(self):
-        years = {"entries": sorted(self.entries), "funds": sorted([year, fund] for year, fund in self.funds)}
+        years = {"entries": sorted(self.entries), "funds": sorted([year, fund] for year, fund in self.funds), **self.papers.state()}
         months = self.closed["month"]
         return {
             "entries": sum(map(len, self.entries.values())), "last": self.last, "months": months, "years": self.closed["year"],
@@ -331,6 +337,8 @@ class Lists:
             written(folder, f"{year}-entries.json", rows)
         for (year, fund), rows in self.funds.items():
             written(folder, f"{year}-fund-{fund}.json", rows)
+        for name, rows in self.papers.files().items():
+            written(folder, name, rows)
         written(folder, "open.json", {kind: [rows[number] for number in sorted(rows)] for kind, rows in self.documents.open.items()})
         written(folder, "state.json", self.state())
 
@@ -351,10 +359,25 @@ def stamp(journal):
     return [found.st_size, found.st_mtime_ns, found.st_ino]
 
 
+def name_vendors(folder, path=None):
+    """Takes the names of vendors, where they changed. What is wrong with their file is said each time; the old names stay."""
+    names = vendors.taken(path, folder)
+    if names["fault"]:
+        print(f"lists: {path}: {names['fault']}. The names that were read before stay.", file=sys.stderr)
+    try:
+        with open(os.path.join(folder, "vendors.json"), encoding="utf-8") as file:
+            if json.load(file) == names:
+                return
+    except (OSError, ValueError):
+        pass
+    written(folder, "vendors.json", names)
+
+
 def main():
-    if len(sys.argv) != 4:
+    if len(sys.argv) not in (4, 5):
         sys.exit(__doc__)
-    books, journal, folder = sys.argv[1:]
+    books, journal, folder = sys.argv[1:4]
+    name_vendors(folder, *sys.argv[4:])
     now, kept = stamp(journal), os.path.join(folder, "stamp")
     if os.path.exists(kept):
         with open(kept, encoding="utf-8") as file:

@@ -80,5 +80,8 @@ export function dated(text) {
     return MONTHS[month - 1] ? `${MONTHS[month - 1]} ${day ? Number(day) + ', ' : ''}${year}` : String(text);
 }
 
+/** A moment, as the clerk's clock has it: 2026-12-01 14:05. */
+export const local = moment => new Date(Date.parse(moment) - new Date(moment).getTimezoneOffset() * 60000).toISOString().slice(0, 16).replace('T', ' ');
+
 /** Today where the clerk is. */
 export const today = () => new Date(Date.now() - new Date().getTimezoneOffset() * 60000).toISOString().slice(0, 10);

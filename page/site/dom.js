@@ -64,13 +64,16 @@ export function wrong(input, text = '') {
 }
 
 /** A table with a caption, heads and rows; a head is its text, or [text, true] above amounts. */
-export function table(caption, heads, rows) {
-    const head = made('tr', {}, ...heads.map(each => {
-        const [text, isAmount] = Array.isArray(each) ? each : [each];
-        return text === '' ? made('td', {}) : made('th', {scope: 'col', className: isAmount ? 'amount' : ''}, text);
+export function table(caption, heads, rows, className = '') {
+    const texts = heads.map(each => Array.isArray(each) ? each[0] : each);
+    const head = made('tr', {role: 'row'}, ...heads.map((each, place) => {
+        const text = texts[place];
+        return text === '' ? made('td', {}) : made('th', {scope: 'col', role: 'columnheader', className: each[1] === true ? 'amount' : ''}, text);
     }));
+    // On a phone each row is a card, whose cells have the heads before them.
+    for (const each of rows) [...each.children].forEach((cell, place) => { if (texts[place]) cell.dataset.head = texts[place]; });
     return made('div', {className: 'scroll', tabIndex: 0, role: 'region', 'aria-label': caption},
-        made('table', {}, made('caption', {}, caption), made('thead', {}, head), made('tbody', {}, ...rows)));
+        made('table', {className, role: 'table'}, made('caption', {}, caption), made('thead', {role: 'rowgroup'}, head), made('tbody', {role: 'rowgroup'}, ...rows)));
 }
 
 const AMOUNT = /^-?[\d,]+\.\d\d$/, DAY = /^\d{4}-\d\d-\d\d$/;
@@ -78,9 +81,9 @@ const kindOf = part => typeof part !== 'string' ? '' : AMOUNT.test(part) ? 'amou
 
 /** A row of cells, the first of which heads it. */
 export function row(parts, className = '') {
-    return made('tr', {className}, ...parts.map((part, place) => {
+    return made('tr', {className, role: 'row'}, ...parts.map((part, place) => {
         const more = {className: kindOf(part)};
-        return place === 0 ? made('th', {scope: 'row', ...more}, part) : made('td', more, part);
+        return place === 0 ? made('th', {scope: 'row', role: 'rowheader', ...more}, part) : made('td', {role: 'cell', ...more}, part);
     }));
 }
 

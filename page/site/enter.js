@@ -1,11 +1,18 @@
-// The form of a call: its fields, its key, what it comes to, and the room of the lines that it would post or hold in.
+// The form of a call: its fields, its key, what it comes to, and the room of the lines that it
+// would post or hold in. What can't be undone is said in a sentence first, and sent by a second
+// button.
 
-import {byId, fill, labelled, made, row, table, wrong} from './dom.js';
-import {today} from './chart.js';
-import {json, money, sum} from './money.js';
-import {Account, amountInput, Context, Fault, inputOf, known, principalsOf, read, readAmount} from './fields.js';
+import {byId, fill, labelled, made, wrong} from './dom.js';
+import {local, today} from './chart.js';
+import {endOf, many} from './calls.js';
+import {Drafts} from './drafts.js';
+import {json, money} from './money.js';
+import {Account, Context, Fault, inputOf, known, principalsOf, read} from './fields.js';
+import {Amounts} from './amounts.js';
 import {Items} from './items.js';
+import {refusedVouchers, Run} from './run.js';
 import {Room} from './room.js';
+import {Slips} from './slips.js';
 
 const ON = {name: 'on', type: 'day', label: 'Day'};
 const REFERS = ['requisition', 'order', 'voucher', 'bill', 'asset', 'bond'];
@@ -14,15 +21,43 @@ export class Enter {
     constructor(city) {
         Object.assign(this, city);
         this.room = new Room(this.doors, this.chart);
-        byId('call').addEventListener('change', () => this.show());
+        this.slips = new Slips(this);
+        this.drafts = new Drafts(this.me);
+        byId('call').addEventListener('change', () => { this.show(); this.chose(); });
         byId('form').addEventListener('submit', event => this.submit(event));
-        byId('form').addEventListener('input', () => this.changed());
-        byId('form').addEventListener('change', () => this.changed());
+        for (const kind of ['input', 'change']) byId('form').addEventListener(kind, event => this.touched(event));
+        for (const kind of ['visibilitychange', 'focus', 'pageshow']) addEventListener(kind, () => this.wake());
+        setInterval(() => this.wake(), 30000);
     }
 
-    /** Takes newer lists into what numbers suggest. */
+    /** Takes newer lists into what numbers suggest, and into a payment run. */
     renew() {
-        byId('known').replaceChildren(...known(this.lists));
+        byId('known').replaceChildren(...known(this.lists, this.vendors));
+        this.run?.renew();
+    }
+
+    /** A change by the clerk: it is kept, so that another view or a reload doesn't lose it. */
+    touched({target}) {
+        if (target.name === 'on') this.ownDay = target.value !== today();
+        if (target.name === 'key') this.ownKey = target.value !== '';
+        this.changed();
+        this.keep();
+    }
+
+    keep() {
+        if (this.context) this.drafts.keep(this.context.name, byId('form'), this.ownDay, this.ownKey, this.run?.ticked);
+    }
+
+    /**
+     * Where a night has passed over an open page its form has the new day, unless the clerk chose
+     * one.
+     */
+    wake() {
+        const on = byId('form').elements.on;
+        if (!on || this.ownDay || on.value === today()) return;
+        on.value = today();
+        this.preset();
+        this.changed();
     }
 
     /** Offers the calls of the desk's roles. */
@@ -33,9 +68,10 @@ export class Enter {
         this.show();
     }
 
-    /** Shows the form of a call, with some fields filled in. */
+    /** Shows the form of a call anew, with some fields filled in. */
     begin(name, values) {
         byId('call').value = name;
+        this.drafts.forget(name);
         this.show();
         for (const [field, value] of Object.entries(values)) {
             const input = byId('form').elements.namedItem(field);
@@ -45,16 +81,18 @@ export class Enter {
     }
 
     show() {
-        const name = byId('call').value, form = byId('form'), on = form.elements.on?.value || today();
+        const name = byId('call').value, form = byId('form');
         form.replaceChildren();
-        this.context = undefined;
+        this.unprepare();
+        this.context = this.run = undefined;
+        this.ownDay = false;
         if (!name) return;
         const context = this.context = new Context(name, this.tables, this.chart, this.lists);
         this.boxes = [];
         const head = made('div', {className: 'fields'});
         form.append(head);
         this.add(ON, head);
-        form.elements.on.value = on;
+        form.elements.on.value = today();
         if (context.call.paper) {
             head.append(labelled(context.call.paper, made('input', {name: 'paper', autocomplete: 'off'}), 'It becomes part of the key'));
         }
@@ -62,25 +100,47 @@ export class Enter {
         this.account();
         context.call.fields.filter(field => field.type === 'list').forEach(field => this.addList(field, form));
         const key = made('input', {name: 'key', maxLength: 40, autocomplete: 'off', spellcheck: false});
-        key.addEventListener('input', () => { this.ownKey = key.value !== ''; });
         this.ownKey = false;
         form.append(labelled('Key', key, 'The one reference that an entry keeps. Under it the call can be taken once only'),
             made('p', {className: 'total', id: 'total', role: 'status'}), made('div', {id: 'room', role: 'status'}),
-            made('p', {}, made('button', {className: 'go', type: 'submit'}, 'Send')));
+            made('p', {className: 'buttons'}, made('button', {className: 'go', type: 'submit'}, 'Send'),
+                made('button', {type: 'button', onclick: () => this.empty()}, 'Empty the form')));
         this.preset();
         this.changed();
+        const draft = this.drafts.of(name);
+        if (draft) this.restore(draft);
+    }
+
+    /** What was half filled in. */
+    restore(draft) {
+        this.drafts.fill(draft, byId('form'), () => this.items?.more.click());
+        this.run?.restore(draft);
+        this.ownKey = draft.ownKey;
+        this.changed();
+    }
+
+    empty() {
+        this.drafts.forget(this.context.name);
+        this.show();
+        byId('form').elements.on.focus();
     }
 
     /** What most often stands in a field, where the page knows it. */
     preset() {
         const {elements} = byId('form'), {name} = this.context;
         for (const field of ['year', 'levy_year']) {
-            if (elements[field] && !elements[field].value) elements[field].value = this.chart.yearOf(elements.on.value);
+            if (name !== 'close' && elements[field] && !elements[field].value) elements[field].value = this.chart.yearOf(elements.on.value);
         }
-        if (name === 'close') {
-            elements.month.value = this.lists.state.next || '';
-            elements.year.value = this.chart.first_year + this.lists.state.years;
-        }
+        if (name !== 'close' || this.isPreset(elements)) return;
+        // A month or a year is proposed once it has ended: nothing opens it again.
+        const {next} = this.lists.state, year = this.chart.first_year + this.lists.state.years, now = today();
+        if (next && endOf(next) < now) elements.month.value = next;
+        if (endOf(this.calls.lastMonth(year)) < now) elements.year.value = year;
+    }
+
+    /** Whether the clerk chose what to close. */
+    isPreset({month, year}) {
+        return Boolean(month.value || year.value);
     }
 
     add(field, parent) {
@@ -95,14 +155,24 @@ export class Enter {
     }
 
     addList(field, form) {
-        const {name} = this.context;
-        const box = field.name === 'items' ? new Items(field, this.context, this.doors, () => this.changed()).box
-            : field.parts === 'n32' ? this.vouchers(field)
-            : field.parts === 'cents' ? principalsOf(field, this.context)
-            : this.amounts(field, name);
+        const box = this.listOf(field);
         box.field = field;
         this.boxes.push(box);
         form.append(box);
+    }
+
+    listOf(field) {
+        const changed = () => { this.changed(); this.keep(); };
+        if (field.name === 'items') {
+            this.items = new Items(field, this.context, this, changed);
+            return this.items.box;
+        }
+        if (field.parts === 'n32') {
+            this.run = new Run(field, this.context, this, changed);
+            this.lists.load().then(() => this.renew(), () => {});
+            return this.run.box;
+        }
+        return field.parts === 'cents' ? principalsOf(field, this.context) : new Amounts(field, this.context, this, changed).box;
     }
 
     /** The choices of an account at the top of the form, and of the lines of a fund. */
@@ -118,88 +188,53 @@ export class Enter {
         if (lines.length) this.linesOffered();
     }
 
-    /** An adoption's lines or estimates: each of the fund's with a place for its amount. */
-    amounts(field) {
-        const body = made('div', {}), total = made('p', {className: 'total', role: 'status'});
-        const about = made('p', {className: 'hint'}, field.hint || '');
-        const box = made('fieldset', {className: 'list'}, made('legend', {}, field.label), about, body, total);
-        const inputs = () => [...body.querySelectorAll('input')];
-        box.refill = () => {
-            const fund = this.context.value('fund'), year = this.context.year(), now = `${fund} ${this.chart.isLater(fund, year)}`;
-            if (body.dataset.of === now) return;
-            body.dataset.of = now;
-            const pairs = !fund ? [] : field.name === 'lines' ? this.chart.linesOf(year, fund).map(line => [line, this.chart.lineName(line)])
-                : this.chart.source.filter(source => source.fund === Number(fund)).map(source => [source.id, source.name]);
-            body.replaceChildren(...pairs.map(([id, text]) => {
-                const input = amountInput({name: `${field.name}-${id}`});
-                input.dataset.id = id;
-                return made('div', {className: 'line'}, labelled(text, input));
-            }));
-        };
-        box.readList = () => inputs().filter(input => input.value.trim()).map(input =>
-            ({[field.parts[0].name]: BigInt(input.dataset.id), amount: readAmount(input, input.value, 1n)}));
-        box.say = () => {
-            total.textContent = tried(() => box.readList(), found => found.length ? `${field.label}: ${money(sum(found.map(each => each.amount)))}` : '');
-        };
-        return box;
-    }
-
-    /** The vouchers of a payment: those that may be owed, to be ticked, and numbers beside them. */
-    vouchers(field) {
-        const rows = this.lists.of('voucher').reverse().map(each => {
-            const isOwn = each.desk === this.me.desk, number = String(each.number);
-            const tick = made('input', {type: 'checkbox', name: 'voucher-' + number, value: number, disabled: isOwn, 'aria-label': `Voucher ${number}, ${each.key}`});
-            tick.dataset.cents = each.cents;
-            return row([number, tick, each.day, each.key, String(each.who), money(each.cents), isOwn ? 'this desk entered it' : '']);
-        });
-        const more = made('input', {name: 'vouchers-more', autocomplete: 'off'}), total = made('p', {className: 'total', role: 'status'});
-        const box = made('fieldset', {className: 'list'}, made('legend', {}, field.label),
-            table('Vouchers that may be owed', ['Voucher', 'Pay', 'Day', 'Key', 'Vendor', ['Amount', true], ''], rows),
-            labelled('Others, by number', more, 'Those that were entered in the last minutes: 12, 13'), total);
-        box.readList = () => {
-            const ticked = [...box.querySelectorAll('input:checked')].map(tick => BigInt(tick.value));
-            if (!/^[\d\s,]*$/.test(more.value)) throw new Fault(more, 'Numbers with commas between them');
-            const all = [...ticked, ...(more.value.match(/\d+/g) || []).map(BigInt)];
-            if (new Set(all).size < all.length) throw new Fault(more, 'A voucher is named twice');
-            if (all.length < field.least || all.length > field.most) throw new Fault(more, `A payment has ${field.least} to ${field.most} vouchers`);
-            return all;
-        };
-        box.say = () => {
-            const ticked = [...box.querySelectorAll('input:checked')];
-            total.textContent = ticked.length ? `${ticked.length} ticked, ${money(sum(ticked.map(tick => tick.dataset.cents)))}` : '';
-        };
-        return box;
-    }
-
     /** Says what a number names, as a door has it now. */
     async refer(kind, input, box) {
         const place = box.querySelector('.refers'), number = input.value.trim();
         place.textContent = '';
         if (!/^\d{1,10}$/.test(number)) return;
-        const found = this.lists.document(kind, number), asked = input.value;
+        const found = this.lists.document(kind, number), asked = input.value, ofItems = kind === 'order' && this.context?.name === 'change_order';
+        if (ofItems && found) this.orderItems(found, found.items.map((item, at) => `${at + 1}: ${this.chart.account(...item)}`));
         const said = await this.doors.look({call: kind, [kind]: Number(number)}).catch(() => null);
         if (!said || input.value !== asked) return;
         const now = said.is ? this.states.say(kind, said.is) : this.words.of(said).text.replace(' Nothing was entered.', '');
         place.textContent = (found ? found.key + ': ' : '') + now;
-        if (kind === 'order' && this.context?.name === 'change_order') this.orderItems(found, said);
+        if (kind === 'bond' && this.context?.name === 'pay_due' && said.is?.next) await this.debt(number, input, place);
+        if (ofItems && said.is) this.orderItems(found, said.is.items.map((each, at) => this.states.item(each, at)));
+    }
+
+    /**
+     * The accounts of a debt's last payment, and the principal that is due. The interest the
+     * program computes.
+     */
+    async debt(number, input, place) {
+        const {due, accounts} = await this.lists.debt(number).catch(() => ({accounts: []})), {elements} = byId('form');
+        if (input.value.trim() !== number || !place.isConnected) return;
+        if (due !== undefined) place.textContent += `; it pays ${money(due)} of principal, and interest`;
+        const [fund, dept, principal, interest] = accounts;
+        if (accounts.length && !elements.fund.value) this.chosen.choose({fund, dept, principal, interest});
+        this.changed();
     }
 
     /** A change of an order names an item: its account is that of the order. */
-    orderItems(found, said) {
-        const {elements} = byId('form');
-        if (!found || !said.is) return;
-        const item = elements.namedItem('item');
+    orderItems(found, texts) {
+        const item = byId('form').elements.namedItem('item');
+        fill(item, texts.map((text, place) => [place + 1, text]), 'Choose');
         item.onchange = () => {
-            const account = found.items[Number(item.value) - 1];
+            const account = found?.items[Number(item.value) - 1];
             if (account) this.chosen.set(...account.slice(0, 3));
         };
         item.onchange();
     }
 
-    /** After each change: what stands with the word that is chosen, the choices of the year, the key, the total and the room. */
+    /**
+     * After each change: what stands with the word that is chosen, the choices of the year, the
+     * key, the total and the room.
+     */
     changed() {
         const {context} = this, form = byId('form');
         if (!context) return;
+        this.unprepare();
         const what = context.value('what');
         for (const box of this.boxes) box.hidden = Boolean(box.field.only && !box.field.only.includes(what));
         const state = [context.year(), what, context.value('fund')].join();
@@ -215,7 +250,10 @@ export class Enter {
         this.room.show(context, () => tried(() => this.read(false), call => call));
     }
 
-    /** The key by what the clerk has: each part is that field's value. It is empty while one of them is. */
+    /**
+     * The key by what the clerk has: each part is that field's value. It is empty while one of them
+     * is.
+     */
     key() {
         let whole = true;
         const made = this.context.call.key.replace(/\{([\w/]+)\}/g, (all, names) => {
@@ -246,42 +284,124 @@ export class Enter {
         return call;
     }
 
-    submit(event) {
+    /** The calls of the form: one, or those of a payment run. */
+    readAll() {
+        const call = this.read(true), form = byId('form');
+        const calls = this.run ? this.run.calls(call, this.doors.kept()) : [call];
+        if (calls.some(each => each.key.length > 40)) throw new Fault(form.elements.key, 'The keys of a run get a number behind it: it is too long');
+        for (const each of calls) {
+            const other = this.doors.waiting().find(one => one.key === each.key && one.text !== json(each));
+            if (other) throw new Fault(form.elements.key, 'A call with this key has no answer yet: wait for it, or take another key');
+        }
+        return calls;
+    }
+
+    async submit(event) {
         event.preventDefault();
+        const turn = this.turn = Symbol();
         for (const input of byId('form').elements) if (input.id) wrong(input);
         try {
-            const call = this.read(true), text = json(call);
-            const other = this.doors.waiting().find(each => each.key === call.key && each.text !== text);
-            if (other) throw new Fault(byId('form').elements.key, 'A call with this key has no answer yet: wait for it, or take another key');
-            this.doors.enter({call: call.call, key: call.key, on: call.on, text});
+            const calls = this.readAll(), whole = this.run ? {...calls[0], vouchers: calls.flatMap(call => call.vouchers)} : calls[0];
+            const asked = await this.slips.of(whole);
+            if (turn !== this.turn) return;
+            if (asked) this.prepare(asked, calls);
+            else this.enter(calls);
         } catch (fault) {
-            if (fault instanceof Fault) {
-                wrong(fault.input, fault.message);
-                fault.input.focus();
-                this.say({kind: 'no', text: `Nothing was sent. ${fault.message}.`, todo: ''}, '');
-            } else {
-                const text = `Nothing was sent: the browser can’t keep the call (${fault.message}).`;
-                this.say({kind: 'no', text, todo: 'Forget answered calls below “Sent”, then send it again.'}, '');
-            }
+            this.fail(fault);
         }
     }
 
-    /** Says an answer above the others, and begins a new form where the call was taken. */
-    say({kind, text, todo}, key) {
-        const said = made('div', {className: 'said ' + kind}, key ? made('b', {}, key + ' ') : '', text, todo ? made('p', {}, todo) : '');
+    fail(fault) {
+        if (fault instanceof Fault) {
+            wrong(fault.input, fault.message);
+            fault.input.focus();
+            this.say({kind: 'no', text: `Nothing was sent. ${fault.message}.`, todo: ''}, '');
+        } else {
+            const text = `Nothing was sent: the browser can’t keep the call (${fault.message}).`;
+            this.say({kind: 'no', text, todo: 'Forget answered calls below “Sent”, then send it again.'}, '');
+        }
+    }
+
+    /** Writes calls down, and sends them. */
+    enter(calls) {
+        const family = calls.length > 1 ? `${calls[0].key} ..` : undefined;
+        try {
+            for (const call of calls) this.doors.enter({call: call.call, key: call.key, on: call.on, text: json(call), about: this.calls.about(call), family});
+        } catch (fault) {
+            this.fail(fault);
+        }
+    }
+
+    /** Says what is about to be done. A second button sends it, once each doubt has its tick. */
+    prepare({sentence, isFinal, doubts}, calls) {
+        const ticks = doubts.map((doubt, place) => {
+            const tick = made('input', {type: 'checkbox', id: `doubt-${place}`});
+            return made('p', {className: 'doubt'}, tick, made('label', {htmlFor: tick.id}, doubt + ' It is right so.'));
+        });
+        const said = made('p', {className: 'fault', role: 'alert'}), place = byId('prepared');
+        const go = () => {
+            const open = place.querySelector('.doubt input:not(:checked)');
+            if (open) {
+                said.textContent = 'Read the sentence, and tick it where it is right.';
+                return open.focus();
+            }
+            this.unprepare();
+            this.enter(calls);
+        };
+        const back = () => { this.unprepare(); byId('form').querySelector('.go').focus(); };
+        const more = calls.length > 1 ? ` It is sent as ${many(calls.length, 'call')}, ${calls[0].key} to ${calls.at(-1).key}.` : '';
+        place.replaceChildren(made('p', {className: 'sentence', id: 'sentence'}, sentence + '.' + more),
+            isFinal ? made('p', {className: 'hint'}, 'No call takes it back.') : '', ...ticks, said,
+            made('p', {className: 'buttons'}, made('button', {type: 'button', className: 'go', onclick: go}, isFinal ? 'Yes, send it' : 'Send it so'),
+                made('button', {type: 'button', onclick: back}, 'Back to the form')));
+        place.hidden = false;
+        place.focus();
+        place.scrollIntoView({block: 'nearest'});
+    }
+
+    unprepare() {
+        this.turn = undefined;
+        byId('prepared').hidden = true;
+        byId('prepared').replaceChildren();
+    }
+
+    /** Says an answer above the others. */
+    say({kind, text, todo}, key, ...more) {
+        const said = made('div', {className: 'said ' + kind}, key ? made('b', {}, key + ' ') : '', text + ' ', todo ? made('p', {}, todo) : '', ...more);
         byId('said').prepend(said);
         said.scrollIntoView({block: 'nearest'});
         while (byId('said').children.length > 20) byId('said').lastChild.remove();
     }
 
     async answered(call, reply) {
-        if (reply.ok) this.lists.took(JSON.parse(call.text), reply.ok);
+        const said = JSON.parse(call.text), about = call.about || this.calls.about(said);
+        const which = reply.no && said.vouchers ? refusedVouchers(said, reply.no, this.lists, this.vendors, this.words) : '';
+        if (reply.ok) this.lists.took(said, reply.ok, reply.at);
         if (reply.no?.was) await this.lists.find(reply.no.was).catch(() => {});
-        this.say(this.words.of(reply, call.call), call.key);
-        if (reply.ok && byId('form').elements.key?.value === call.key) {
-            const isAt = byId('form').contains(document.activeElement);
+        const {kind, text, todo} = this.words.of(reply, call.call);
+        this.say({kind, text: `${text}${about && reply.ok ? ` ${about}, ${local(call.made)}.` : ''}`, todo: [which, todo].filter(Boolean).join(' ')}, call.key,
+            reply.ok ? this.papers.link(call, reply) : '');
+        if (reply.ok) this.done(call);
+        if (reply.ok || which) this.run?.renew();
+    }
+
+/**
+ * Begins a new form where what this one says was taken. Of a payment run what wasn't taken stays
+ * ticked.
+ */
+    done(call) {
+        const form = byId('form'), isShown = this.context?.name === call.call;
+        if (isShown && this.run) this.run.took(JSON.parse(call.text).vouchers);
+        const isDone = call.family ? !this.run?.ticked.size : form.elements.key?.value === call.key;
+        if (isShown && isDone) {
+            const isAt = [form, byId('prepared')].some(part => part.contains(document.activeElement)) || document.activeElement === document.body;
+            this.drafts.forget(call.call);
             this.show();
-            if (isAt) byId('form').elements.on.focus({preventScroll: true});
+            if (isAt) form.elements.on.focus({preventScroll: true});
+        } else if (isShown) {
+            this.keep();
+        } else if (this.drafts.of(call.call)?.key === call.key) {
+            this.drafts.forget(call.call);
         }
     }
 }

@@ -11,6 +11,7 @@ const ACCOUNTS = {
     lease: {kinds: ['capital'], line: true}, asset: {kinds: ['capital'], line: false},
     pay_due: {kinds: ['principal', 'interest'], line: true},
 };
+const FIRST_DAY = '1970-01-01', LAST_DAY = '2199-12-31';
 const DOCUMENTS = ['requisition', 'order', 'voucher', 'bill', 'asset', 'bond'];
 
 export class Fault extends Error {
@@ -81,7 +82,11 @@ export class Account {
     }
 
     set(fund, dept, object) {
-        for (const [name, id] of Object.entries({fund, dept, object})) {
+        this.choose({fund, dept, object});
+    }
+
+    choose(values) {
+        for (const [name, id] of Object.entries(values)) {
             this.inputs[name].value = String(id);
             this.offer();
         }
@@ -99,13 +104,14 @@ export function inputOf(field, context) {
     const {chart, name: call} = context, {name, type} = field, more = {name};
     if (type === 'true or false') return made('input', {...more, type: 'checkbox'});
     if (type === 'choice') return choice(more, Object.entries(field.words));
-    if (type === 'day') return made('input', {...more, type: 'date', min: '1970-01-01', max: '2199-12-31'});
+    if (type === 'day') return made('input', {...more, type: 'date', min: FIRST_DAY, max: LAST_DAY});
     if (type === 'month') return made('input', {...more, type: 'month', min: '1970-01', max: '2199-12'});
     if (type === 'cents' || type === 'by') return amountInput(more);
     if (type === 'n16' && ['fund', 'dept', 'object', 'principal', 'interest'].includes(name)) return choice(more, [], 'Choose');
     if (name === 'source') return choice(more, chart.source.map(row => [row.id, `${row.id} ${row.name} (${chart.name('fund', row.fund)})`]), 'Choose');
     if (call === 'interfund' && ['from', 'to'].includes(name)) return choice(more, chart.pairs('fund'), 'Choose');
     if (['line', 'from', 'to'].includes(name)) return choice(more, [], 'Choose');
+    if (name === 'item') return choice(more, [], 'Choose');
     if (name === 'every') return choice(more, [1, 2, 3, 4, 6, 12].map(months => [months, String(months)]));
     const input = made('input', {...more, inputMode: 'numeric', autocomplete: 'off'});
     if (DOCUMENTS.includes(name)) input.setAttribute('list', 'known-' + name);
@@ -123,9 +129,9 @@ export function amountInput(more) {
 }
 
 /** Numbers of documents that may be open, as suggestions. */
-export function known(lists) {
+export function known(lists, vendors) {
     return DOCUMENTS.map(kind => made('datalist', {id: 'known-' + kind}, ...lists.of(kind).slice(0, 500).map(each => {
-        const who = each.who ? `, ${kind === 'bill' ? 'payer' : 'vendor'} ${each.who}` : '';
+        const who = each.who ? `, ${kind === 'bill' ? `payer ${each.who}` : vendors.say(each.who)}` : '';
         return made('option', {value: String(each.number), label: `${each.key}${who}${each.cents === null ? '' : ', ' + money(each.cents)}`});
     })));
 }
@@ -141,6 +147,7 @@ export function read(field, input, isNeeded) {
         if (isNeeded) throw new Fault(input, input.tagName === 'SELECT' ? `Choose: ${label}` : `${label} is missing`);
         return undefined;
     }
+    if (type === 'day' && !(text >= FIRST_DAY && text <= LAST_DAY)) throw new Fault(input, `The year of the day is ${Number(text.split('-')[0])}: it is from 1970 to 2199`);
     if (type === 'cents' || type === 'by') return readAmount(input, text, type === 'by' ? null : field.name === 'proceeds' ? 0n : 1n);
     if (RANGES[type]) {
         const [least, most] = RANGES[type];

@@ -1,12 +1,12 @@
 // The items of a requisition, an order or a voucher: an account with its amount each, and of a voucher the item of an order that it is of.
 
-import {choice, labelled, made} from './dom.js';
+import {choice, fill, labelled, made} from './dom.js';
 import {Account, Fault, inputOf, read} from './fields.js';
 import {money, sum} from './money.js';
 
 export class Items {
-    constructor(field, context, doors, changed) {
-        Object.assign(this, {field, context, doors, changed, rows: []});
+    constructor(field, context, {doors, states, vendors}, changed) {
+        Object.assign(this, {field, context, doors, states, vendors, changed, rows: []});
         this.total = made('p', {className: 'total', role: 'status'});
         this.more = made('button', {type: 'button', onclick: () => { this.add().focus(); changed(); }}, 'One more item');
         this.box = made('fieldset', {className: 'list'}, made('legend', {}, field.label), this.more, this.total);
@@ -22,7 +22,8 @@ export class Items {
         const make = part => part.name === 'order' ? this.orders() : inputOf(part, context);
         const inputs = Object.fromEntries(field.parts.map(part => [part.name, make(part)]));
         const out = {type: 'button', className: 'away', 'aria-label': `Take item ${place} out`, onclick: () => this.remove(row)};
-        const about = part => part.label + (part.optional && part.type !== 'true or false' ? ' (optional)' : '');
+        // The item of an order is needed where an order is named.
+        const about = part => part.label + (part.optional && part.type !== 'true or false' && part.name !== 'item' ? ' (optional)' : '');
         const boxes = field.parts.map(part => labelled(about(part), inputs[part.name], part.hint));
         const ofOrder = ['item', 'recorded', 'final'].map(name => inputs[name]?.box).filter(Boolean);
         const note = made('p', {className: 'note', role: 'status'});
@@ -30,7 +31,7 @@ export class Items {
         row.account = new Account(context, {fund: inputs.fund, dept: inputs.dept, object: inputs.object});
         if (inputs.order) {
             const show = () => ofOrder.forEach(box => { box.hidden = !inputs.order.value; });
-            inputs.order.addEventListener('change', () => { show(); this.fillItem(row); });
+            inputs.order.addEventListener('change', () => { show(); this.fillItems(row); });
             inputs.item.addEventListener('change', () => this.fillAccount(row));
             show();
         }
@@ -52,15 +53,20 @@ export class Items {
 
     /** The orders that may be open, by their names. */
     orders() {
-        return choice({name: 'order'}, this.context.lists.of('order').map(each => [each.number, `${each.number} ${each.key}, vendor ${each.who}`]), 'None');
+        return choice({name: 'order'}, this.context.lists.of('order').map(each => [each.number, `${each.number} ${each.key}, ${this.vendors.say(each.who)}`]), 'None');
     }
 
-    async fillItem(row) {
+    /** The items of the order that is chosen, each with what is open of it as a door has it. */
+    async fillItems(row) {
         const {inputs} = row, number = inputs.order.value, found = this.context.lists.document('order', number);
-        if (!number) return;
+        if (!found) return fill(inputs.item, [], 'Choose');
+        fill(inputs.item, found.items.map((item, place) => [place + 1, `${place + 1}: ${this.context.chart.account(...item)}`]), 'Choose');
         if (!inputs.item.value) inputs.item.value = '1';
         this.fillAccount(row);
-        if (found && !this.context.form.elements.vendor.value) this.context.form.elements.vendor.value = found.who;
+        if (!this.context.form.elements.vendor.value) this.context.form.elements.vendor.value = found.who;
+        const said = await this.doors.look({call: 'order', order: Number(number)}).catch(() => null);
+        if (!said?.is || inputs.order.value !== number) return;
+        said.is.items.forEach((item, place) => { inputs.item.options[place + 1].textContent = this.states.item(item, place); });
     }
 
     fillAccount({inputs, account}) {

@@ -30,7 +30,7 @@ export class Lines {
         });
         const rows = [...new Set(shown.map(each => this.chart.line[each.line].fund))].flatMap(id => this.ofFund(id, shown, year));
         place.replaceChildren(legend(), table(`Budget lines of fiscal year ${year}`, ['Line', 'Of the appropriation', ['Appropriated', true],
-            ['Spent', true], ['Ordered', true], ['Held', true], ['Room', true]], rows), made('p', {className: 'hint'}, `${shown.length} lines, as of entry ${said.at}`));
+            ['Spent', true], ['Ordered', true], ['Held', true], ['Room', true]], rows, 'cards'), made('p', {className: 'hint'}, `${shown.length} lines, as of entry ${said.at}`));
     }
 
     ofFund(fund, lines, year) {

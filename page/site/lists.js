@@ -2,12 +2,16 @@
 // minutes old; what became of a document a door is asked.
 
 export class Lists {
-    constructor(doors, chart) {
-        Object.assign(this, {doors, chart, open: {}, state: {files: {entries: [], funds: []}, months: 0, years: 0}, years: new Map()});
+    constructor(doors, chart, vendors) {
+        Object.assign(this, {doors, chart, vendors, open: {}, state: {files: {entries: [], funds: []}, months: 0, years: 0}, years: new Map()});
     }
 
     async load() {
-        [this.state, this.open] = await Promise.all([got('data/state.json'), got('data/open.json')]);
+        const [state, open] = await Promise.all([got('data/state.json'), got('data/open.json')]);
+        // Lists from before this page's own last call would show again what it ended.
+        if (!(state.entries < this.own)) Object.assign(this, {state, open});
+        else this.state = state;
+        this.vendors.take(await got('data/vendors.json').catch(() => ({vendors: [], fault: ''})));
     }
 
     /** Documents of a kind that may be open, the newest first. */
@@ -20,8 +24,9 @@ export class Lists {
     }
 
     /** What this page's own call did, until the lists are made anew. */
-    took(call, ok) {
+    took(call, ok, at) {
         const number = ok[call.call], {open} = this;
+        this.own = Math.max(at || 0, this.own || 0);
         if (number && open[call.call] && !this.document(call.call, number)) {
             const items = call.items?.map(item => [item.fund, item.dept, item.object, item.amount]);
             const cents = items ? items.reduce((all, item) => all + item[3], 0) : call.amount;
@@ -49,6 +54,41 @@ export class Lists {
             .map(([place, day, desk, key, call, cents, number]) => ({place, day, desk, key, call, cents, number}));
     }
 
+    /** Rows of a kind of papers, of all years or of the last ones. */
+    async rows(kind, last = Infinity) {
+        const years = (this.state.files[kind] || []).slice(-last);
+        return (await Promise.all(years.map(year => got(`data/${year}-${kind}.json`)))).flat();
+    }
+
+    /** Invoices of the last two years with a key, letters in upper or lower case. */
+    async invoices(key) {
+        const rows = await this.rows('invoices', 2).catch(() => []);
+        return rows.filter(each => each[3].toLowerCase() === key).map(invoiceOf);
+    }
+
+    /** What a payment paid, by the place of its entry. */
+    async ofRun(place) {
+        return (await this.rows('invoices')).filter(each => each[7] === place).map(invoiceOf);
+    }
+
+    /** A bond's or lease's principals, how many are paid, and the accounts of its last payment. */
+    async debt(number) {
+        const [principals, paid, accounts] = (await got('data/debts.json'))[number] || [[], 0, []];
+        return {due: principals[paid], accounts};
+    }
+
+    async receipt(place) {
+        const found = (await this.rows('receipts').catch(() => [])).find(each => each[0] === place);
+        if (!found) return undefined;
+        const [, day, desk, key, bill, payer, source, cents] = found;
+        return {day, desk, key, bill, payer, source, cents};
+    }
+
+    async entryAt(place) {
+        await this.find(place).catch(() => {});
+        return this.entry(place);
+    }
+
     /** Loads the years' entries, the last first, until one has that place. */
     async find(place) {
         await this.load();
@@ -67,6 +107,10 @@ export class Lists {
         const sent = this.doors.kept().find(({reply}) => reply?.ok && (reply.was ?? reply.at) === Number(place));
         return sent && {key: sent.key, call: sent.call, day: sent.on};
     }
+}
+
+function invoiceOf([place, day, desk, key, vendor, cents, number, ended, state]) {
+    return {place, day, desk, key, vendor, cents, number, ended, state};
 }
 
 /** A file of the page. */

@@ -9,7 +9,8 @@ const KINDS = [['requisition', 'Requisitions'], ['order', 'Orders'], ['voucher',
 const MORE = 40;
 // What can be done with a document of a kind, by call and field.
 const NEXT = {requisition: [['withdraw', 'requisition'], ['order', 'requisition']], order: [['change_order', 'order'], ['cancel_order', 'order']],
-    voucher: [['void_voucher', 'voucher']], bill: [['collect', 'bill'], ['write_off', 'bill']], asset: [], bond: [['pay_due', 'bond']]};
+    voucher: [['void_voucher', 'voucher']], bill: [['collect', 'bill'], ['write_off', 'bill']], asset: [['asset', 'asset', {what: 'dispose'}]],
+    bond: [['pay_due', 'bond']]};
 
 export class States {
     constructor(chart) {
@@ -21,12 +22,15 @@ export class States {
             bill: () => is.left !== '0', asset: () => is.state === 'held', bond: () => is.next !== ''}[kind]();
     }
 
+    /** An order's item: its number, its line, and what is open of it. */
+    item(each, place) {
+        return `${place + 1}: ${this.chart.lineName(each.line)}, ${each.state === 'live' ? `${money(each.open)} open, of ${each.year}` : each.state}`;
+    }
+
     /** The state of a document in words. */
     say(kind, is) {
-        const item = (each, place) => `${place + 1}: ${this.chart.lineName(each.line)}, ` +
-            (each.state === 'live' ? `${money(each.open)} open, of ${each.year}` : each.state);
         return {
-            order: () => `vendor ${is.vendor}; ` + is.items.map((each, place) => item(each, place)).join('; '),
+            order: () => is.items.map((each, place) => this.item(each, place)).join('; '),
             requisition: () => `${is.state}, of ${is.year}: ` + is.items.map(each => `${this.chart.lineName(each.line)} ${money(each.amount)}`).join('; '),
             voucher: () => `${is.state}, ${money(is.amount)}, of ${is.year}`,
             bill: () => `${money(is.left)} left of ${this.chart.name('source', is.source)} ${is.levy_year}`,
@@ -46,20 +50,23 @@ export class Open {
     }
 
     async show() {
+        const turn = this.turn = Symbol();
         byId('open-said').textContent = 'Asking for what is open ..';
         const kind = byId('open-kind').value, find = byId('open-find').value.trim().toLowerCase();
         await this.lists.load().catch(() => {});
-        const has = each => !find || [each.key, each.day, String(each.number), String(each.who ?? '')].some(text => text.toLowerCase().includes(find));
+        if (turn !== this.turn) return;
+        const who = each => kind === 'bill' ? String(each.who ?? '') : this.vendors.cell(each.who);
+        const has = each => !find || [each.key, each.day, String(each.number), who(each)].some(text => text.toLowerCase().includes(find));
         this.left = this.lists.of(kind).filter(has);
         this.rows = [];
-        this.turn = Symbol();
+        this.kind = kind;
         byId('open-table').replaceChildren();
         await this.more();
     }
 
     /** Asks a door for the states of the next documents, a few at a time. */
     async more() {
-        const kind = byId('open-kind').value, {turn} = this, until = this.rows.length + MORE;
+        const {kind, turn} = this, until = this.rows.length + MORE;
         byId('open-more').hidden = true;
         byId('open-said').textContent = 'Asking for their states ..';
         while (this.left.length && this.rows.length < until) {
@@ -71,7 +78,7 @@ export class Open {
         }
         const who = kind === 'bill' ? 'Payer' : 'Vendor';
         const name = KINDS.find(([each]) => each === kind)[1], heads = ['Number', 'Day', 'Key', who, ['Amount', true], 'Now', ''];
-        byId('open-table').replaceChildren(this.rows.length ? table(name, heads, this.rows) : '');
+        byId('open-table').replaceChildren(this.rows.length ? table(name, heads, this.rows, 'cards') : '');
         byId('open-said').textContent = `${this.rows.length || 'None'} open${this.left.length ? ', and more that may be' : ''}. ` +
             `The list has the entries up to ${this.lists.state.entries}.`;
         byId('open-more').hidden = this.left.length === 0;
@@ -79,9 +86,11 @@ export class Open {
 
     row(kind, each, is) {
         const {calls} = this.tables, able = NEXT[kind].filter(([call]) => this.roles.includes(calls[call].role));
-        const next = able.map(([call, field]) =>
-            made('button', {type: 'button', className: 'small', onclick: () => this.begin(call, {[field]: each.number})}, calls[call].title));
-        const cents = each.cents === null ? '' : money(each.cents);
-        return row([String(each.number), each.day, each.key, String(each.who ?? ''), cents, this.states.say(kind, is), made('span', {}, ...next)]);
+        const next = able.map(([call, field, more = {}]) => made('button', {type: 'button', className: 'small',
+            onclick: () => this.begin(call, {...more, [field]: each.number})}, kind === 'asset' ? 'Dispose of it' : calls[call].title));
+        if (kind === 'order') next.push(made('a', {href: `#paper/order/${each.number}`}, 'Purchase order'));
+        // Of several assets of an invoice each has its own cost.
+        const amount = kind === 'asset' ? is.cost : each.cents, who = kind === 'bill' ? String(each.who ?? '') : this.vendors.cell(each.who);
+        return row([String(each.number), each.day, each.key, who, amount === null ? '' : money(amount), this.states.say(kind, is), made('span', {}, ...next)]);
     }
 }

@@ -1,67 +1,93 @@
-// The desk page: it puts forms, lists and statements before the doors. It decides nothing and keeps no books: what it shows as a number
-// a door said, and what it sends the program judges.
+// The desk page: it puts forms, lists and statements before the doors. It decides nothing and keeps
+// no books: what it shows as a number a door said, and what it sends the program judges.
 
 import {byId, fill} from './dom.js';
-import {Chart} from './chart.js';
+import {Calls} from './calls.js';
+import {Chart, local, today} from './chart.js';
 import {Doors} from './doors.js';
 import {got, Lists} from './lists.js';
 import {Words} from './words.js';
 import {Enter} from './enter.js';
 import {Lines} from './lines.js';
 import {Open, States} from './open.js';
+import {Papers} from './papers.js';
 import {Statements} from './statements.js';
 import {Council} from './council.js';
 import {Sent} from './sent.js';
+import {Vendors} from './vendors.js';
+import {Views} from './views.js';
 
-// How often the lists are asked for again, in milliseconds. Where they haven't changed the proxy says so alone.
-const RENEWED = 5 * 60 * 1000;
+// How often the lists are asked for again, and from when on they are behind, in milliseconds. Where
+// they haven't changed the proxy says so alone.
+const RENEWED = 60 * 1000, BEHIND = 3 * 60 * 1000;
 
 async function begin() {
     const [tables, rows, me] = await Promise.all([got('tables.json'), got('data/chart.json'), got('/whoami')]);
-    const chart = new Chart(rows), doors = new Doors(me), lists = new Lists(doors, chart);
+    const chart = new Chart(rows), doors = new Doors(me), vendors = new Vendors(), lists = new Lists(doors, chart, vendors);
     await lists.load().catch(fault => say(byId('fault'), `The lists aren’t there (${fault.message}): numbers have to be typed.`));
     const words = new Words(tables, chart, lists), states = new States(chart), desk = chart.find('desk', me.desk), roles = desk ? desk.roles : [];
-    const city = {tables, chart, me, doors, lists, words, states, roles};
+    const city = {tables, chart, me, doors, lists, vendors, words, states, roles};
+    city.calls = new Calls(city);
+    city.papers = new Papers(city);
     byId('city').textContent = chart.city;
     byId('who').textContent = me.user + (desk ? `, desk ${desk.id} ${desk.name} (${roles.join(', ')})` : ', without a desk: may look alone');
     const enter = new Enter(city);
-    city.begin = (call, values) => { view('enter'); enter.begin(call, values); byId('call').focus(); };
-    const views = {enter, lines: new Lines(city), open: new Open(city), statements: new Statements(city), council: new Council(city), sent: new Sent(city)};
+    city.begin = (call, values) => { enter.begin(call, values); views.go('enter'); byId('call').focus(); };
     years(chart, lists);
-    function view(name) {
-        for (const part of document.querySelectorAll('main > section')) part.hidden = part.id !== name;
-        for (const button of document.querySelectorAll('nav button')) {
-            if (button.dataset.view !== name) {
-                button.removeAttribute('aria-current');
-                continue;
-            }
-            button.setAttribute('aria-current', 'page');
-            document.title = `${chart.city}: ${button.textContent}`;
-        }
-        if (name !== 'enter') views[name].show();
-    }
-    for (const button of document.querySelectorAll('nav button')) button.addEventListener('click', () => view(button.dataset.view));
-    doors.addEventListener('changed', event => changed(event.detail, city, enter, views.sent));
-    for (const id of ['enter', 'sent']) document.querySelector(`nav [data-view=${id}]`).hidden = !roles.length;
+    const sent = new Sent(city), views = new Views(chart, roles,
+        {enter, lines: new Lines(city), open: new Open(city), statements: new Statements(city), council: new Council(city), sent, paper: city.papers});
+    enter.chose = () => views.tell();
+    doors.addEventListener('changed', event => changed(event.detail, city, enter, sent));
     enter.offer(roles);
-    view(roles.length ? 'enter' : 'lines');
+    views.begin();
     doors.sendAll();
-    setInterval(() => lists.load().then(() => enter.renew(), () => {}), RENEWED);
+    const age = new Age(doors, lists);
+    age.say();
+    const renew = () => lists.load().then(() => enter.renew(), () => {}).then(() => age.say());
+    setInterval(renew, RENEWED);
+    addEventListener('focus', renew);
     document.body.dataset.ready = 'yes';
 }
 
-/** The fiscal years that can be asked for, the last with entries first. */
+/**
+ * The fiscal years that can be asked for; today's is shown first, whatever year the last entry is
+ * of.
+ */
 function years(chart, lists) {
-    const known = lists.state.files.entries, last = known.length ? known.at(-1) : chart.first_year;
-    const shown = Array.from({length: last + 2 - chart.first_year}, (_, place) => [last + 1 - place, String(last + 1 - place)]);
+    const now = Math.max(chart.yearOf(today()), chart.first_year), last = Math.max(now, ...lists.state.files.entries) + 1;
+    const shown = Array.from({length: last + 1 - chart.first_year}, (_, place) => [last - place, String(last - place)]);
     for (const id of ['lines-year', 'report-year', 'council-year']) {
         fill(byId(id), shown);
-        byId(id).value = String(last);
+        byId(id).value = String(now);
+    }
+}
+
+/**
+ * Says where answers are ahead of the lists for minutes, and what of the entries the lists don't
+ * follow.
+ */
+class Age {
+    constructor(doors, lists) {
+        Object.assign(this, {doors, lists, since: undefined});
+    }
+
+    say() {
+        const {state, vendors} = this.lists, {seen} = this.doors;
+        // The lists were ahead of what is seen now at some time since: then they are on the way.
+        if (seen <= (state.entries || 0)) this.since = undefined;
+        else if (this.since === undefined || state.entries !== this.at) [this.since, this.at] = [Date.now(), state.entries];
+        const isBehind = this.since !== undefined && Date.now() - this.since >= BEHIND;
+        const made = state.made ? `, made at ${local(state.made)}` : '';
+        say(byId('behind'), isBehind ? `The lists are behind: they have the entries up to ${state.entries || 0}${made}, and the books have ${seen}. ` +
+            'What is open and the documents of lines may be missing here. Tell whoever runs the page.' : '');
+        const skips = (state.skipped || []).slice(0, 3).map(each => `entry ${each.place} (${each.key}) of ${each.day}, at ${local(each.time)}`);
+        const skipped = state.skips ? `The lists couldn’t follow ${skips.join('; ')}${state.skips > skips.length ? `, and ${state.skips - skips.length} more` : ''}. ` : '';
+        say(byId('skipped'), skipped + (vendors.fault ? `The list of vendors has a fault: ${vendors.fault}. The names that were read before stay.` : ''));
     }
 }
 
 function say(node, text) {
-    node.textContent = text;
+    if (node.textContent !== text) node.textContent = text;
     node.hidden = !text;
 }
 

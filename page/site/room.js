@@ -29,9 +29,10 @@ export class Room {
         const known = found.filter(Boolean), short = known.filter(each => each.asked > each.room);
         place.replaceChildren();
         if (!known.length) return;
-        const rows = known.map(({line, year, asked, room}) => row([this.chart.lineInFull(line), String(year), money(room), money(asked), money(room - asked),
+        const rows = known.map(({line, year, asked, room}) => row([this.chart.lineInFull(line), String(year), money(room),
+            asked < 0n ? 'adds ' + money(-asked) : money(asked), money(room - asked),
             asked > room ? made('b', {className: 'low'}, 'lacks ' + money(asked - room)) : ''], asked > room ? 'short' : ''));
-        place.append(table('Room of the lines', ['Line', 'Year', ['Room', true], ['Asked', true], ['Then left', true], ''], rows));
+        place.append(table('Room of the lines', ['Line', 'Year', ['Room', true], ['Asked', true], ['Then left', true], ''], rows, 'cards'));
         if (short.length) {
             const lacks = short.map(each => `${this.chart.lineInFull(each.line)} lacks ${money(each.asked - each.room)}`).join('; ');
             const many = short.length === 1 ? 'One line lacks' : `${short.length} lines lack`;
@@ -54,7 +55,10 @@ export class Room {
             if (said.is?.state === 'open' && said.is.year === year) for (const item of said.is.items) add(item.line, year, -BigInt(item.amount));
         }
         if (call.call === 'lease' || call.call === 'leave' && call.what === 'mature') add(of(call), year, call.amount || 0n);
-        if (call.call === 'transfer') { add(call.from, year, call.amount || 0n); }
+        if (call.call === 'transfer') {
+            add(call.from, year, call.amount || 0n);
+            add(call.to, year, -(call.amount || 0n));
+        }
         if (call.call === 'amend' && call.line !== undefined) add(call.line, year, -(call.by || 0n));
         if (call.call === 'change_order' && call.object !== undefined) add(of(call), year, call.by || 0n);
         return lines;

@@ -1,7 +1,7 @@
 // The calls of this browser for this user's desk, with their answers.
 
 import {byId, give, made, row, table} from './dom.js';
-import {today} from './chart.js';
+import {local, today} from './chart.js';
 
 const SHOWN = 200, WEEK = 7 * 24 * 3600 * 1000;
 
@@ -13,15 +13,15 @@ export class Sent {
     }
 
     show() {
-        const rows = this.doors.kept().slice(-SHOWN).reverse().map(call => this.row(call)), heads = ['When (UTC)', 'What', 'Key', 'Answer', ''];
-        byId('sent-table').replaceChildren(rows.length ? table('Calls of this browser', heads, rows) : 'Nothing was sent from this browser.');
+        const rows = this.doors.kept().slice(-SHOWN).reverse().map(call => this.row(call)), heads = ['When', 'What', 'Key', 'Amount and party', 'Answer', ''];
+        byId('sent-table').replaceChildren(rows.length ? table('Calls of this browser', heads, rows, 'cards') : 'Nothing was sent from this browser.');
     }
 
     row(call) {
-        const {title} = this.tables.calls[call.call], when = call.made.slice(0, 16).replace('T', ' ');
-        if (call.reply) return row([when, title, call.key, this.words.of(call.reply, call.call).text, '']);
+        const {title} = this.tables.calls[call.call], when = local(call.made), about = call.about ?? this.calls.about(JSON.parse(call.text));
+        if (call.reply) return row([when, title, call.key, about, this.words.of(call.reply, call.call).text, call.reply.ok ? this.papers.link(call, call.reply) : '']);
         const giveUp = made('button', {type: 'button', className: 'small', onclick: () => this.giveUp(call)}, 'Give up');
-        return row([when, title, call.key, 'Not answered yet', giveUp]);
+        return row([when, title, call.key, about, 'Not answered yet', giveUp]);
     }
 
     /** The answered calls as a file of calls and one of replies, line by line. */

@@ -36,7 +36,8 @@ export class Statements {
         this.made = {year, kind, heads, rows};
         const title = `${this.chart.city}: ${said.is.title}, fiscal year ${year}`;
         byId('report').replaceChildren(made('h2', {}, title), table(title, ['', ...heads.map(head => [head, true])], rows.map(each =>
-            row([each.label, ...each.amounts.map(amount => amount === '' ? '' : money(amount))], each.isHead ? 'head' : SUMS.test(each.label) ? 'sum' : ''))),
+            row([each.label, ...each.amounts.map(amount => amount === '' ? '' : money(amount))], each.isHead ? 'head' : SUMS.test(each.label) ? 'sum' : '')),
+            heads.length > 1 ? 'cards' : ''),
             made('p', {className: 'hint'}, `As of entry ${said.at}. Amounts in units of money.`));
     }
 

@@ -17,7 +17,7 @@ class Clerk:
         self.page.do(f"clerk.fill({json.dumps(call)}, {json.dumps(paper)})")
 
     def send(self):
-        """Sends the form, and gives what is said first."""
+        """Sends the form, says yes to what is asked, and gives what is said first."""
         return self.page.do("clerk.send()")
 
     def enter(self, call):
@@ -55,6 +55,8 @@ window.clerk = {
     fill(call, paper) {
         const form = document.getElementById('form'), what = document.getElementById('call');
         clerk.set(what, call.call);
+        // Without what a draft had.
+        form.querySelector('.buttons button[type=button]').click();
         const first = ['on', 'what', 'year', 'levy_year', 'back', 'fund', 'dept'].filter(name => name in call);
         const rest = Object.keys(call).filter(name => !first.includes(name) && !['call', 'desk', 'key'].includes(name));
         for (const name of [...first, ...rest]) if (!Array.isArray(call[name])) clerk.set(form.elements.namedItem(name), clerk.text(name, call[name]));
@@ -85,10 +87,21 @@ window.clerk = {
             }
         });
     },
+    confirm() {
+        const prepared = document.getElementById('prepared');
+        clerk.asked = prepared.textContent;
+        for (const tick of prepared.querySelectorAll('input:not(:checked)')) tick.click();
+        prepared.querySelector('.go').click();
+    },
     async send() {
         const said = document.getElementById('said'), before = said.firstChild;
+        const prepared = document.getElementById('prepared');
+        clerk.asked = '';
         document.getElementById('form').requestSubmit();
-        for (let n = 0; n < 1200 && said.firstChild === before; n++) await new Promise(go => setTimeout(go, 25));
+        for (let n = 0; n < 1200 && said.firstChild === before; n++) {
+            if (!prepared.hidden) clerk.confirm();
+            await new Promise(go => setTimeout(go, 25));
+        }
         if (said.firstChild === before) throw new Error('nothing was said');
         return said.firstChild.textContent;
     },

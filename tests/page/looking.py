@@ -183,6 +183,7 @@ CONTRAST = """(() => {
     }
     return found;
 })()"""
+SIDEWAYS = "[...document.querySelectorAll('.scroll')].filter(node => node.getClientRects().length && node.scrollWidth > node.clientWidth + 1).length"
 NAMELESS = ("textbox", "combobox", "checkbox", "button", "link", "listbox", "spinbutton", "Date", "table", "img", "dialog")
 
 
@@ -201,6 +202,8 @@ def reached(stand):
                 place = f"{view}, {scheme}, {width} pixels"
                 stand.same(f"contrast: {place}", page.do(CONTRAST), [])
                 stand.holds(f"width: {place}", page.do("document.documentElement.scrollWidth") <= width, page.do("document.documentElement.scrollWidth"))
+                if width < 500 and view != "statements":
+                    stand.same(f"nothing sideways: {place}", page.do(SIDEWAYS), 0)
                 if view in ("enter", "lines") and (scheme, width) in (("light", 390), ("dark", 1280)):
                     stand.picture(page, f"{view}-{'phone' if width < 500 else 'dark'}")
     page.media()

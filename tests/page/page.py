@@ -14,6 +14,8 @@ sys.path[:0] = [HERE, os.path.join(os.path.dirname(HERE), "lib")]
 import entering
 import faults
 import looking
+import runs
+import slips
 import words
 from stand import Stand
 
@@ -21,10 +23,10 @@ from stand import Stand
 def main():
     stand = Stand(*sys.argv[1:])
     try:
-        parts = os.environ.get("PARTS", "entering faults looking words").split()
+        parts = os.environ.get("PARTS", "entering faults slips runs looking words").split()
         if "entering" not in parts:
             entering.send(stand)
-        for part in (entering, faults, looking, words):
+        for part in (entering, faults, slips, runs, looking, words):
             if part.__name__ in parts:
                 part.run(stand)
         stand.verdicts.same("no fault in the console of a page", stand.logs(), [])

@@ -14,6 +14,11 @@ TOP = os.path.join(os.path.dirname(os.path.abspath(__file__)), "..", "..")
 USERS = {1: "council", 2: "streets", 3: "purchasing", 4: "payables", 5: "treasury", 6: "revenue", 7: "assets", 8: "payroll", 9: "controller",
          14: "invoices", 15: "deputy", 20: "roads"}
 
+# The browser's clock: noon of the day on which the month of july.jsonl has just been entered. A test moves `ahead`, in milliseconds.
+CLOCK = """(() => { const Real = Date; window.ahead = Number(sessionStorage.getItem('ahead')); const shift = Real.parse('2025-08-12T12:00:00') - Real.now();
+    window.Date = class extends Real { constructor(...words) { if (words.length) super(...words); else super(window.Date.now()); }
+        static now() { return Real.now() + shift + window.ahead; } }; })()"""
+
 
 class Stand:
     def __init__(self, url, journal, lists, program, first, pictures=None):
@@ -43,6 +48,7 @@ class Stand:
 
     def tab(self, user, context=None):
         page = self.browser.page(context or self.context(user), user, user + "'s word")
+        page.send("Page.addScriptToEvaluateOnNewDocument", source=CLOCK)
         self.pages.append(page)
         return page
 
@@ -55,8 +61,8 @@ class Stand:
 
     def make_lists(self):
         """What the timer does."""
-        subprocess.run([sys.executable, os.path.join(TOP, "page", "lists.py"), self.books, os.path.join(self.journal, "fund.journal"), self.lists],
-                       check=True, stdout=subprocess.DEVNULL)
+        subprocess.run([sys.executable, os.path.join(TOP, "page", "lists.py"), self.books, os.path.join(self.journal, "fund.journal"), self.lists,
+                        os.path.join(self.journal, "vendors.csv")], check=True, stdout=subprocess.DEVNULL, stderr=subprocess.DEVNULL)
 
     def calls(self):
         """The entries of the journal, each as its call."""

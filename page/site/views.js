@@ -1,0 +1,71 @@
+// The views, each with an address of its own: #enter/voucher, #lines/2027, #open/order,
+// #statements/2027/budget, #council/2027, #sent and #paper/order/12. What isn't one of them leaves
+// the view as it is.
+
+import {byId} from './dom.js';
+import {today} from './chart.js';
+
+// The choices of a view that stand in its address.
+const CHOICES = {enter: ['call'], lines: ['lines-year', 'lines-fund', 'lines-dept'], open: ['open-kind'], statements: ['report-year', 'report-kind'],
+    council: ['council-year']};
+
+export class Views {
+    constructor(chart, roles, views) {
+        // Today's year is left out of an address, so that a bookmark shows that of its day.
+        Object.assign(this, {chart, roles, views, year: String(chart.yearOf(today()))});
+        for (const button of document.querySelectorAll('nav button')) button.addEventListener('click', () => this.go(button.dataset.view));
+        for (const id of Object.values(CHOICES).flat()) if (id !== 'call') byId(id).addEventListener('change', () => this.tell());
+        addEventListener('hashchange', () => this.follow());
+        for (const id of ['enter', 'sent']) document.querySelector(`nav [data-view=${id}]`).hidden = !roles.length;
+    }
+
+    begin() {
+        if (!this.follow()) this.go(this.roles.length ? 'enter' : 'lines', true);
+    }
+
+    /** Shows the view of the address, with its choices. */
+    follow() {
+        const [name, ...rest] = location.hash.slice(1).split('/').map(part => decodeURIComponent(part));
+        if (!this.views[name] || ['enter', 'sent'].includes(name) && !this.roles.length) return false;
+        this.name = name;
+        (CHOICES[name] || []).forEach((id, place) => {
+            const input = byId(id), value = rest[place] || (id.endsWith('-year') ? this.year : '');
+            if (input.value === value || ![...input.options].some(option => option.value === value)) return;
+            input.value = value;
+            if (id === 'call') input.dispatchEvent(new Event('change'));
+        });
+        this.show(name, rest);
+        return true;
+    }
+
+    /** Goes to a view, and puts it into the address. */
+    go(name, isFirst = false) {
+        this.name = name;
+        this.tell(isFirst);
+        this.show(name, []);
+    }
+
+    /** Puts the view and its choices into the address. */
+    tell(isFirst = false) {
+        const values = (CHOICES[this.name] || []).map(id => id.endsWith('-year') && byId(id).value === this.year ? '' : byId(id).value);
+        while (values.length && !values.at(-1)) values.pop();
+        const address = '#' + [this.name, ...values].map(encodeURIComponent).join('/');
+        if (this.name === 'paper' || address === location.hash) return;
+        history[isFirst ? 'replaceState' : 'pushState'](null, '', address);
+    }
+
+    show(name, rest) {
+        this.name = name;
+        for (const part of document.querySelectorAll('main > section')) part.hidden = part.id !== name;
+        document.title = this.chart.city;
+        for (const button of document.querySelectorAll('nav button')) {
+            if (button.dataset.view !== name) {
+                button.removeAttribute('aria-current');
+                continue;
+            }
+            button.setAttribute('aria-current', 'page');
+            document.title = `${this.chart.city}: ${button.textContent}`;
+        }
+        if (name !== 'enter') this.views[name].show(rest);
+    }
+}
