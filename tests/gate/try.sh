@@ -71,8 +71,9 @@ shows() {
     verdict "$1: each call with its reply" $?
 }
 
+. "$top/tests/lib/built.sh"
+program=${PROGRAM:-$(built cityfund)}
 # journal CITY: the journal that the stub got is the one that `found` makes of the city's chart.
-program=${PROGRAM:-$top/crates/cityfund/out/cityfund}
 journal() {
     [ -x "$program" ] || return
     rm -rf "$scratch/found" && mkdir "$scratch/found" && cp "examples/$1/chart.toml" "$scratch/found"

@@ -8,7 +8,7 @@
 cd "$(dirname "$0")/../.." || exit 1
 top=$(pwd)
 . tests/lib/program.sh
-books=${BOOKS:-$top/crates/books/out/books}
+books=${BOOKS:-$(built books)}
 [ -x "$books" ] || { echo "there is no program books: run ./build" >&2; exit 1; }
 scratch=$(mktemp -d) || exit 1
 trap 'rm -rf "$scratch"' EXIT

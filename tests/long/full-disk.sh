@@ -6,7 +6,7 @@
 # It mounts the file system, so it needs root, and is skipped without it. Not part of the merge gate.
 top=$(cd "$(dirname "$0")/../.." && pwd)
 . "$top/tests/lib/program.sh"
-books=${BOOKS:-$top/crates/books/out/books}
+books=${BOOKS:-$(built books)}
 scratch=$(mktemp -d) || exit 1
 mkdir "$scratch/small" "$scratch/large"
 trap 'umount -l "$scratch/small" 2> /dev/null; rm -rf "$scratch"' EXIT

@@ -13,4 +13,4 @@ command -v cc > /dev/null || { echo "wanting: skipped: there is no cc"; exit 0; 
 scratch=$(mktemp -d) || exit 1
 trap 'rm -rf "$scratch"' EXIT
 cc -O1 -shared -fPIC -o "$scratch/refuse.so" tests/lib/refuse.c || { echo "wanting: cc makes no library"; exit 1; }
-PYTHONPATH=$top/tests/lib timeout 900 python3 tests/lib/wanting.py "$program" "${BOOKS:-$top/crates/books/out/books}" "$scratch"
+PYTHONPATH=$top/tests/lib timeout 900 python3 tests/lib/wanting.py "$program" "${BOOKS:-$(built books)}" "$scratch"
