@@ -101,7 +101,7 @@ def texts():
 # ---- a talk over a link is that of a desk
 
 def a_day():
-    with open(os.path.join(TESTS, "../examples/first-day.jsonl")) as talk:
+    with open(os.path.join(TESTS, "../../examples/first-day.jsonl")) as talk:
         calls = talk.read().splitlines()
     found()
     replies, _ = desk(call + "\n" for call in calls)
