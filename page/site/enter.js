@@ -212,7 +212,9 @@ export class Enter {
         if (input.value.trim() !== number || !place.isConnected) return;
         if (due !== undefined) place.textContent += `; it pays ${money(due)} of principal, and interest`;
         const [fund, dept, principal, interest] = accounts;
-        if (accounts.length && !elements.fund.value) this.chosen.choose({fund, dept, principal, interest});
+        // A form that stays as it is keeps what was prepared of it.
+        if (!accounts.length || elements.fund.value) return;
+        this.chosen.choose({fund, dept, principal, interest});
         this.changed();
     }
 
