@@ -80,7 +80,14 @@ fi
 
 (cd "$scratch" && "$city/cityfund" desk < /dev/null) || fail "no desk opens the copy"
 
+# A copy is named by its second: where one of this second is there, the next second is waited for.
+tries=3
 name=$(date -u +%Y-%m-%dT%H%M%SZ).journal
+while [ -e "$copies/$name" ] && [ "$tries" -gt 0 ]; do
+    tries=$((tries - 1))
+    sleep 1
+    name=$(date -u +%Y-%m-%dT%H%M%SZ).journal
+done
 [ ! -e "$copies/$name" ] || fail "$name is there"
 mv "$scratch/fund.journal" "$copies/$name" && (cd "$copies" && sha256sum "$name" >> checksums && sync "$name" checksums) ||
     fail "$copies can't be written"

@@ -24,6 +24,11 @@ found() {
     (cd "$scratch/$1" && "$program" found > /dev/null 2>&1)
 }
 
+# ---- charts with a fault, and what each command prints of a journal
+
+python3 tests/gate/said.py "$program" "$books" tests/gate/books
+verdict "what books says of charts and journals" $?
+
 # ---- the calls of a journal make it again
 
 for talk in examples/*.jsonl examples/*/*.jsonl; do

@@ -256,4 +256,10 @@ expect "found for doors" 0 founded found
 (cd "$scratch" && python3 "$top/tests/lib/listens.py" "$city/out/cityfund")
 verdict "where doors listen" $?
 
+# Two doors are served at once.
+fresh rivertown
+expect "found for a meeting" 0 founded found
+(cd "$scratch" && python3 "$top/tests/lib/meeting.py" "$city/out/cityfund")
+verdict "two doors whose callers wait for each other" $?
+
 summary examples

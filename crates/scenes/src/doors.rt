@@ -6,7 +6,7 @@ use std::alloc::{AllocError, Global};
 use std::{io, mem};
 
 /// A request with a call.
-pub fn post_text(alloc: Global, call: &str) -> Result<String, AllocError> {
+fn post_text(alloc: Global, call: &str) -> Result<String, AllocError> {
     format!(in alloc;
         "POST /calls HTTP/1.1\r\nHost: a\r\nContent-Length: {}\r\n\r\n{call}",
         call.len()
@@ -102,7 +102,7 @@ fn show_answer(rt: &impl Print, answer: &str) -> io::Result<()> {
 }
 
 /// Prints the answers that were sent on a link.
-pub fn show_answers(rt: &impl Print, sent: &[u8]) -> io::Result<()> {
+fn show_answers(rt: &impl Print, sent: &[u8]) -> io::Result<()> {
     let said = str::from_utf8(sent).unwrap_or("no text");
     for answer in said.split("HTTP/1.1 ").skip(1) {
         show_answer(rt, answer)?;

@@ -7,8 +7,6 @@
 //! | `{..` | a line for the next desk |
 //! | `lines FILE` | the lines of a file for the next desk |
 //! | `chart FILE`, `swap OLD => NEW` | the chart for the next `found`, and a change of it |
-//! | `check OLD => NEW` | prints the exit code and the notice of `books check-chart` for that chart with a change, in which `;` is the end of a line |
-//! | `books WORD ..` | prints what the program `books` prints of the journal with these words, its exit code and its notice |
 //! | `fail N`, `stop N` | the next run's disk fails at its call N, or stops there |
 //! | `limit N` | the next run's output takes N bytes |
 //! | `feed`, `feed N` | the next run reads the stream that was shipped last, or N bytes of it |
@@ -18,8 +16,6 @@
 //! | `link`, `link N` | a link more at that door, which takes N bytes |
 //! | `get TARGET`, `post CALL` | a request more on that link |
 //! | `run WORD ..` | a run of these words: prints what was said at its doors, what it says, how it ended, and the length of the journal |
-//! | `seat`, `wait N`, `ask CALL` | a door more for the next meeting, with one link; a request more on it, which comes once N requests were answered at all doors |
-//! | `meet` | a run of `serve` at these doors: prints what was said there, how many links gave up waiting, and the same as `run` |
 //! | `calls` | prints how many calls the last run made of its disk |
 //! | `empty`, `cut N`, `set AT BYTE`, `add BYTE ..` | changes what the disk holds |
 //! | `keep`, `back`, `same` | remembers it, puts it back, prints whether it is the same |
@@ -28,13 +24,10 @@
 //! | `tears` | prints what a desk with the lines says over each image that a crash at the end of the last run may leave: first of a desk that runs on, and then of one whose disk stops at one of its first five calls |
 #![tactic(auto)]
 
-mod books;
-mod checks;
 mod cuts;
 mod doors;
 mod halls;
 mod images;
-mod meeting;
 mod play;
 mod stage;
 mod status;

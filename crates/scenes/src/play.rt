@@ -1,10 +1,7 @@
 //! What each line of the script does.
 
-use crate::books::show_books;
-use crate::checks::show_check;
 use crate::cuts::show_cuts;
 use crate::doors::show_doors;
-use crate::meeting::show_meeting;
 use crate::stage::Stage;
 use crate::status::whole_text;
 use crate::tears::show_tears;
@@ -82,10 +79,7 @@ fn play_shown<R: Files + Print + AllocGlobal + Threads + Wait + Sync>(
             stage.chart = fs::read_to_string(rt, file)?;
             Ok(())
         }
-        Word::Check { old, new } => { show_check(rt, stage.alloc, stage.chart.as_str(), old, new) }
-        Word::Books(words) => show_books(rt, stage, words),
         Word::Run(words) => show_run(rt, stage, words),
-        Word::Meet => show_meeting(rt, stage),
         Word::Calls => show_calls(rt, stage),
         Word::Same => show_same(rt, stage),
         Word::Cuts => show_cuts(rt, stage),
@@ -119,9 +113,6 @@ pub fn play<R: Files + Print + AllocGlobal + Threads + Wait + Sync>(
         Word::Link(limit) => stage.doors.add_link(limit)?,
         Word::Get(target) => stage.doors.add_get(target)?,
         Word::Post(call) => stage.doors.add_post(call)?,
-        Word::Seat => stage.meeting.add_door()?,
-        Word::Wait(answers) => stage.meeting.wait(answers),
-        Word::Ask(call) => stage.meeting.add_call(call)?,
         _ => play_shown(rt, stage, word)?,
     }
     Ok(())

@@ -1,10 +1,8 @@
 //! A disk in memory between runs, and what the next run is given.
 
 use crate::doors::Doors;
-use crate::meeting::Meeting;
 use cf_base::{MemSink, MemSource};
 use cf_disk::MemDisk;
-use cf_http::Door;
 use cf_links::MemDoor;
 use cf_runs::{Ran, Status};
 use cf_top::{run, run_desk};
@@ -38,8 +36,6 @@ pub struct Stage {
     pub limit: usize,
     /// What comes at the doors of the next run.
     pub doors: Doors,
-    /// What comes at the doors of the next meeting.
-    pub meeting: Meeting,
     /// What the disk held before the last run.
     pub before: Vec<u8>,
     /// The disk of the last run.
@@ -60,7 +56,7 @@ fn source(alloc: Global, text: &str) -> Result<MemSource, AllocError> {
 }
 
 /// The words of a text, with a blank between two of them; none of an empty text.
-pub fn words_of(alloc: Global, text: &str) -> Result<Vec<String>, AllocError> {
+fn words_of(alloc: Global, text: &str) -> Result<Vec<String>, AllocError> {
     let mut words = Vec::new(alloc);
     if text.is_empty() {
         return Ok(words);
@@ -114,7 +110,6 @@ impl Stage {
             stop: 0,
             limit: usize::MAX,
             doors: Doors::new(alloc),
-            meeting: Meeting::new(alloc),
             before: Vec::new(alloc),
             last: None,
         }
@@ -142,15 +137,12 @@ impl Stage {
     }
 
     /// A run of these words at these doors, with what was prepared.
-    fn ran<R: Threads + Wait + Sync, D: Door + Drop + Send>(
+    fn ran<R: Threads + Wait + Sync>(
         &self,
         rt: &R,
         words: &str,
-        doors: &mut Vec<D>,
-    ) -> Result<Left, AllocError>
-    where
-        D::Link: Send,
-    {
+        doors: &mut Vec<MemDoor>,
+    ) -> Result<Left, AllocError> {
         let (fails, stop) = (self.fails.as_slice(), self.stop);
         let disk = disk_with(self.alloc, self.bytes.as_slice(), fails, stop)?;
         let words = words_of(self.alloc, words)?;
@@ -184,21 +176,6 @@ impl Stage {
         Ok(())
     }
 
-    /// Runs these words at these doors: how it ended, and what it printed.
-    pub fn run_at<R: Threads + Wait + Sync, D: Door + Drop + Send>(
-        &mut self,
-        rt: &R,
-        words: &str,
-        doors: &mut Vec<D>,
-    ) -> Result<(Status, MemSink), AllocError>
-    where
-        D::Link: Send,
-    {
-        let Left { status, out, disk } = self.ran(rt, words, doors)?;
-        self.keep_left(disk)?;
-        Ok((status, out))
-    }
-
     /// Runs these words: how it ended, what it printed, and the doors.
     pub fn run_words<R: Threads + Wait + Sync>(
         &mut self,
@@ -206,7 +183,8 @@ impl Stage {
         words: &str,
     ) -> Result<(Status, MemSink, Vec<MemDoor>), AllocError> {
         let mut doors = self.doors.take()?;
-        let (status, out) = self.run_at(rt, words, &mut doors)?;
+        let Left { status, out, disk } = self.ran(rt, words, &mut doors)?;
+        self.keep_left(disk)?;
         Ok((status, out, doors))
     }
 

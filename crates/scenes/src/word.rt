@@ -8,8 +8,6 @@ pub enum Word<'a> {
     Lines(&'a str),
     Chart(&'a str),
     Swap { old: &'a str, new: &'a str },
-    Check { old: &'a str, new: &'a str },
-    Books(&'a str),
     Fail(u64),
     Stop(u64),
     Limit(usize),
@@ -20,10 +18,6 @@ pub enum Word<'a> {
     Link(usize),
     Get(&'a str),
     Post(&'a str),
-    Seat,
-    Wait(u64),
-    Ask(&'a str),
-    Meet,
     Run(&'a str),
     Calls,
     Empty,
@@ -59,13 +53,6 @@ fn swap(rest: &str) -> Word<'_> {
     }
 }
 
-fn check(rest: &str) -> Word<'_> {
-    match rest.split_once(" => ") {
-        Some((old, new)) => Word::Check { old, new },
-        None => Word::Heading,
-    }
-}
-
 /// A place and the byte that is to stand there.
 fn place_and_byte(rest: &str) -> (usize, u8) {
     let (at, value) = rest.split_once(" ").unwrap_or((rest, ""));
@@ -94,17 +81,6 @@ fn door_word<'a>(verb: &str, rest: &'a str) -> Word<'a> {
         "link" => Word::Link(count_or_all(rest)),
         "get" => Word::Get(rest),
         "post" => Word::Post(rest),
-        _ => meeting_word(verb, rest),
-    }
-}
-
-/// A word of a meeting.
-fn meeting_word<'a>(verb: &str, rest: &'a str) -> Word<'a> {
-    match verb {
-        "seat" => Word::Seat,
-        "wait" => Word::Wait(number(rest)),
-        "ask" => Word::Ask(rest),
-        "meet" => Word::Meet,
         _ => disk_word(verb, rest),
     }
 }
@@ -135,8 +111,6 @@ pub fn word_of(line: &str) -> Word<'_> {
         "lines" => Word::Lines(rest),
         "chart" => Word::Chart(rest),
         "swap" => swap(rest),
-        "check" => check(rest),
-        "books" => Word::Books(rest),
         "fail" => Word::Fail(number(rest)),
         "stop" => Word::Stop(number(rest)),
         "limit" => Word::Limit(size(rest)),

@@ -91,12 +91,6 @@ impl Board {
         count_one(&self.answered);
     }
 
-    /// Waits until so many calls were answered, or gives up. Whether they were.
-    pub fn sees_answered(&self, calls: u64) -> bool {
-        self.wait_for(&self.answered, calls);
-        counted(&self.answered) >= calls
-    }
-
     /// Keeps a call until so many were begun, and lets some turns go by. A call that is answered meanwhile has overtaken it.
     fn keep(&self, calls: u64) {
         let before = counted(&self.answered);
