@@ -1,5 +1,7 @@
 pub mod Words
+pub mod Options
 pub mod Found
+pub mod Requests
 pub mod Ranges
 pub mod CommandLine
 pub mod Parsed

@@ -1,39 +1,39 @@
-//! The request that a parse found.
+//! The command that a parse found.
 
 ghost use Rattle.std.specs.Prelude.{◌≡◌, IfSome, option_map};
 ghost use Rattle.clap.specs.Words.{first_of, found_of, rows_of};
 ghost use Rattle.cf_books_words.specs.Found as spec;
-ghost use Rattle.cf_books_words.specs.Ranges.{IsFilterInRange, IsInRange, IsOptionFrom};
-ghost use Rattle.cf_books_words.specs.Words.{asks};
+ghost use Rattle.cf_books_words.specs.Ranges.{IsFilterInRange, IsInRange, IsLedgerInRange, IsOptionDay, IsOptionFrom};
 
-use crate::words::{Command, PostFilter, Request};
-use cf_base::LAST_YEAR;
-use cf_words::{number_from, report_kind_named};
+use crate::options::{Days, is_set, option_from, text_of};
+use crate::words::{Command, DocumentFilter, DocumentKind, LedgerFilter, PostFilter};
+use cf_base::{Day, Kind, LAST_YEAR};
+use cf_words::{ReportKind, number_from, report_kind_named};
 use clap::ArgMatches;
 
-/// The text of an argument, where it was given one.
-fn text_of<'a>(matches: &ArgMatches<'a>, id: &str) -> Option<&'a str>
-    ensures { option_map (λ t. t.now) result ≡ first_of id.now (rows_of (found_of matches.now)) }
-{
-    matches.get_str(id)
-}
-
 /// Whether the flag `--csv` was given.
-fn is_csv(matches: &ArgMatches) -> bool
+pub fn is_csv(matches: &ArgMatches) -> bool
     ensures { result ≡ spec.is_csv (rows_of (found_of matches.now)) }
 {
-    text_of(matches, "csv") == Some("true")
+    is_set(matches, "csv")
 }
 
-/// The number from `low` to `high` that an option says, `None` where it isn't given.
-fn option_from(text: Option<&str>, low: u64, high: u64) -> Option<Option<u64>>
-    ensures value { result ≡ spec.option_in low high (option_map (λ t. t.now) text.entry) }
-    ensures range { IfSome result (IsOptionFrom low high) }
+/// The id, 1 to 9999, that an option says, `None` where it isn't given.
+fn id_found(matches: &ArgMatches, name: &str) -> Option<Option<u16>>
+    ensures id { result ≡ spec.id_in name.now (rows_of (found_of matches.now)) }
+    ensures range { IfSome result (IsOptionFrom 1 9999) }
 {
-    match text {
-        None => Some(None),
-        Some(text) => Some(Some(number_from(Some(text), low, high)?)),
-    }
+    let id = option_from(text_of(matches, name), 1, 9_999)?;
+    Some(id.map(|n| n as u16))
+}
+
+/// The fiscal year, 1971 to 2199, that an option says, `None` where it isn't given.
+fn year_found(matches: &ArgMatches) -> Option<Option<u16>>
+    ensures year { result ≡ spec.option_year_in (rows_of (found_of matches.now)) }
+    ensures range { IfSome result (IsOptionFrom 1971 2199) }
+{
+    let year = option_from(text_of(matches, "year"), 1971, u64::from(LAST_YEAR))?;
+    Some(year.map(|n| n as u16))
 }
 
 /// Which posts are wanted.
@@ -41,137 +41,195 @@ fn filter_found(matches: &ArgMatches) -> Option<PostFilter>
     ensures filter { result ≡ spec.filter_in (rows_of (found_of matches.now)) }
     ensures range { IfSome result IsFilterInRange }
 {
-    let year = option_from(text_of(matches, "year"), 1971, u64::from(LAST_YEAR))?;
+    let year = year_found(matches)?;
     let fund = option_from(text_of(matches, "fund"), 0, 9_999)?;
     let account = option_from(text_of(matches, "account"), 1, 999_999)?;
     Some(PostFilter {
-        year: year.map(|n| n as u16),
+        year,
         fund: fund.map(|n| n as u16),
         account: account.map(|n| n as u32),
     })
 }
 
-/// A command with its file, where no more words follow.
-fn with_file<'a>(command: Command, file: Option<&'a str>, more: Option<&str>) -> Option<Request<'a>>
-    ensures { option_map asks result ≡ spec.with_file command (option_map (λ t. t.now) file.entry) (option_map (λ t. t.now) more.entry) }
+/// Which rows of the ledger are wanted.
+fn ledger_filter_found(matches: &ArgMatches, days: Days) -> Option<LedgerFilter>
+    requires from { IsOptionDay days.from }
+    requires through { IsOptionDay days.through }
+    ensures filter { result ≡ spec.ledger_filter_in days (rows_of (found_of matches.now)) }
+    ensures range { IfSome result IsLedgerInRange }
 {
-    match more {
-        None => Some(Request { command, file }),
-        Some(_) => None,
-    }
+    let fund = id_found(matches, "fund")?;
+    let dept = id_found(matches, "dept")?;
+    let object = id_found(matches, "object")?;
+    let line = option_from(text_of(matches, "line"), 0, 4_095)?;
+    let source = id_found(matches, "source")?;
+    let vendor = option_from(text_of(matches, "vendor"), 0, 4_294_967_295)?;
+    let year = year_found(matches)?;
+    Some(LedgerFilter {
+        fund,
+        dept,
+        object,
+        line: line.map(|n| n as u16),
+        source,
+        vendor: vendor.map(|n| n as u32),
+        year,
+        from: days.from,
+        through: days.through,
+    })
 }
 
-/// The command of a word that stands before a file alone. `--csv` goes with those that print rows.
-fn plain_command(csv: bool, word: &str) -> Option<Command>
-    ensures command { result ≡ spec.plain_command csv word.now }
-    ensures range { IfSome result IsInRange }
+/// The kind of document of a word.
+fn document_kind_named(text: &str) -> Option<DocumentKind>
+    ensures { result ≡ spec.document_kind_of text.now }
 {
-    match word {
-        "list" => Some(Command::List { csv }),
-        "open" => Some(Command::Open { csv }),
-        _ if csv => None,
-        "check-chart" => Some(Command::CheckChart),
-        "check-grants" => Some(Command::CheckGrants),
-        "check" => Some(Command::Check),
-        "calls" => Some(Command::Calls),
-        "chart" => Some(Command::Chart),
-        "lines" => Some(Command::Lines),
+    match text {
+        "requisition" => Some(DocumentKind::Requisition),
+        "order" => Some(DocumentKind::Order),
+        "voucher" => Some(DocumentKind::Voucher),
+        "bill" => Some(DocumentKind::Bill),
+        "asset" => Some(DocumentKind::Asset),
+        "bond" => Some(DocumentKind::Bond),
+        "lease" => Some(DocumentKind::Lease),
+        "loan" => Some(DocumentKind::Loan),
         _ => None,
     }
 }
 
-fn plain_found<'a>(word: &str, matches: &ArgMatches<'a>) -> Option<Request<'a>>
-    ensures request { option_map asks result ≡ spec.plain_in word.now (rows_of (found_of matches.now)) }
-    ensures range { IfSome result (λ r. IsInRange r.command) }
+/// The kind that an option says, `None` where it isn't given.
+fn option_kind(text: Option<&str>) -> Option<Option<DocumentKind>>
+    ensures { result ≡ spec.option_kind_in (option_map (λ t. t.now) text.entry) }
 {
-    let command = plain_command(is_csv(matches), word)?;
-    with_file(
-        command,
-        text_of(matches, "first"),
-        text_of(matches, "second"),
-    )
+    match text {
+        None => Some(None),
+        Some(text) => Some(Some(document_kind_named(text)?)),
+    }
 }
 
-fn posts_found<'a>(matches: &ArgMatches<'a>) -> Option<Request<'a>>
-    ensures request { option_map asks result ≡ spec.posts_in (rows_of (found_of matches.now)) }
-    ensures range { IfSome result (λ r. IsInRange r.command) }
+/// Which documents are wanted.
+fn document_filter_found(matches: &ArgMatches) -> Option<DocumentFilter>
+    ensures { result ≡ spec.document_filter_in (rows_of (found_of matches.now)) }
 {
-    let filter = filter_found(matches)?;
-    let csv = is_csv(matches);
-    let command = Command::Posts { filter, csv };
-    with_file(
-        command,
-        text_of(matches, "first"),
-        text_of(matches, "second"),
-    )
+    let kind = option_kind(text_of(matches, "kind"))?;
+    let party = option_from(text_of(matches, "party"), 0, 4_294_967_295)?;
+    let amount = option_from(text_of(matches, "amount"), 0, u64::MAX)?;
+    Some(DocumentFilter {
+        kind,
+        party: party.map(|n| n as u32),
+        amount,
+    })
 }
 
-fn claims_found<'a>(matches: &ArgMatches<'a>) -> Option<Request<'a>>
-    ensures request { option_map asks result ≡ spec.claims_in (rows_of (found_of matches.now)) }
-    ensures range { IfSome result (λ r. IsInRange r.command) }
+pub fn claims_found(matches: &ArgMatches) -> Option<Command>
+    ensures command { result ≡ spec.claims_in (rows_of (found_of matches.now)) }
+    ensures range { IfSome result IsInRange }
 {
     let grant = number_from(text_of(matches, "first"), 1, 9_999)?;
-    let command = Command::Claims {
+    Some(Command::Claims {
         grant: grant as u16,
         csv: is_csv(matches),
-    };
-    with_file(
-        command,
-        text_of(matches, "second"),
-        text_of(matches, "third"),
-    )
+    })
 }
 
-fn balances_found<'a>(matches: &ArgMatches<'a>) -> Option<Request<'a>>
-    ensures request { option_map asks result ≡ spec.balances_in (rows_of (found_of matches.now)) }
-    ensures range { IfSome result (λ r. IsInRange r.command) }
+pub fn posts_found(matches: &ArgMatches, through: Option<Day>) -> Option<Command>
+    requires { IsOptionDay through }
+    ensures command { result ≡ spec.posts_in through (rows_of (found_of matches.now)) }
+    ensures range { IfSome result IsInRange }
 {
-    let year = number_from(text_of(matches, "first"), 1971, u64::from(LAST_YEAR))?;
-    let command = Command::Balances {
-        year: year as u16,
+    let filter = filter_found(matches)?;
+    Some(Command::Posts {
+        filter,
+        through,
         csv: is_csv(matches),
-    };
-    with_file(
-        command,
-        text_of(matches, "second"),
-        text_of(matches, "third"),
-    )
+    })
 }
 
-fn statement_found<'a>(matches: &ArgMatches<'a>) -> Option<Request<'a>>
-    ensures request { option_map asks result ≡ spec.statement_in (rows_of (found_of matches.now)) }
-    ensures range { IfSome result (λ r. IsInRange r.command) }
+pub fn balances_found(matches: &ArgMatches, through: Option<Day>) -> Option<Command>
+    requires { IsOptionDay through }
+    ensures command { result ≡ spec.balances_in through (rows_of (found_of matches.now)) }
+    ensures range { IfSome result IsInRange }
 {
     let year = number_from(text_of(matches, "first"), 1971, u64::from(LAST_YEAR))?;
-    let kind = report_kind_named(text_of(matches, "second")?)?;
-    let command = Command::Statement {
+    Some(Command::Balances {
+        year: year as u16,
+        through,
+        alone: is_set(matches, "alone"),
+        csv: is_csv(matches),
+    })
+}
+
+/// Whether a statement is said of entries through a day.
+fn has_days(kind: ReportKind) -> bool
+    ensures { result ≡ spec.has_days kind }
+{
+    match kind {
+        ReportKind::Look(
+            Kind::Balance | Kind::Operating | Kind::Budget | Kind::Position | Kind::Activities,
+        ) => true,
+        ReportKind::Look(Kind::Reconcile | Kind::Changes)
+        | ReportKind::Classes
+        | ReportKind::Components
+        | ReportKind::Major => false,
+    }
+}
+
+/// The statement, where it is one that can be said through this day.
+fn kind_for(through: Option<Day>, kind: ReportKind) -> Option<ReportKind>
+    ensures { result ≡ spec.kind_for through kind }
+{
+    if through.is_none() || has_days(kind) {
+        Some(kind)
+    } else {
+        None
+    }
+}
+
+pub fn statement_found(matches: &ArgMatches, through: Option<Day>) -> Option<Command>
+    requires { IsOptionDay through }
+    ensures command { result ≡ spec.statement_in through (rows_of (found_of matches.now)) }
+    ensures range { IfSome result IsInRange }
+{
+    let year = number_from(text_of(matches, "first"), 1971, u64::from(LAST_YEAR))?;
+    let named = report_kind_named(text_of(matches, "second")?)?;
+    let kind = kind_for(through, named)?;
+    Some(Command::Statement {
         year: year as u16,
         kind,
+        through,
         csv: is_csv(matches),
-    };
-    with_file(command, text_of(matches, "third"), None)
+    })
 }
 
-/// Whether an option that only `posts` has was given.
-fn has_filter(matches: &ArgMatches) -> bool
-    ensures { result ≡ spec.has_filter (rows_of (found_of matches.now)) }
+pub fn ledger_found(matches: &ArgMatches, days: Days) -> Option<Command>
+    requires from { IsOptionDay days.from }
+    requires through { IsOptionDay days.through }
+    ensures command { result ≡ spec.ledger_in days (rows_of (found_of matches.now)) }
+    ensures range { IfSome result IsInRange }
 {
-    text_of(matches, "year").is_some()
-        || text_of(matches, "fund").is_some()
-        || text_of(matches, "account").is_some()
+    let filter = ledger_filter_found(matches, days)?;
+    Some(Command::Ledger {
+        filter,
+        csv: is_csv(matches),
+    })
 }
 
-/// What a parse found, where it asks for something.
-pub fn request_found<'a>(matches: &ArgMatches<'a>) -> Option<Request<'a>>
-    ensures request { option_map asks result ≡ spec.asked_in (rows_of (found_of matches.now)) }
-    ensures range { IfSome result (λ r. IsInRange r.command) }
+pub fn documents_found(matches: &ArgMatches) -> Option<Command>
+    ensures command { result ≡ spec.documents_in (rows_of (found_of matches.now)) }
+    ensures range { IfSome result IsInRange }
 {
-    match text_of(matches, "command")? {
-        "posts" => posts_found(matches),
-        _ if has_filter(matches) => None,
-        "claims" => claims_found(matches),
-        "balances" => balances_found(matches),
-        "statement" => statement_found(matches),
-        word => plain_found(word, matches),
-    }
+    let filter = document_filter_found(matches)?;
+    Some(Command::Documents {
+        filter,
+        csv: is_csv(matches),
+    })
+}
+
+pub fn paid_found(matches: &ArgMatches) -> Option<Command>
+    ensures command { result ≡ spec.paid_in (rows_of (found_of matches.now)) }
+    ensures range { IfSome result IsInRange }
+{
+    let year = number_from(text_of(matches, "first"), 1971, u64::from(LAST_YEAR))?;
+    Some(Command::Paid {
+        year: year as u16,
+        csv: is_csv(matches),
+    })
 }

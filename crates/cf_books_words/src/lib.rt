@@ -1,7 +1,13 @@
 //! The words of the program `books`.
 #![tactic(auto)]
 
+mod command_word;
 mod found;
+mod options;
+mod requests;
 mod words;
 
-pub use words::{Command, JOURNAL, PostFilter, Request, WordsRefused, read_words};
+pub use words::{
+    Command, DocumentFilter, DocumentKind, JOURNAL, LedgerFilter, PostFilter, Request,
+    WordsRefused, read_words,
+};
