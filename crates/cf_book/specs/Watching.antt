@@ -49,4 +49,4 @@ pub record IsNext (plan : Plan) (history : List Entry) (x : Posted) (changes : L
   pub legal : IsLegal plan history
   pub adds : Adds plan history x.entry
   pub posted : x ≡ next_posted plan history x.entry
-  pub changes : Make plan (moved_by plan x.before x.entry.change.on x.entry.change.act) changes
+  pub makes : Make plan (moved_by plan x.before x.entry.change.on x.entry.change.act) changes
