@@ -1,7 +1,7 @@
 //! Rows of fields, which one writer writes.
 
 ghost use Rattle.std.specs.Prelude.{◌≡◌, ◌<◌, ◌^◌, ℤ, unsigned_abs, [], ◌∷◌, ◌++◌, map, IfOk, OnOk};
-ghost use Rattle.std.specs.List.{list_all, list_any};
+ghost use Rattle.std.specs.List.{list_all};
 ghost use Rattle.csv.specs.Records.{fields_of, partial_of};
 ghost use Rattle.cf_base.specs.Amounts.{money_of};
 ghost use Rattle.cf_books_lists.specs.Records as spec;
@@ -57,13 +57,6 @@ fn is_formula(field: &[u8]) -> bool
     }
 }
 
-/// Whether one of these fields is a formula.
-fn has_formula(fields: &[&[u8]]) -> bool
-    ensures { result ≡ list_any spec.is_formula (map (λ f. f.now) fields.now) }
-{
-    fields.iter().any(|field| is_formula(field))
-}
-
 /// Adds a field to a record, with a quote before a formula. Where there is no memory, the record is
 /// of no use.
 fn put_guarded(alloc: Global, row: &mut ByteRecord, field: &[u8]) -> Result<(), AllocError>
@@ -92,17 +85,17 @@ fn guarded_record(alloc: Global, fields: &[&[u8]]) -> Result<ByteRecord, AllocEr
 }
 
 /// Writes a row as it is laid out. Where there is no memory for it, the writer is of no use.
+#[tactic(auto, unfolding(crate::specs::Records::record_text))]
 fn write_row(layout: Layout, out: &mut Writer<Vec<u8>>, fields: &[&[u8]]) -> Result<(), AllocError>
     requires { StandsBefore layout.csv out.old }
     ensures before { OnOk result (StandsBefore layout.csv out.new) }
     ensures text { OnOk result (text_in out.new ≡ text_in out.old ++ record_text layout.csv (map (λ f. f.now) fields.now)) }
 {
-    let written = if layout.csv && has_formula(fields) {
-        out.write_byte_record(&guarded_record(layout.alloc, fields)?)
-    } else {
-        out.write_fields(fields)
-    };
-    written.map_err(|_| AllocError)
+    if layout.csv {
+        let row = guarded_record(layout.alloc, fields)?;
+        return out.write_byte_record(&row).map_err(|_| AllocError);
+    }
+    out.write_fields(fields).map_err(|_| AllocError)
 }
 
 // ---- rows
@@ -125,7 +118,8 @@ impl Model for Rows {
 }
 
 impl Rows {
-    /// No row.
+    /// No row. An amount, up to what 128 bits hold, is no formula and stands in a row as it is.
+    #[tactic(auto, using(crate::proofs::Formulas::amount_stands))]
     pub fn new(layout: Layout) -> Rows
         ensures none { result ≡ none_written layout.csv }
         ensures amounts { (amount : ℤ) → unsigned_abs amount < 2 ^ 128 → guarded (money_of amount) ≡ money_of amount }
