@@ -84,7 +84,7 @@ module _ {F : Type 0} (o : Office F) (chart : List ℕ) (start : F) (whole : Lis
   none_left [] x rest is = refl
   none_left (e ∷ es) x rest is = let open_ : 0 ∷ x ≡ 1 ∷ (record_of e ++ (records_of es ++ 0 ∷ rest)) = is ∙ records_front e es (0 ∷ rest) in absurd (cc open_)
 
-  module _ (now : F) (middle : Option (List ℕ)) (lost behind : List ℕ) (place at : ℕ) (t : Took o whole now middle lost behind place) (since : o.since start now) where
+  module _ (now : F) (middle : Option (List ℕ)) (lost behind : List ℕ) (place at : ℕ) (t : Took o whole now middle lost behind place) (since : o.since start now None) where
     next_bytes : (left' : Option (List ℕ)) (bytes : List ℕ) → Consumes middle left' bytes → (x : List ℕ) × (bytes ++ x ≡ records_of t.later ++ (0 ∷ behind))
     next_bytes left' bytes took' =
         let more = taken t.rest middle left' bytes t.left took' in

@@ -1,5 +1,5 @@
 -- Following a stream to its end, or as far as it goes.
-use Rattle.std.specs.Prelude.{◌≡◌, ◌≢◌, ℕ, ◌+◌, ◌-◌, ◌<◌, ◌≤◌, ◌^◌, List, [], ◌∷◌, ◌++◌, All, length, take, drop, slice_get, Option, Some}
+use Rattle.std.specs.Prelude.{◌≡◌, ◌≢◌, ℕ, ◌+◌, ◌-◌, ◌<◌, ◌≤◌, ◌^◌, List, [], ◌∷◌, ◌++◌, All, length, take, drop, slice_get, Option, Some, None}
 use Rattle.std.specs.Io.KnownBytes.{Consumes}
 use Rattle.cf_calls.specs.declared.entry.Entry.{Entry}
 use Rattle.cf_codec.specs.Entries.{payload}
@@ -60,7 +60,7 @@ pub record Following {F : Type 0} (o : Office F) (chart : List ℕ) (start now :
   pub took : Consumes left left' (head_of from chart ++ records_of es)
   pub follows : Follows from (o.history start) es (o.history now)
   pub quiet : o.faults now ≡ o.faults start
-  pub since : o.since start now
+  pub since : o.since start now None
 
 -- it stopped behind the records of these entries
 pub record StopsBehind {F : Type 0} (o : Office F) (chart : List ℕ) (start after : F) (left left' : Option (List ℕ)) (how : FollowEnd) : Type 0 where
@@ -77,3 +77,12 @@ pub record StopsBehind {F : Type 0} (o : Office F) (chart : List ℕ) (start aft
 pub data FollowEnds {F : Type 0} (o : Office F) (chart : List ℕ) (start after : F) (left left' : Option (List ℕ)) (how : FollowEnd) : Type 0 where
   front : HeadEnds chart (length (o.history start)) left left' how → after ≡ start → FollowEnds o chart start after left left' how
   behind : StopsBehind o chart start after left left' how → FollowEnds o chart start after left left' how
+
+-- the entry of the record at which the disk failed, where it did
+abbrev pub failed_stop : {F : Type 0} {o : Office F} {now : F} {place at : ℕ} {bytes : List ℕ} {left : Option (List ℕ)} {after : F} {how : FollowEnd} → Stops o now place at bytes left after how → Option Entry
+failed_stop (Stops.failed e is ends fails) = Some e
+failed_stop _ = None
+
+abbrev pub failed_in : {F : Type 0} {o : Office F} {chart : List ℕ} {start after : F} {left left' : Option (List ℕ)} {how : FollowEnd} → FollowEnds o chart start after left left' how → Option Entry
+failed_in (FollowEnds.front is same) = None
+failed_in (FollowEnds.behind b) = failed_stop b.stops

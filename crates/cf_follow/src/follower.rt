@@ -1,6 +1,6 @@
 //! What follows a stream.
 
-ghost use Rattle.std.specs.Prelude.{◌≡◌, ◌≤◌, All, ℕ, List, Option, length};
+ghost use Rattle.std.specs.Prelude.{◌≡◌, ◌≤◌, All, ℕ, List, Option, None, length};
 ghost use Rattle.cf_base.specs.Limits.{most_entries};
 ghost use Rattle.cf_calls.specs.declared.entry.Entry.{Entry as EntryOf};
 ghost use Rattle.cf_calls.specs.Form.{IsEntryInForm};
@@ -31,8 +31,9 @@ pub trait Follower {
     /// How often its disk has failed.
     ghost faults: { Self → ℕ };
 
-    /// What holds of it and of what it was earlier, as what a crash left since then.
-    ghost since: { Self → Self → Type 0 };
+    /// What holds of it and of what it was earlier, as what a crash left since then, where since then its disk failed at this
+    /// entry, or at none.
+    ghost since: { Self → Self → Option EntryOf → Type 0 };
 
     /// Its entries, at most 1,500,000.
     fn entries(&self) -> &[Entry]
@@ -44,10 +45,9 @@ pub trait Follower {
     fn admit(&mut self, entry: Entry) -> Admission
         requires { IsEntryInForm entry }
         ensures admits { Admits (office history refusal faults since) self.old entry self.new result }
-        ensures since { since self.old self.new }
         ensures few { length (history self.new) ≤ most_entries };
 
-    ghost since_same: { (f : Self) → since f f };
+    ghost since_same: { (f : Self) → since f f None };
 
-    ghost since_more: { (a b c : Self) → since a b → since b c → since a c };
+    ghost since_more: { (a b c : Self) (failed : Option EntryOf) → since a b None → since b c failed → since a c failed };
 }

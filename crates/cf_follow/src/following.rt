@@ -7,7 +7,7 @@ ghost use Rattle.cf_calls.specs.declared.entry.Entry.{Entry as EntryOf};
 ghost use Rattle.cf_stream.specs.Readings.{ReadsHead};
 ghost use Rattle.cf_stream.specs.Streams.{most_chart};
 ghost use Rattle.cf_follow.specs.Admitting.{office};
-ghost use Rattle.cf_follow.specs.Following.{DifferAt, FollowEnds, HeadEnds};
+ghost use Rattle.cf_follow.specs.Following.{DifferAt, FollowEnds, HeadEnds, failed_in};
 ghost use Rattle.cf_follow.specs.Laws.{IsBehind, IsCopy, IsShipped};
 ghost use Rattle.cf_follow.specs.Steps.{IsReadCause, end_as};
 
@@ -84,7 +84,6 @@ fn follow_records<I: Source, F: Follower>(
     ensures ends { (left : Option (List ℕ)) → ReadsHead left (I.left input.old) from chart.now
         → FollowEnds (office F.history F.refusal F.faults F.since) chart.now follower.old follower.new left (I.left input.new) result }
     ensures still { F.history follower.new ≡ F.history follower.old → result ≢ FollowEnd.DiskFault → follower.new ≡ follower.old }
-    ensures since { F.since follower.old follower.new }
     ensures cause { IsReadCause (I.faults input.old) (I.faults input.new) result }
 {
     let mut own = Vec::new(alloc);
@@ -116,7 +115,6 @@ fn read_stream<I: Source, F: Follower>(
 ) -> FollowEnd
     ensures ends { FollowEnds (office F.history F.refusal F.faults F.since) chart.now follower.old follower.new (I.left input.old) (I.left input.new) result }
     ensures still { F.history follower.new ≡ F.history follower.old → result ≢ FollowEnd.DiskFault → follower.new ≡ follower.old }
-    ensures since { F.since follower.old follower.new }
     ensures cause { IsReadCause (I.faults input.old) (I.faults input.new) result }
 {
     let Ok(mut reader) = Reader::new(alloc) else {
@@ -150,7 +148,9 @@ pub fn follow<I: Source, F: Follower>(
     // Where the history stays, nothing is touched.
     ensures still { F.history follower.new ≡ F.history follower.old → result ≢ FollowEnd.DiskFault → follower.new ≡ follower.old }
 
-    ensures since { F.since follower.old follower.new }
+    // Where the disk failed, it was at the entry of the last record that was taken.
+    ensures since { (ends : FollowEnds (office F.history F.refusal F.faults F.since) chart.now follower.old follower.new (I.left input.old) (I.left input.new) result)
+        → F.since follower.old follower.new (failed_in ends) }
     ensures cause { IsReadCause (I.faults input.old) (I.faults input.new) result }
     ensures disk { result ≡ FollowEnd.DiskFault → Rose (F.faults follower.old) (F.faults follower.new) }
     ensures quiet { result ≢ FollowEnd.DiskFault → F.faults follower.new ≡ F.faults follower.old }

@@ -55,7 +55,7 @@ impl Follower for MemFollower {
 
     ghost faults = { λ f. 0 };
 
-    ghost since = { λ a b. ⊤ };
+    ghost since = { λ a b failed. ⊤ };
 
     fn entries(&self) -> &[Entry] {
         self.entries.as_slice()
@@ -76,5 +76,5 @@ impl Follower for MemFollower {
 
     ghost since_same = { λ f. tt };
 
-    ghost since_more = { λ a b c p q. tt };
+    ghost since_more = { λ a b c failed p q. tt };
 }

@@ -16,7 +16,6 @@ invariant-records g l =
       following : (left : Option (List ℕ)) → ReadsHead left (g.I.Source.left l.initial.input) l.from l.chart
           → IsFollowing o l.chart l.initial.follower l.follower left (g.I.Source.left l.input) l.from l.place.entries l.place.at;
       still : IsStill o l.initial.follower l.follower;
-      since : f.since l.initial.follower l.follower;
       quiet : g.I.Source.faults l.input ≡ g.I.Source.faults l.initial.input;
     }
 
