@@ -1,4 +1,5 @@
 pub mod CameLaws
+pub mod FaultLaws
 pub mod TurnLaws
 pub mod ServeLaws
 pub mod ReadLaws

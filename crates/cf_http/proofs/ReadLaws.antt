@@ -9,18 +9,18 @@ use Rattle.cf_heads.specs.Answers.{joined}
 use Rattle.cf_heads.specs.Heads.{BeginsWithHead, IsOpenHead}
 use Rattle.cf_heads.specs.declared.head.Heading.{Heading}
 use Rattle.cf_http.specs.Asking.{Rule}
-use Rattle.cf_http.specs.Links.{LinkRead, read_at, ReadsEach, TellsRead}
-use Rattle.cf_http.specs.Serving.{Moment, Came, ReadOver, ReadInTurn, Went}
+use Rattle.cf_http.specs.declared.end.LinkEnd.{LinkEnd}
+use Rattle.cf_http.specs.Links.{LinkRead, Input, Output, LinkTells, OnlyReads, OnlySends, FaultsOf, read_now, ReadsEach, TellsRead}
+use Rattle.cf_http.specs.Serving.{Moment, moment_now, ReadInTurn, Went, Serves}
+use Rattle.cf_http.specs.Stages.{Stage, Came, ReadOver, ReadsOver, ReadsNow}
 use Rattle.cf_http.specs.Talk.{IsOpenText}
-use Rattle.cf_http.proofs.ServeLaws.{none_or_cut, open_body}
+use Rattle.cf_http.specs.Turns.{SaidNoMemory}
+use Rattle.cf_http.proofs.ServeLaws.{none_or_cut, open_body, served_memory}
 
 -- none so far
 pub reads_none : (is_so : LinkRead → Type 0) (a : Option (List LinkRead)) → ReadsEach is_so a a
 reads_none is_so None = tt
 reads_none is_so (Some xs) = ([], sym (append-nil xs), All-nil is_so)
-
-pub reads_same : (is_so : LinkRead → Type 0) (a b c : Option (List LinkRead)) → c ≡ b → ReadsEach is_so a b → ReadsEach is_so a c
-reads_same is_so a b c e h = subst (λ (x : Option (List LinkRead)). ReadsEach is_so a x) (sym e) h
 
 pub reads_weaker : (is_so is_such : LinkRead → Type 0) → ((read : LinkRead) → is_so read → is_such read) → (a b : Option (List LinkRead)) → ReadsEach is_so a b → ReadsEach is_such a b
 reads_weaker is_so is_such f None b h = tt
@@ -43,52 +43,55 @@ reads_one (Some xs) (Some ys) read (Ok n) t = (read ∷ [], t, All-cons (λ (r :
 
 -- ---- over a text that waits for more
 
-over_at : (waits : List ℕ → Type 0) (r0 r1 s0 s1 : Option (List ℕ)) (text more : List ℕ) → Came r0 r1 text more → s1 ≡ s0 → waits more → ReadOver waits r0 s0 text (read_at r1 s1)
-over_at waits r0 r1 s0 s1 text more came s still = record { came = came.came; received = came.received; sent = s; is_open = subst waits came.joins still }
+over_now : (waits : List ℕ → Type 0) (old at : Stage) → Came old at → OnlyReads old.link at.link → waits at.text → ReadOver waits old (read_now at.link)
+over_now waits old at came reads still = record { came = came.came; received = came.received; sent = ap (λ (x : Output). x.sent) reads; is_open = subst waits came.joins still }
 
-pub read_over : (waits : List ℕ → Type 0) (r0 r1 s0 s1 : Option (List ℕ)) (text more : List ℕ) (a b c : Option (List LinkRead)) → Came r0 r1 text more → s1 ≡ s0 → waits more
-    → ReadsEach (ReadOver waits r0 s0 text) a b → ReadsEach (λ r. r ≡ read_at r1 s1) b c → ReadsEach (ReadOver waits r0 s0 text) a c
-read_over waits r0 r1 s0 s1 text more a b c came s still before now =
-    reads_on (ReadOver waits r0 s0 text) a b c before
-    (reads_weaker (λ (r : LinkRead). r ≡ read_at r1 s1) (ReadOver waits r0 s0 text)
-    (λ r e. subst (ReadOver waits r0 s0 text) (sym e) (over_at waits r0 r1 s0 s1 text more came s still)) b c now)
+pub read_over : (waits : List ℕ → Type 0) (old at new : Stage) → Came old at → OnlyReads old.link at.link → waits at.text → ReadsOver waits old at → ReadsNow at new → ReadsOver waits old new
+read_over waits old at new came reads still before now =
+    reads_on (ReadOver waits old) old.link.input.reads at.link.input.reads new.link.input.reads before
+    (reads_weaker (λ (r : LinkRead). r ≡ read_now at.link) (ReadOver waits old)
+    (λ r e. subst (ReadOver waits old) (sym e) (over_now waits old at came reads still)) at.link.input.reads new.link.input.reads now)
+
+-- an answer is no read
+pub over_sends : (waits : List ℕ → Type 0) (old at new : Stage) → OnlySends at.link new.link → ReadsOver waits old at → ReadsOver waits old new
+over_sends waits old at new sends = subst (λ (x : Input). ReadsEach (ReadOver waits old) old.link.input.reads x.reads) (sym sends)
 
 -- the reads of a head
-pub head_reads : (r s : Option (List ℕ)) (text : List ℕ) (a b : Option (List LinkRead)) → ReadsEach (ReadOver IsOpenHead r s text) a b → ReadsEach (ReadOver IsOpenText r s text) a b
-head_reads r s text a b =
-    reads_weaker (ReadOver IsOpenHead r s text) (ReadOver IsOpenText r s text)
-    (λ read o. record { came = o.came; received = o.received; sent = o.sent; is_open = none_or_cut (text ++ o.came) o.is_open }) a b
+pub head_reads : (old new : Stage) → ReadsOver IsOpenHead old new → ReadsOver IsOpenText old new
+head_reads old new =
+    reads_weaker (ReadOver IsOpenHead old) (ReadOver IsOpenText old)
+    (λ read o. record { came = o.came; received = o.received; sent = o.sent; is_open = none_or_cut (old.text ++ o.came) o.is_open }) old.link.input.reads new.link.input.reads
 
 -- and those of its body behind them
-pub body_reads : (r0 r1 s0 s1 : Option (List ℕ)) (text first : List ℕ) (a b c : Option (List LinkRead)) (heading : Heading) (n : ℕ)
-    → Came r0 r1 text first → s1 ≡ s0 → BeginsWithHead first heading → heading.body ≡ Ok n
-    → ReadsEach (ReadOver IsOpenHead r0 s0 text) a b → ReadsEach (ReadOver (λ t. length t < heading.length + n) r1 s1 first) b c → ReadsEach (ReadOver IsOpenText r0 s0 text) a c
-body_reads r0 r1 s0 s1 text first a b c heading n came s begins states head body =
-    reads_on (ReadOver IsOpenText r0 s0 text) a b c (head_reads r0 s0 text a b head)
-    (reads_weaker (ReadOver (λ t. length t < heading.length + n) r1 s1 first) (ReadOver IsOpenText r0 s0 text) one b c body)
+pub body_reads : (old mid new : Stage) (heading : Heading) (n : ℕ) → Came old mid → OnlyReads old.link mid.link → BeginsWithHead mid.text heading → heading.body ≡ Ok n
+    → ReadsOver IsOpenHead old mid → ReadsOver (λ t. length t < heading.length + n) mid new → ReadsOver IsOpenText old new
+body_reads old mid new heading n came reads begins states head body =
+    reads_on (ReadOver IsOpenText old) old.link.input.reads mid.link.input.reads new.link.input.reads (head_reads old mid head)
+    (reads_weaker (ReadOver (λ t. length t < heading.length + n) mid) (ReadOver IsOpenText old) one mid.link.input.reads new.link.input.reads body)
   where
-    one : (read : LinkRead) → ReadOver (λ t. length t < heading.length + n) r1 s1 first read → ReadOver IsOpenText r0 s0 text read
+    one : (read : LinkRead) → ReadOver (λ t. length t < heading.length + n) mid read → ReadOver IsOpenText old read
     one read o = record {
       came = came.came ++ o.came;
-      received = Appends-trans r0 r1 read.received came.came o.came came.received o.received;
-      sent = o.sent ∙ s;
-      is_open = subst IsOpenText (ap (λ t. t ++ o.came) came.joins ∙ append_assoc text came.came o.came)
-          (inr (open_body (first ++ o.came) heading n (begins_on first o.came heading begins) states o.is_open));
+      received = Appends-trans old.link.input.received mid.link.input.received read.received came.came o.came came.received o.received;
+      sent = o.sent ∙ ap (λ (x : Output). x.sent) reads;
+      is_open = subst IsOpenText (ap (λ t. t ++ o.came) came.joins ∙ append_assoc old.text came.came o.came)
+          (inr (open_body (mid.text ++ o.came) heading n (begins_on mid.text o.came heading begins) states o.is_open));
     }
 
 -- ---- behind requests that were answered
 
-in_turn : {A : Type 0} (rule : Rule A) (start at : Moment A) (text : List ℕ) (n : ℕ) (read : LinkRead) → Went rule start [] at text n → ReadOver IsOpenText at.received at.sent text read → ReadInTurn rule start read
-in_turn rule start at text n read w o = record {
-  middle = at.answerer;
-  rest = text ++ o.came;
+in_turn : {A : Type 0} (rule : Rule A) (start : Moment A) (middle : A) (at : Stage) (n : ℕ) (read : LinkRead) → Went rule start [] (moment_now middle at.link) at.text n
+    → ReadOver IsOpenText at read → ReadInTurn rule start read
+in_turn rule start middle at n read w o = record {
+  middle = middle;
+  rest = at.text ++ o.came;
   count = n;
   went = record {
     came = w.came ++ o.came;
     messages = w.messages;
     answers = w.answers;
-    received = Appends-trans start.received at.received read.received w.came o.came w.received o.received;
-    joins = ap (λ t. t ++ o.came) w.joins ∙ append_assoc _ text o.came;
+    received = Appends-trans start.received at.link.input.received read.received w.came o.came w.received o.received;
+    joins = ap (λ t. t ++ o.came) w.joins ∙ append_assoc _ at.text o.came;
     each = w.each;
     counted = w.counted;
     talk = w.talk;
@@ -97,8 +100,16 @@ in_turn rule start at text n read w o = record {
   is_open = o.is_open;
 }
 
-pub turn_reads : {A : Type 0} (rule : Rule A) (start at : Moment A) (text : List ℕ) (n : ℕ) (a b c : Option (List LinkRead)) → Went rule start [] at text n
-    → ReadsEach (ReadInTurn rule start) a b → ReadsEach (ReadOver IsOpenText at.received at.sent text) b c → ReadsEach (ReadInTurn rule start) a c
-turn_reads rule start at text n a b c w before now =
-    reads_on (ReadInTurn rule start) a b c before
-    (reads_weaker (ReadOver IsOpenText at.received at.sent text) (ReadInTurn rule start) (λ read o. in_turn rule start at text n read w o) b c now)
+pub turn_reads : {A : Type 0} (rule : Rule A) (start : Moment A) (middle : A) (at new : Stage) (n : ℕ) (a : Option (List LinkRead)) → Went rule start [] (moment_now middle at.link) at.text n
+    → ReadsEach (ReadInTurn rule start) a at.link.input.reads → ReadsOver IsOpenText at new → ReadsEach (ReadInTurn rule start) a new.link.input.reads
+turn_reads rule start middle at new n a w before now =
+    reads_on (ReadInTurn rule start) a at.link.input.reads new.link.input.reads before
+    (reads_weaker (ReadOver IsOpenText at) (ReadInTurn rule start) (λ read o. in_turn rule start middle at n read w o) at.link.input.reads new.link.input.reads now)
+
+-- as the whole of what is said of a link
+pub serves_memory : {A : Type 0} (rule : Rule A) (answerer : A) (old new : LinkTells) (how : LinkEnd) → OnlySends old new → SaidNoMemory old new how → FaultsOf old new how → Serves rule answerer answerer old new how
+serves_memory rule answerer old new how sends said faults = record {
+  served = served_memory rule answerer old new how sends said;
+  turns = subst (λ (x : Input). ReadsEach (ReadInTurn rule (moment_now answerer old)) old.input.reads x.reads) (sym sends) (reads_none (ReadInTurn rule (moment_now answerer old)) old.input.reads);
+  faults = faults;
+}

@@ -1,5 +1,5 @@
 -- How a link is served, step by step.
-use Rattle.std.proofs.Common.{◌≡◌, ◌⊎◌, ℕ, ◌+◌, ◌-◌, ◌<◌, ◌≤◌, List, [], ◌∷◌, ◌++◌, length, drop, Bool, Option, Some, None, IfSome, Ok, inl, inr, arith, subst, sym, ap, refl, ◌∙◌, append_assoc, length-append, length-drop}
+use Rattle.std.proofs.Common.{◌≡◌, ◌⊎◌, ℕ, ◌+◌, ◌-◌, ◌<◌, ◌≤◌, List, [], ◌∷◌, ◌++◌, length, drop, Option, Some, None, IfSome, Ok, inl, inr, arith, subst, sym, ap, refl, ◌∙◌, append_assoc, length-append, length-drop}
 use Rattle.std.specs.List.{flat_map}
 use Rattle.std.specs.Io.KnownBytes.{Appends}
 use Rattle.std.proofs.KnownBytes.{Appends-nil, Appends-trans}
@@ -12,7 +12,9 @@ use Rattle.cf_http.specs.Asking.{Rule}
 use Rattle.cf_heads.specs.Answers.{joined}
 use Rattle.cf_heads.specs.Heads.{BeginsWithHead, IsOpenHead, fields_of}
 use Rattle.cf_http.specs.Talk.{Message, message_bytes, IsMessage, Talk, IsCut, Last, between, cut, read_fault, limit, no_link}
-use Rattle.cf_http.specs.Serving.{Moment, moment_of, Came, Went, Gave, EndsOver, Stops, Replied, Served, IsCounted, NoneCame, IsBodyStop}
+use Rattle.cf_http.specs.Links.{Input, Output, LinkTells, OnlyReads, OnlySends, SentFront}
+use Rattle.cf_http.specs.Serving.{Moment, moment_now, Went, Gave, Served, IsCounted, NoneCame, IsBodyStop}
+use Rattle.cf_http.specs.Stages.{Stage, Came, EndsOver, Stops, Replied, GoesOn}
 use Rattle.cf_http.specs.Turns.{SaidNoMemory}
 use Rattle.cf_http.proofs.TurnLaws.{memory_over, memory_kind, after_no_limit}
 use Rattle.cf_heads.proofs.FieldLaws.{body_within}
@@ -21,22 +23,22 @@ use Rattle.cf_heads.proofs.HeadLaws.{length_head, begins_on}
 
 -- ---- nothing is answered
 
-over_none : {A : Type 0} (rule : Rule A) (before : A) (sent : Option (List ℕ)) (text : List ℕ) (ended : Bool) (how : LinkEnd) → Gave how sent sent [] → Last rule before text ended how [] before
-    → EndsOver rule before sent text before sent ended how
-over_none rule before sent text ended how gave ends = record { last = []; ends = ends; gave = gave }
+over_none : {A : Type 0} (rule : Rule A) (before : A) (at : Stage) (how : LinkEnd) → Gave how at.link at.link [] → Last rule before at.text at.link.input.ended how [] before
+    → EndsOver rule before before at at how
+over_none rule before at how gave ends = record { last = []; ends = ends; gave = gave }
 
 -- nothing came, or a head that is still open
 pub none_or_cut : (text : List ℕ) → IsOpenHead text → (text ≡ []) ⊎ IsCut text
 none_or_cut [] still = inl refl
 none_or_cut (x ∷ xs) still = inr (inl (omega arith, still))
 
-pub none_over : {A : Type 0} (rule : Rule A) (before : A) (sent : Option (List ℕ)) (text : List ℕ) (ended : Bool) (how : LinkEnd) → NoneCame text ended how → EndsOver rule before sent text before sent ended how
-none_over rule before sent text ended end.Closed n = over_none rule before sent text ended end.Closed (Appends-nil sent) (between n.0 n.1)
-none_over rule before sent text ended end.Cut n = over_none rule before sent text ended end.Cut (Appends-nil sent) (cut n.0 n.1)
-none_over rule before sent text ended end.ReadFault n = over_none rule before sent text ended end.ReadFault (Appends-nil sent) (read_fault (none_or_cut text n))
-none_over rule before sent text ended end.WriteFault n = absurd n
-none_over rule before sent text ended end.Limit n = absurd n
-none_over rule before sent text ended end.NoMemory n = absurd n
+pub none_over : {A : Type 0} (rule : Rule A) (before : A) (at : Stage) (how : LinkEnd) → NoneCame at.text at.link.input.ended how → EndsOver rule before before at at how
+none_over rule before at end.Closed n = over_none rule before at end.Closed (Appends-nil at.link.output.sent) (between n.0 n.1)
+none_over rule before at end.Cut n = over_none rule before at end.Cut (Appends-nil at.link.output.sent) (cut n.0 n.1)
+none_over rule before at end.ReadFault n = over_none rule before at end.ReadFault (Appends-nil at.link.output.sent) (read_fault (none_or_cut at.text n))
+none_over rule before at end.WriteFault n = absurd n
+none_over rule before at end.Limit n = absurd n
+none_over rule before at end.NoMemory n = absurd n
 
 -- the head came, and not its whole body
 pub open_body : (text : List ℕ) (heading : Heading) (n : ℕ) → BeginsWithHead text heading → heading.body ≡ Ok n → length text < heading.length + n → IsCut text
@@ -53,14 +55,14 @@ open_body text heading n b states short = inr (record {
       omega (arith, fits, e, short);
 })
 
-pub body_over : {A : Type 0} (rule : Rule A) (before : A) (sent : Option (List ℕ)) (text : List ℕ) (ended : Bool) (heading : Heading) (n : ℕ) (how : LinkEnd)
-    → BeginsWithHead text heading → heading.body ≡ Ok n → IsBodyStop (heading.length + n) text ended how → EndsOver rule before sent text before sent ended how
-body_over rule before sent text ended heading n end.Closed b states s = absurd s
-body_over rule before sent text ended heading n end.Cut b states s = over_none rule before sent text ended end.Cut (Appends-nil sent) (cut (open_body text heading n b states s.0) s.1)
-body_over rule before sent text ended heading n end.ReadFault b states s = over_none rule before sent text ended end.ReadFault (Appends-nil sent) (read_fault (inr (open_body text heading n b states s)))
-body_over rule before sent text ended heading n end.WriteFault b states s = absurd s
-body_over rule before sent text ended heading n end.Limit b states s = absurd s
-body_over rule before sent text ended heading n end.NoMemory b states s = absurd s
+pub body_over : {A : Type 0} (rule : Rule A) (before : A) (at : Stage) (heading : Heading) (n : ℕ) (how : LinkEnd)
+    → BeginsWithHead at.text heading → heading.body ≡ Ok n → IsBodyStop (heading.length + n) at.text at.link.input.ended how → EndsOver rule before before at at how
+body_over rule before at heading n end.Closed b states s = absurd s
+body_over rule before at heading n end.Cut b states s = over_none rule before at end.Cut (Appends-nil at.link.output.sent) (cut (open_body at.text heading n b states s.0) s.1)
+body_over rule before at heading n end.ReadFault b states s = over_none rule before at end.ReadFault (Appends-nil at.link.output.sent) (read_fault (inr (open_body at.text heading n b states s)))
+body_over rule before at heading n end.WriteFault b states s = absurd s
+body_over rule before at heading n end.Limit b states s = absurd s
+body_over rule before at heading n end.NoMemory b states s = absurd s
 
 -- what is read is short enough for the room
 pub need_within : (text : List ℕ) (heading : Heading) (n : ℕ) → BeginsWithHead text heading → heading.body ≡ Ok n → heading.length + n ≤ 278528
@@ -70,43 +72,51 @@ need_within text heading n b states =
     omega (arith, len, body)
 
 -- the head stays at the front while more comes
-pub begins_still : (a b : Option (List ℕ)) (text more : List ℕ) (heading : Heading) → BeginsWithHead text heading → Came a b text more → BeginsWithHead more heading
-begins_still a b text more heading begins c = subst (λ (t : List ℕ). BeginsWithHead t heading) (sym c.joins) (begins_on text c.came heading begins)
+pub begins_still : (old new : Stage) (heading : Heading) → BeginsWithHead old.text heading → Came old new → BeginsWithHead new.text heading
+begins_still old new heading begins c = subst (λ (t : List ℕ). BeginsWithHead t heading) (sym c.joins) (begins_on old.text c.came heading begins)
 
 -- ---- bytes came, and the link ends over them
 
-pub stops_over : {A : Type 0} (rule : Rule A) (before after : A) (r_old r_new r_end s_old s_mid s_new : Option (List ℕ)) (text more : List ℕ) (ended : Bool) (how : LinkEnd)
-    → Came r_old r_new text more → r_end ≡ r_new → s_mid ≡ s_old → EndsOver rule before s_mid more after s_new ended how
-    → Stops rule (moment_of before r_old s_old) text (moment_of after r_end s_new) ended how
-stops_over rule before after r_old r_new r_end s_old s_mid s_new text more ended how c r s over = record {
+-- what is sent after reads is sent since before them
+gave_since : (how : LinkEnd) (old mid new : LinkTells) (bytes : List ℕ) → OnlyReads old mid → Gave how mid new bytes → Gave how old new bytes
+gave_since end.Closed old mid new bytes s g = subst (λ (x : Output). Appends x.sent new.output.sent bytes) s g
+gave_since end.Cut old mid new bytes s g = subst (λ (x : Output). Appends x.sent new.output.sent bytes) s g
+gave_since end.ReadFault old mid new bytes s g = subst (λ (x : Output). Appends x.sent new.output.sent bytes) s g
+gave_since end.WriteFault old mid new bytes s g = subst (λ (x : Output). SentFront x.sent new.output.sent bytes) s g
+gave_since end.Limit old mid new bytes s g = subst (λ (x : Output). Appends x.sent new.output.sent bytes) s g
+gave_since end.NoMemory old mid new bytes s g = subst (λ (x : Output). Appends x.sent new.output.sent bytes) s g
+
+pub stops_over : {A : Type 0} (rule : Rule A) (before after : A) (old mid new : Stage) (how : LinkEnd)
+    → Came old mid → OnlyReads old.link mid.link → OnlySends mid.link new.link → EndsOver rule before after mid new how → Stops rule before after old new how
+stops_over rule before after old mid new how c reads sends over = record {
   came = c.came;
-  received = subst (λ (x : Option (List ℕ)). Appends r_old x c.came) (sym r) c.received;
-  over = subst (λ (x : Option (List ℕ)). EndsOver rule before x (text ++ c.came) after s_new ended how) s
-      (subst (λ (t : List ℕ). EndsOver rule before s_mid t after s_new ended how) c.joins over);
+  received = subst (λ (x : Input). Appends old.link.input.received x.received c.came) (sym sends) c.received;
+  over = record {
+    last = over.last;
+    ends = subst (λ (t : List ℕ). Last rule before t new.link.input.ended how over.last after) c.joins over.ends;
+    gave = gave_since how old.link mid.link new.link over.last reads over.gave;
+  };
 }
 
-pub stops_if : {A : Type 0} (rule : Rule A) (before after : A) (r_old r_new r_end s_old s_mid s_new : Option (List ℕ)) (text more : List ℕ) (ended : Bool) (how : Option LinkEnd)
-    → Came r_old r_new text more → r_end ≡ r_new → s_mid ≡ s_old → IfSome how (EndsOver rule before s_mid more after s_new ended)
-    → IfSome how (Stops rule (moment_of before r_old s_old) text (moment_of after r_end s_new) ended)
-stops_if rule before after r_old r_new r_end s_old s_mid s_new text more ended None c r s over = tt
-stops_if rule before after r_old r_new r_end s_old s_mid s_new text more ended (Some how) c r s over =
-    stops_over rule before after r_old r_new r_end s_old s_mid s_new text more ended how c r s over
+pub stops_if : {A : Type 0} (rule : Rule A) (before after : A) (old mid new : Stage) (how : Option LinkEnd)
+    → Came old mid → OnlyReads old.link mid.link → OnlySends mid.link new.link → IfSome how (EndsOver rule before after mid new) → IfSome how (Stops rule before after old new)
+stops_if rule before after old mid new None c reads sends over = tt
+stops_if rule before after old mid new (Some how) c reads sends over = stops_over rule before after old mid new how c reads sends over
 
 -- ---- bytes came, and their first request was answered
 
-pub went_one : {A : Type 0} (rule : Rule A) (before after : A) (r_old r_new r_end s_old s_mid s_new : Option (List ℕ)) (text more rest : List ℕ)
-    → Came r_old r_new text more → r_end ≡ r_new → s_mid ≡ s_old → Replied rule before s_mid more after s_new rest
-    → Went rule (moment_of before r_old s_old) text (moment_of after r_end s_new) rest 1
-went_one rule before after r_old r_new r_end s_old s_mid s_new text more rest c r s reply = record {
+pub went_one : {A : Type 0} (rule : Rule A) (before after : A) (old mid new : Stage) → Came old mid → OnlyReads old.link mid.link → OnlySends mid.link new.link → Replied rule before after mid new
+    → GoesOn rule before after old new 1
+went_one rule before after old mid new c reads sends reply = record {
   came = c.came;
   messages = reply.message ∷ [];
   answers = reply.answer ∷ [];
-  received = subst (λ (x : Option (List ℕ)). Appends r_old x c.came) (sym r) c.received;
-  joins = sym c.joins ∙ reply.joins ∙ ap (λ t. t ++ rest) (sym (append-nil (message_bytes reply.message)));
+  received = subst (λ (x : Input). Appends old.link.input.received x.received c.came) (sym sends) c.received;
+  joins = sym c.joins ∙ reply.joins ∙ ap (λ t. t ++ new.text) (sym (append-nil (message_bytes reply.message)));
   each = All-cons IsMessage reply.message [] reply.is_message (All-nil IsMessage);
   counted = refl;
   talk = (after, reply.stays, reply.answers, refl);
-  sent = subst (λ (t : List ℕ). Appends s_old s_new t) (sym (append-nil reply.answer)) (subst (λ (x : Option (List ℕ)). Appends x s_new reply.answer) s reply.sent);
+  sent = subst (λ (t : List ℕ). Appends old.link.output.sent new.link.output.sent t) (sym (append-nil reply.answer)) (subst (λ (x : Output). Appends x.sent new.link.output.sent reply.answer) reads reply.sent);
 }
 
 -- ---- one after another
@@ -159,13 +169,13 @@ went_on rule a b c x y z m n k e f g = record {
 
 -- ---- a whole link
 
-gave_after : (how : LinkEnd) (a b c : Option (List ℕ)) (first last : List ℕ) → Appends a b first → Gave how b c last → Gave how a c (first ++ last)
-gave_after end.Closed a b c first last s g = Appends-trans a b c first last s g
-gave_after end.Cut a b c first last s g = Appends-trans a b c first last s g
-gave_after end.ReadFault a b c first last s g = Appends-trans a b c first last s g
-gave_after end.WriteFault a b c first last s g = front_of_second a b c first last s g
-gave_after end.Limit a b c first last s g = Appends-trans a b c first last s g
-gave_after end.NoMemory a b c first last s g = Appends-trans a b c first last s g
+gave_after : (how : LinkEnd) (a b c : LinkTells) (first last : List ℕ) → Appends a.output.sent b.output.sent first → Gave how b c last → Gave how a c (first ++ last)
+gave_after end.Closed a b c first last s g = Appends-trans a.output.sent b.output.sent c.output.sent first last s g
+gave_after end.Cut a b c first last s g = Appends-trans a.output.sent b.output.sent c.output.sent first last s g
+gave_after end.ReadFault a b c first last s g = Appends-trans a.output.sent b.output.sent c.output.sent first last s g
+gave_after end.WriteFault a b c first last s g = front_of_second a.output.sent b.output.sent c.output.sent first last s g
+gave_after end.Limit a b c first last s g = Appends-trans a.output.sent b.output.sent c.output.sent first last s g
+gave_after end.NoMemory a b c first last s g = Appends-trans a.output.sent b.output.sent c.output.sent first last s g
 
 counted_below : (how : LinkEnd) (n : ℕ) → n < 1000000 → (how ≡ end.Limit → ⊥) → IsCounted how n
 counted_below end.Closed n lt no_limit = lt
@@ -175,49 +185,51 @@ counted_below end.WriteFault n lt no_limit = lt
 counted_below end.Limit n lt no_limit = absurd (no_limit refl)
 counted_below end.NoMemory n lt no_limit = lt
 
-pub served_over : {A : Type 0} (rule : Rule A) (a b c : Moment A) (y : List ℕ) (n : ℕ) (ended : Bool) (how : LinkEnd) → n < 1000000 → (how ≡ end.Limit → ⊥)
-    → Went rule a [] b y n → Stops rule b y c ended how → Served rule a c ended how
-served_over rule a b c y n ended how lt no_limit f s = record {
+pub served_over : {A : Type 0} (rule : Rule A) (before middle after : A) (a b c : Stage) (n : ℕ) (how : LinkEnd) → n < 1000000 → (how ≡ end.Limit → ⊥)
+    → Went rule (moment_now before a.link) [] (moment_now middle b.link) b.text n → Stops rule middle after b c how → Served rule before after a.link c.link how
+served_over rule before middle after a b c n how lt no_limit f s = record {
   came = f.came ++ s.came;
   messages = f.messages;
-  rest = y ++ s.came;
+  rest = b.text ++ s.came;
   answers = f.answers;
   last = s.over.last;
-  middle = b.answerer;
-  received = Appends-trans a.received b.received c.received f.came s.came f.received s.received;
-  joins = ap (λ t. t ++ s.came) f.joins ∙ append_assoc (flat_map message_bytes f.messages) y s.came;
+  middle = middle;
+  received = Appends-trans a.link.input.received b.link.input.received c.link.input.received f.came s.came f.received s.received;
+  joins = ap (λ t. t ++ s.came) f.joins ∙ append_assoc (flat_map message_bytes f.messages) b.text s.came;
   each = f.each;
   counted = subst (IsCounted how) (sym f.counted) (counted_below how n lt no_limit);
   talk = f.talk;
   ends = s.over.ends;
-  sent = gave_after how a.sent b.sent c.sent (joined f.answers) s.over.last f.sent s.over.gave;
+  sent = gave_after how a.link b.link c.link (joined f.answers) s.over.last f.sent s.over.gave;
 }
 
-pub served_limit : {A : Type 0} (rule : Rule A) (a b : Moment A) (y : List ℕ) (n : ℕ) (ended : Bool) → n ≡ 1000000 → Went rule a [] b y n → Served rule a b ended end.Limit
-served_limit rule a b y n ended e f = record {
+pub served_limit : {A : Type 0} (rule : Rule A) (before after : A) (a b : Stage) (n : ℕ) → n ≡ 1000000 → Went rule (moment_now before a.link) [] (moment_now after b.link) b.text n
+    → Served rule before after a.link b.link end.Limit
+served_limit rule before after a b n e f = record {
   came = f.came;
   messages = f.messages;
-  rest = y;
+  rest = b.text;
   answers = f.answers;
   last = [];
-  middle = b.answerer;
+  middle = after;
   received = f.received;
   joins = f.joins;
   each = f.each;
   counted = f.counted ∙ e;
   talk = f.talk;
   ends = limit;
-  sent = subst (λ (t : List ℕ). Appends a.sent b.sent t) (sym (append-nil (joined f.answers))) f.sent;
+  sent = subst (λ (t : List ℕ). Appends a.link.output.sent b.link.output.sent t) (sym (append-nil (joined f.answers))) f.sent;
 }
 
+abbrev none_at : LinkTells → Stage
+none_at link = record { link = link; text = [] }
+
 -- there was no memory to begin with
-pub served_memory : {A : Type 0} (rule : Rule A) (answerer : A) (r_old r_new s_old s_new : Option (List ℕ)) (ended : Bool) (how : LinkEnd) → r_new ≡ r_old → SaidNoMemory s_old s_new how
-    → Served rule (moment_of answerer r_old s_old) (moment_of answerer r_new s_new) ended how
-served_memory rule answerer r_old r_new s_old s_new ended how r said =
-    served_over rule (moment_of answerer r_old s_old) (moment_of answerer r_old s_old) (moment_of answerer r_new s_new) [] 0 ended how (omega arith)
-    (after_no_limit how (memory_kind s_old s_new how said)) (went_none rule (moment_of answerer r_old s_old) [])
+pub served_memory : {A : Type 0} (rule : Rule A) (answerer : A) (old new : LinkTells) (how : LinkEnd) → OnlySends old new → SaidNoMemory old new how → Served rule answerer answerer old new how
+served_memory rule answerer old new how sends said =
+    served_over rule answerer answerer answerer (none_at old) (none_at old) (none_at new) 0 how (omega arith) (after_no_limit how (memory_kind old new how said)) (went_none rule (moment_now answerer old) [])
     (record {
       came = [];
-      received = subst (λ (x : Option (List ℕ)). Appends r_old x []) (sym r) (Appends-nil r_old);
-      over = memory_over rule answerer answerer s_old s_new [] ended how (no_link refl) said;
+      received = subst (λ (x : Input). Appends old.input.received x.received []) (sym sends) (Appends-nil old.input.received);
+      over = memory_over rule answerer answerer (none_at old) (none_at new) how (no_link refl) said;
     })

@@ -4,10 +4,10 @@ use Rattle.cf_http.specs.declared.request.Request.{Request}
 use Rattle.cf_http.specs.declared.end.LinkEnd.{LinkEnd}
 use Rattle.cf_http.specs.Asking.{Rule}
 use Rattle.cf_http.specs.Talk.{Message, Answers, missed, told, Talk, LastAnswer, no_head, refused, closing, no_link, no_room, no_memory, Last, between, cut, answered, limit, read_fault, unsent_last, unsent, request_of}
-use Rattle.cf_http.specs.Links.{LinkRead}
-use Rattle.cf_http.specs.Serving.{Moment, moment_of, Served, ReadInTurn}
+use Rattle.cf_http.specs.Links.{LinkRead, LinkTells, read_at}
+use Rattle.cf_http.specs.Serving.{Moment, moment_of, moment_now, Served, ReadInTurn, Serves}
 use Rattle.cf_http.proofs.ReadLaws.{reads_weaker}
-use Rattle.cf_http.specs.Doors.{Tells, WasServed, WereServed, DoorServed}
+use Rattle.cf_http.specs.Doors.{DoorTells, WasServed, WereServed, DoorServed}
 
 -- the second follows each step of the first
 pub record Follows {A B : Type 0} (rule : Rule A) (other : Rule B) (fits : A → B → Type 0) : Type 0 where
@@ -49,11 +49,10 @@ module _ {A B : Type 0} (rule : Rule A) (other : Rule B) (fits : A → B → Typ
   last_as a _ b text ended _ _ (unsent m answer c begins stays says) f =
       let s = answers_as a c b m answer says f in (s.0, unsent m answer s.0 begins stays s.1, s.2)
 
-  served_as : (old new : Moment A) (b : B) (ended : Bool) (how : LinkEnd) → Served rule old new ended how → fits old.answerer b
-      → (d : B) × Served other (moment_of b old.received old.sent) (moment_of d new.received new.sent) ended how × fits new.answerer d
-  served_as old new b ended how s f =
-      let here = talk_as old.answerer s.middle b s.messages s.answers s.talk f in
-      let rest = last_as s.middle new.answerer here.0 s.rest ended how s.last s.ends here.2 in (
+  served_as : (a c : A) (b : B) (old new : LinkTells) (how : LinkEnd) → Served rule a c old new how → fits a b → (d : B) × Served other b d old new how × fits c d
+  served_as a c b old new how s f =
+      let here = talk_as a s.middle b s.messages s.answers s.talk f in
+      let rest = last_as s.middle c here.0 s.rest new.input.ended how s.last s.ends here.2 in (
         rest.0,
         record {
           came = s.came;
@@ -73,7 +72,7 @@ module _ {A B : Type 0} (rule : Rule A) (other : Rule B) (fits : A → B → Typ
         rest.2,
       )
 
-  read_as : (start : Moment A) (b : B) (read : LinkRead) → fits start.answerer b → ReadInTurn rule start read → ReadInTurn other (moment_of b start.received start.sent) read
+  read_as : (start : Moment A) (b : B) (read : LinkRead) → fits start.answerer b → ReadInTurn rule start read → ReadInTurn other (moment_of b (read_at start.received start.sent)) read
   read_as start b read f r =
       let w = r.went in
       let here = talk_as start.answerer r.middle b w.messages w.answers w.talk f in record {
@@ -94,36 +93,33 @@ module _ {A B : Type 0} (rule : Rule A) (other : Rule B) (fits : A → B → Typ
         is_open = r.is_open;
       }
 
-  was_served_as : {L : Type 0} (tells : Tells L) (a c : A) (b : B) (link : L) → WasServed tells rule a link c → fits a b → (d : B) × WasServed tells other b link d × fits c d
-  was_served_as tells a c b link w f =
-      let start = moment_of a (tells.received w.first) (tells.sent w.first) in
-      let here = served_as start (moment_of c (tells.received link) (tells.sent link)) b (tells.ended link) w.how w.served f in (
+  serves_as : (a c : A) (b : B) (old new : LinkTells) (how : LinkEnd) → Serves rule a c old new how → fits a b → (d : B) × Serves other b d old new how × fits c d
+  serves_as a c b old new how s f =
+      let here = served_as a c b old new how s.served f in
+      let start = moment_now a old in (
         here.0,
         record {
-          first = w.first;
-          how = w.how;
-          fresh = w.fresh;
           served = here.1;
-          turns = reads_weaker (ReadInTurn rule start) (ReadInTurn other (moment_of b (tells.received w.first) (tells.sent w.first))) (λ read r. read_as start b read f r)
-              (tells.reads w.first) (tells.reads link) w.turns;
-          read = w.read;
-          write = w.write;
-          read_quiet = w.read_quiet;
-          write_quiet = w.write_quiet;
+          turns = reads_weaker (ReadInTurn rule start) (ReadInTurn other (moment_now b old)) (λ read r. read_as start b read f r) old.input.reads new.input.reads s.turns;
+          faults = s.faults;
         },
         here.2,
       )
 
-  were_served_as : {L : Type 0} (tells : Tells L) (a c : A) (b : B) (links : List L) → WereServed tells rule a links c → fits a b → (d : B) × WereServed tells other b links d × fits c d
+  was_served_as : {L : Type 0} (tells : L → LinkTells) (a c : A) (b : B) (link : L) → WasServed tells rule a link c → fits a b → (d : B) × WasServed tells other b link d × fits c d
+  was_served_as tells a c b link w f =
+      let here = serves_as a c b (tells w.first) (tells link) w.how w.serves f in
+      (here.0, record { first = w.first; how = w.how; fresh = w.fresh; serves = here.1 }, here.2)
+
+  were_served_as : {L : Type 0} (tells : L → LinkTells) (a c : A) (b : B) (links : List L) → WereServed tells rule a links c → fits a b → (d : B) × WereServed tells other b links d × fits c d
   were_served_as tells a c b [] w f = (b, refl, subst (λ x. fits x b) (sym w) f)
   were_served_as tells a c b (link ∷ links) w f =
       let here = was_served_as tells a w.0 b link w.1 f in
       let rest = were_served_as tells w.0 c here.0 links w.2 here.2 in
       (rest.0, (here.0, here.1, rest.1), rest.2)
 
-  pub door_served_as : {L : Type 0} (tells : Tells L) (known : Bool) (a c : A) (b : B) (finished_old finished_new : List L) (given_old given_new count : ℕ)
-      → DoorServed tells rule known a c finished_old finished_new given_old given_new count → fits a b
-      → (d : B) × DoorServed tells other known b d finished_old finished_new given_old given_new count × fits c d
-  door_served_as tells known a c b finished_old finished_new given_old given_new count s f =
+  pub door_served_as : {L : Type 0} (tells : L → LinkTells) (known : Bool) (a c : A) (b : B) (old new : DoorTells L) (count : ℕ) → DoorServed tells rule known a c old new count → fits a b
+      → (d : B) × DoorServed tells other known b d old new count × fits c d
+  door_served_as tells known a c b old new count s f =
       let w = were_served_as tells a c b s.links s.served f in
       (w.0, record { links = s.links; counted = s.counted; given = s.given; finished = s.finished; served = w.1 }, w.2)

@@ -2,6 +2,7 @@ pub mod Links
 pub mod Asking
 pub mod Talk
 pub mod Serving
+pub mod Stages
 pub mod Steps
 pub mod Turns
 pub mod Doors

@@ -1,5 +1,5 @@
 -- What the steps of a server do on a link.
-use Rattle.std.specs.Prelude.{◌≡◌, ℕ, ◌<◌, List, [], ◌++◌, length, All, Bool, true, false, Option, ⊤}
+use Rattle.std.specs.Prelude.{◌≡◌, ℕ, ◌<◌, List, [], ◌++◌, length, All, Bool, true, Option, ⊤}
 use Rattle.std.specs.List.{flat_map}
 use Rattle.std.specs.Io.KnownBytes.{Appends}
 use Rattle.cf_http.specs.declared.end.LinkEnd.{LinkEnd}
@@ -7,8 +7,8 @@ use Rattle.cf_http.specs.declared.end.LinkEnd.TheVariants as end
 use Rattle.cf_http.specs.Asking.{Rule}
 use Rattle.cf_heads.specs.Answers.{joined}
 use Rattle.cf_heads.specs.Heads.{IsOpenHead}
-use Rattle.cf_http.specs.Links.{LinkRead, SentFront}
-use Rattle.cf_http.specs.Talk.{Message, message_bytes, IsMessage, closes, Answers, Talk, IsCut, IsOpenText, Last}
+use Rattle.cf_http.specs.Links.{LinkRead, LinkTells, FaultsOf, ReadsEach, SentFront, read_now}
+use Rattle.cf_http.specs.Talk.{Message, message_bytes, IsMessage, Talk, IsCut, IsOpenText, Last}
 
 -- an answerer, and what its link tells of the bytes that came and of those that it took
 pub record Moment (A : Type 0) : Type 0 where
@@ -16,21 +16,11 @@ pub record Moment (A : Type 0) : Type 0 where
   pub received : Option (List ℕ)
   pub sent : Option (List ℕ)
 
-abbrev pub moment_of : {A : Type 0} → A → Option (List ℕ) → Option (List ℕ) → Moment A
-moment_of answerer received sent = record { answerer = answerer; received = received; sent = sent }
+abbrev pub moment_of : {A : Type 0} → A → LinkRead → Moment A
+moment_of answerer passed = record { answerer = answerer; received = passed.received; sent = passed.sent }
 
--- bytes came behind those that were not used
-pub record Came (old new : Option (List ℕ)) (text_old text_new : List ℕ) : Type 0 where
-  pub came : List ℕ
-  pub received : Appends old new came
-  pub joins : text_new ≡ text_old ++ came
-
--- a read was asked when some bytes had come behind the text, over which it waits for more, and nothing was sent since
-pub record ReadOver (waits : List ℕ → Type 0) (received_old sent_old : Option (List ℕ)) (text : List ℕ) (read : LinkRead) : Type 0 where
-  pub came : List ℕ
-  pub received : Appends received_old read.received came
-  pub sent : read.sent ≡ sent_old
-  pub is_open : waits (text ++ came)
+abbrev pub moment_now : {A : Type 0} → A → LinkTells → Moment A
+moment_now answerer link = moment_of answerer (read_now link)
 
 -- so many requests came and were answered, each leaving the link open
 pub record Went {A : Type 0} (rule : Rule A) (old : Moment A) (text_old : List ℕ) (new : Moment A) (text_new : List ℕ) (count : ℕ) : Type 0 where
@@ -50,39 +40,17 @@ pub record ReadInTurn {A : Type 0} (rule : Rule A) (start : Moment A) (read : Li
   pub middle : A
   pub rest : List ℕ
   pub count : ℕ
-  pub went : Went rule start [] (moment_of middle read.received read.sent) rest count
+  pub went : Went rule start [] (moment_of middle read) rest count
   pub is_open : IsOpenText rest
 
 -- all of the last answer was sent, or a front of it where a write failed
-abbrev pub Gave : LinkEnd → Option (List ℕ) → Option (List ℕ) → List ℕ → Type 0
-Gave end.Closed old new bytes = Appends old new bytes
-Gave end.Cut old new bytes = Appends old new bytes
-Gave end.ReadFault old new bytes = Appends old new bytes
-Gave end.WriteFault old new bytes = SentFront old new bytes
-Gave end.Limit old new bytes = Appends old new bytes
-Gave end.NoMemory old new bytes = Appends old new bytes
-
--- the link ends over these bytes
-pub record EndsOver {A : Type 0} (rule : Rule A) (before : A) (sent_old : Option (List ℕ)) (text : List ℕ) (after : A) (sent_new : Option (List ℕ)) (ended : Bool) (how : LinkEnd) : Type 0 where
-  pub last : List ℕ
-  pub ends : Last rule before text ended how last after
-  pub gave : Gave how sent_old sent_new last
-
--- bytes came, and then the link ends
-pub record Stops {A : Type 0} (rule : Rule A) (old : Moment A) (text : List ℕ) (new : Moment A) (ended : Bool) (how : LinkEnd) : Type 0 where
-  pub came : List ℕ
-  pub received : Appends old.received new.received came
-  pub over : EndsOver rule old.answerer old.sent (text ++ came) new.answerer new.sent ended how
-
--- the first request of the text was answered, and left the link open
-pub record Replied {A : Type 0} (rule : Rule A) (before : A) (sent_old : Option (List ℕ)) (text : List ℕ) (after : A) (sent_new : Option (List ℕ)) (rest : List ℕ) : Type 0 where
-  pub message : Message
-  pub answer : List ℕ
-  pub is_message : IsMessage message
-  pub joins : text ≡ message_bytes message ++ rest
-  pub stays : closes message ≡ false
-  pub answers : Answers rule before message answer after
-  pub sent : Appends sent_old sent_new answer
+abbrev pub Gave : LinkEnd → LinkTells → LinkTells → List ℕ → Type 0
+Gave end.Closed old new bytes = Appends old.output.sent new.output.sent bytes
+Gave end.Cut old new bytes = Appends old.output.sent new.output.sent bytes
+Gave end.ReadFault old new bytes = Appends old.output.sent new.output.sent bytes
+Gave end.WriteFault old new bytes = SentFront old.output.sent new.output.sent bytes
+Gave end.Limit old new bytes = Appends old.output.sent new.output.sent bytes
+Gave end.NoMemory old new bytes = Appends old.output.sent new.output.sent bytes
 
 -- 1,000,000 answers leave it open only at the limit
 abbrev pub IsCounted : LinkEnd → ℕ → Type 0
@@ -95,20 +63,27 @@ IsCounted end.NoMemory count = count < 1000000
 
 -- A link was served: the bytes that came are requests that left it open, one after another, and a rest; their
 -- answers were sent, and then it ended over the rest.
-pub record Served {A : Type 0} (rule : Rule A) (old new : Moment A) (ended : Bool) (how : LinkEnd) : Type 0 where
+pub record Served {A : Type 0} (rule : Rule A) (before after : A) (old new : LinkTells) (how : LinkEnd) : Type 0 where
   pub came : List ℕ
   pub messages : List Message
   pub rest : List ℕ
   pub answers : List (List ℕ)
   pub last : List ℕ
   pub middle : A
-  pub received : Appends old.received new.received came
+  pub received : Appends old.input.received new.input.received came
   pub joins : came ≡ flat_map message_bytes messages ++ rest
   pub each : All IsMessage messages
   pub counted : IsCounted how (length messages)
-  pub talk : Talk rule old.answerer messages answers middle
-  pub ends : Last rule middle rest ended how last new.answerer
-  pub sent : Gave how old.sent new.sent (joined answers ++ last)
+  pub talk : Talk rule before messages answers middle
+  pub ends : Last rule middle rest new.input.ended how last after
+  pub sent : Gave how old new (joined answers ++ last)
+
+-- A link was served, each read was asked in its turn, and a fault of the link is told by how it
+-- ended, and by one count.
+pub record Serves {A : Type 0} (rule : Rule A) (before after : A) (old new : LinkTells) (how : LinkEnd) : Type 0 where
+  pub served : Served rule before after old new how
+  pub turns : ReadsEach (ReadInTurn rule (moment_now before old)) old.input.reads new.input.reads
+  pub faults : FaultsOf old new how
 
 -- why no head came
 abbrev pub NoneCame : List ℕ → Bool → LinkEnd → Type 0

@@ -5,13 +5,13 @@ mod answer;
 mod bytes;
 mod door;
 mod end;
-mod inbox;
 mod laws;
 mod link;
 mod reading;
 mod request;
 mod sending;
 mod serve;
+mod server;
 mod turn;
 
 pub use answer::Answer;

@@ -1,6 +1,6 @@
 -- What a link in memory tells.
 use Rattle.std.specs.Prelude.{ℕ, List, Bool, Some, take, map}
-use Rattle.cf_http.specs.Links.{LinkRead, read_at}
+use Rattle.cf_http.specs.Links.{LinkRead, LinkTells, read_at}
 use Rattle.cf_links.specs.declared.memory.MemLink.{MemLink}
 use Rattle.cf_links.specs.declared.memory.Passed.{Passed}
 
@@ -26,3 +26,9 @@ read_by bytes sent passed = read_at (Some (take passed.came bytes)) (Some (take 
 
 abbrev pub reads_of : MemLink → List LinkRead
 reads_of l = map (read_by l.bytes.items l.sent.items) l.reads.items
+
+abbrev pub tells_of : MemLink → LinkTells
+tells_of l = record {
+  input = record { received = Some (received_of l); ended = ended_of l; reads = Some (reads_of l); faults = l.read_faults };
+  output = record { sent = Some (sent_of l); faults = l.write_faults };
+}

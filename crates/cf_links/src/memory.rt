@@ -103,19 +103,9 @@ fn front(piece: &[u8], most: usize) -> &[u8]
 }
 
 impl Link for MemLink {
-    ghost use Rattle.cf_links.specs.Memory.{received_of, sent_of, ended_of, reads_of};
+    ghost use Rattle.cf_links.specs.Memory.{tells_of};
 
-    ghost received = { λ l. Some (received_of l) };
-
-    ghost sent = { λ l. Some (sent_of l) };
-
-    ghost ended = { ended_of };
-
-    ghost reads = { λ l. Some (reads_of l) };
-
-    ghost read_faults = { λ l. l.read_faults };
-
-    ghost write_faults = { λ l. l.write_faults };
+    ghost tells = { tells_of };
 
     fn read(&mut self, buf: &mut [u8]) -> Result<usize, Failed> {
         let number = self.reads.len() as u64;
@@ -210,19 +200,13 @@ impl MemDoor {
 
 impl Door for MemDoor {
     ghost use Rattle.std.specs.Prelude.{true};
-    ghost use Rattle.cf_links.specs.MemoryDoors.{finished_of, given_of, is_coming};
+    ghost use Rattle.cf_links.specs.MemoryDoors.{door_tells};
 
     type Link = MemLink;
 
-    ghost tells = { true };
+    ghost tells = { door_tells };
 
-    ghost finished = { finished_of };
-
-    ghost given = { given_of };
-
-    ghost coming = { is_coming };
-
-    ghost faults = { λ d. d.faults };
+    ghost known = { true };
 
     fn next(&mut self) -> Result<Option<MemLink>, Failed> {
         self.calls = self.calls.saturating_add(1);

@@ -58,17 +58,10 @@ impl TcpLink {
 }
 
 impl Link for TcpLink {
-    ghost received = { λ _. None };
-
-    ghost sent = { λ _. None };
-
-    ghost ended = { λ l. l.ended };
-
-    ghost reads = { λ _. None };
-
-    ghost read_faults = { λ l. l.read_faults };
-
-    ghost write_faults = { λ l. l.write_faults };
+    ghost tells = { λ l. record {
+      input = record { received = None; ended = l.ended; reads = None; faults = l.read_faults };
+      output = record { sent = None; faults = l.write_faults };
+    } };
 
     fn read(&mut self, buf: &mut [u8]) -> Result<usize, Failed> {
         match self.stream.read(buf) {
@@ -178,20 +171,19 @@ pub fn doors_from<R: Net<Listener = TcpListener, Stream = TcpStream>>(
 }
 
 impl<R: Net<Listener = TcpListener, Stream = TcpStream>> Door for TcpDoor<'_, R> {
-    ghost use Rattle.std.specs.Prelude.{None, [], true, false};
+    ghost use Rattle.std.specs.Prelude.{[], true, false};
     ghost use Rattle.std.proofs.lemmas.Bool.{false≢true};
 
     type Link = TcpLink;
 
-    ghost tells = { false };
+    ghost tells = { λ d. record {
+      finished = [];
+      given = d.given;
+      coming = true;
+      faults = d.faults;
+    } };
 
-    ghost finished = { λ _. [] };
-
-    ghost given = { λ d. d.given };
-
-    ghost coming = { λ _. true };
-
-    ghost faults = { λ d. d.faults };
+    ghost known = { false };
 
     fn next(&mut self) -> Result<Option<TcpLink>, Failed> {
         self.listen();

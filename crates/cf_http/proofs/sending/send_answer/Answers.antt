@@ -5,21 +5,24 @@ use Rattle.cf_http.specs.Links.{SentFront}
 use Rattle.cf_http.proofs.SentLaws.{front_of_first, front_of_second}
 use Rattle.cf_http.proofs.sending.send_answer.Goals as goal
 
-pub returns-in-Err-clause-err : goal.returns-in-Err-clause-err
-returns-in-Err-clause-err g c =
-    front_of_first (g.L.Link.sent c.args.link.now) (g.L.Link.sent c.send_all.new.link) _ _
-    (subst (SentFront (g.L.Link.sent c.args.link.now) (g.L.Link.sent c.send_all.new.link)) (c.as_slice.ensures.value ∙ c.write_lines.ensures.text) c.in-Err.ensures.err)
+pub returns-in-Err-clause-sends : goal.returns-in-Err-clause-sends
+returns-in-Err-clause-sends g c =
+    let old = (g.L.Link.tells c.args.link.now).output.sent in
+    let mid = (g.L.Link.tells c.send_all.new.link).output.sent in
+    record { ok = tt; err = front_of_first old mid _ _ (subst (SentFront old mid) (c.as_slice.ensures.value ∙ c.write_lines.ensures.text) c.in-Err.ensures.sends.err) }
 
-pub returns-in-Ok-send_all-clause-ok : goal.returns-in-Ok-send_all-clause-ok
-returns-in-Ok-send_all-clause-ok g c =
-    let lines = c.as_slice.ensures.value ∙ c.write_lines.ensures.text in
-    Appends-trans (g.L.Link.sent c.args.link.now) (g.L.Link.sent c.send_all.new.link) (g.L.Link.sent c.send_all-2.new.link) _ _
-    (subst (Appends (g.L.Link.sent c.args.link.now) (g.L.Link.sent c.send_all.new.link)) lines c.in-Ok.ensures.ok)
-    (subst (Appends (g.L.Link.sent c.send_all.new.link) (g.L.Link.sent c.send_all-2.new.link)) c.shown.ensures c.in-Ok-send_all.ensures.ok)
+pub returns-in-Ok-send_all-clause-sends : goal.returns-in-Ok-send_all-clause-sends
+returns-in-Ok-send_all-clause-sends g c =
+    let old = (g.L.Link.tells c.args.link.now).output.sent in
+    let mid = (g.L.Link.tells c.send_all.new.link).output.sent in
+    let new = (g.L.Link.tells c.send_all-2.new.link).output.sent in
+    let lines = subst (Appends old mid) (c.as_slice.ensures.value ∙ c.write_lines.ensures.text) c.in-Ok.ensures.sends.ok in
+    record { ok = Appends-trans old mid new _ _ lines (subst (Appends mid new) c.shown.ensures c.in-Ok-send_all.ensures.sends.ok); err = tt }
 
-pub returns-in-Err-send_all-clause-err : goal.returns-in-Err-send_all-clause-err
-returns-in-Err-send_all-clause-err g c =
-    let lines = c.as_slice.ensures.value ∙ c.write_lines.ensures.text in
-    front_of_second (g.L.Link.sent c.args.link.now) (g.L.Link.sent c.send_all.new.link) (g.L.Link.sent c.send_all-2.new.link) _ _
-    (subst (Appends (g.L.Link.sent c.args.link.now) (g.L.Link.sent c.send_all.new.link)) lines c.in-Ok.ensures.ok)
-    (subst (SentFront (g.L.Link.sent c.send_all.new.link) (g.L.Link.sent c.send_all-2.new.link)) c.shown.ensures c.in-Err-send_all.ensures.err)
+pub returns-in-Err-send_all-clause-sends : goal.returns-in-Err-send_all-clause-sends
+returns-in-Err-send_all-clause-sends g c =
+    let old = (g.L.Link.tells c.args.link.now).output.sent in
+    let mid = (g.L.Link.tells c.send_all.new.link).output.sent in
+    let new = (g.L.Link.tells c.send_all-2.new.link).output.sent in
+    let lines = subst (Appends old mid) (c.as_slice.ensures.value ∙ c.write_lines.ensures.text) c.in-Ok.ensures.sends.ok in
+    record { ok = tt; err = front_of_second old mid new _ _ lines (subst (SentFront mid new) c.shown.ensures c.in-Err-send_all.ensures.sends.err) }

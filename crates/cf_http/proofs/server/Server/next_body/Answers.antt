@@ -1,0 +1,27 @@
+use Rattle.std.proofs.Common.{◌<◌, ◌∙◌, length, arith}
+use Rattle.cf_http.proofs.CameLaws.{came_more}
+use Rattle.cf_http.proofs.ReadLaws.{read_over}
+use Rattle.cf_http.proofs.server.Server.next_body.Goals as goal
+
+pub loop-self-preserved : goal.loop-self-preserved
+loop-self-preserved g c =
+    let at = c.loop-self in
+    record {
+      came = came_more c.args.self.now at.self c.fill.new.self at.invariant.came c.fill.ensures.came;
+      reads = read_over (λ t. length t < c.args.need) c.args.self.now at.self c.fill.new.self at.invariant.came at.invariant.stays (omega (arith, c.loop-self-test.true, c.waiting.ensures)) at.invariant.reads c.fill.ensures.reads;
+      quiet = c.in-Ok-true.ensures.faults ∙ at.invariant.quiet;
+      stays = c.fill.ensures.stays ∙ at.invariant.stays;
+    }
+
+pub returns-in-Ok-false-clause-reads : goal.returns-in-Ok-false-clause-reads
+returns-in-Ok-false-clause-reads g c =
+    let at = c.loop-self in
+    read_over (λ t. length t < c.args.need) c.args.self.now at.self c.fill.new.self at.invariant.came at.invariant.stays (omega (arith, c.loop-self-test.true, c.waiting.ensures)) at.invariant.reads c.fill.ensures.reads
+
+pub returns-in-Err-clause-came : goal.returns-in-Err-clause-came
+returns-in-Err-clause-came g c = came_more c.args.self.now c.loop-self.self c.fill.new.self c.loop-self.invariant.came c.fill.ensures.came
+
+pub returns-in-Err-clause-reads : goal.returns-in-Err-clause-reads
+returns-in-Err-clause-reads g c =
+    let at = c.loop-self in
+    read_over (λ t. length t < c.args.need) c.args.self.now at.self c.fill.new.self at.invariant.came at.invariant.stays (omega (arith, c.loop-self-test.true, c.waiting.ensures)) at.invariant.reads c.fill.ensures.reads
