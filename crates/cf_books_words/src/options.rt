@@ -150,10 +150,16 @@ pub fn option_names() -> &'static [&'static str]
     ]
 }
 
+/// The options without a value.
+pub fn flag_names() -> &'static [&'static str]
+    ensures { map (λ n. n.now) result.now ≡ spec.flag_names }
+{
+    &["csv", "alone"]
+}
+
 /// Whether each option that was given is one of a command's own.
-#[tactic(auto, using(crate::proofs::Names::all_names))]
 pub fn has_only(matches: &ArgMatches, own: &[&str]) -> bool
     ensures { result ≡ spec.has_only (rows_of (found_of matches.now)) (map (λ n. n.now) own.now) }
 {
-    are_own(matches, own, option_names()) && are_own_flags(matches, own, &["csv", "alone"])
+    are_own(matches, own, option_names()) && are_own_flags(matches, own, flag_names())
 }

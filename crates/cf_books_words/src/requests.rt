@@ -18,10 +18,7 @@ use cf_base::MOST_ENTRIES;
 use clap::ArgMatches;
 
 /// The file, where no more words follow.
-fn last_word<'a>(
-    file: Option<&'a str>,
-    more: Option<&str>,
-) -> Result<Option<&'a str>, WordsRefused>
+fn last_word<'a>(file: Option<&'a str>, more: Option<&str>) -> Result<Option<&'a str>, WordsRefused>
     ensures { texts result ≡ spec.last_word (option_map (λ t. t.now) file.entry) (option_map (λ t. t.now) more.entry) }
 {
     match more {
@@ -31,10 +28,7 @@ fn last_word<'a>(
 }
 
 /// The file behind a command's own words, of which there are so many.
-fn file_behind<'a>(
-    matches: &ArgMatches<'a>,
-    words: u8,
-) -> Result<Option<&'a str>, WordsRefused>
+fn file_behind<'a>(matches: &ArgMatches<'a>, words: u8) -> Result<Option<&'a str>, WordsRefused>
     requires { words ≤ 2 }
     ensures { texts result ≡ spec.file_behind words (rows_of (found_of matches.now)) }
 {

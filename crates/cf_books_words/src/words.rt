@@ -209,18 +209,10 @@ fn places<'a>(alloc: Global) -> Result<Parser<'a>, AllocError>
 }
 
 /// A parser with an option without a value more.
-fn with_flag<'a>(
-    alloc: Global,
-    parser: Parser<'a>,
-    name: &'a str,
-) -> Result<Parser<'a>, AllocError>
+fn with_flag<'a>(alloc: Global, parser: Parser<'a>, name: &'a str) -> Result<Parser<'a>, AllocError>
     ensures { IfOk result (λ p. app_of p ≡ with_rule (app_of parser.entry) (flag_rule name.entry.now)) }
 {
-    parser.arg(
-        Arg::new(alloc, name)
-            .long(name)
-            .action(ArgAction::SetTrue),
-    )
+    parser.arg(Arg::new(alloc, name).long(name).action(ArgAction::SetTrue))
 }
 
 /// A command, up to three words behind it, and the options without a value.
