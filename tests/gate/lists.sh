@@ -102,6 +102,35 @@ expect "what is open of the first day" 0 "call,number,item,day,desk,key,party,ye
 bill,1,,2025-07-06,6,l1,5,2026,,,,900.00,,
 voucher,2,,2025-07-05,4,v2,77,2026,,,,400.00,," open --csv
 
+# ---- what a spreadsheet takes for a formula
+
+# A key and a fund's name that are formulas have a quote before them in records, and stand as they are with tabs. An amount below
+# zero stays, and so does a key that is one.
+chart=$scratch/named.toml
+sed 's/^name = "General Fund"$/name = "=1+1"/' examples/rivertown/chart.toml > "$chart"
+cp "$chart" "$scratch/chart.toml"
+rm -f "$scratch/fund.journal"
+for key in '=1+1' '+1' '-1+1' '@SUM(1)' '=1,2' '-' '-1.5' plain; do
+    echo '{"call":"receive","desk":5,"key":"'"$key"'","on":"2025-07-05","source":1,"amount":100}'
+done > "$scratch/formulas.jsonl"
+(cd "$scratch" && "$program" found > /dev/null 2>&1 && "$program" desk < formulas.jsonl > replies && ! grep -v '"ok"' replies)
+verdict "keys that are formulas" $?
+python3 tests/lib/lists.py "$program" "$books" "$scratch" "$chart" "$scratch/formulas.jsonl"
+verdict "the lists of keys and a name that are formulas" $?
+said=$(cd "$scratch" && "$books" list --csv | sed '1d; s/^[0-9]*,2025-07-05,5,//; s/,receive,1.00,,$//' | xargs -d '\n')
+[ "$said" = "'=1+1 '+1 '-1+1 '@SUM(1) \"'=1,2\" - -1.5 plain" ]
+verdict "formulas in records: $said" $?
+said=$(cd "$scratch" && "$books" list | cut -f 4 | xargs)
+[ "$said" = "=1+1 +1 -1+1 @SUM(1) =1,2 - -1.5 plain" ]
+verdict "formulas with tabs: $said" $?
+said=$(cd "$scratch" && "$books" posts --account 400001 --csv | sed -n '1p; 2p')
+[ "$said" = "place,day,desk,key,call,number,basis,year,fund,fund_name,account,account_name,amount
+1,2025-07-05,5,'=1+1,receive,,fund,2026,1,'=1+1,400001,Property tax,-1.00" ]
+verdict "a post of an entry whose key is a formula: $said" $?
+said=$(cd "$scratch" && { "$books" statement 2026 balance --csv | sed -n 2p; "$program" report 2026 balance --csv | sed -n 1p; } | xargs -d '\n')
+[ "$said" = "'=1+1,Cash,8.00 =1+1,,,,," ]
+verdict "a fund whose name is a formula: $said" $?
+
 # ---- the lists of the page
 
 python3 tests/lib/listed.py office 10 400

@@ -9,6 +9,7 @@ import io
 import itertools
 import json
 import os
+import re
 import subprocess
 import sys
 from collections import Counter
@@ -122,6 +123,15 @@ def named_rows(office, kind, records):
 
 # ---- what the programs print
 
+# What a spreadsheet takes for a formula: it begins with one of these marks, or with a minus that no amount follows.
+FORMULA = re.compile(r"[=+@\t\r]|-(?![\d.]*\Z)")
+
+
+def guarded(rows):
+    """Rows as records for a spreadsheet have them: a formula has a quote before it, and so is a text."""
+    return [["'" + field if FORMULA.match(field) else field for field in row] for row in rows]
+
+
 def printed(folder, *words, given=""):
     return subprocess.run(words, cwd=folder, check=True, capture_output=True, text=True, input=given).stdout
 
@@ -171,8 +181,9 @@ class Lists:
         return [json.loads(line).get("is") for line in printed(self.folder, self.program, "desk", given=lines).splitlines()]
 
     def test_tabs(self, *words):
-        """Without --csv a list has the same fields, with tabs between them and no names of columns above them."""
-        same(f"{' '.join(words)} without --csv", records_of(printed(self.folder, self.books, *words), "\t"), self.records(*words)[1:])
+        """Without --csv a list has the same fields as they are, with tabs between them and no names of columns above them."""
+        exact = records_of(printed(self.folder, self.books, *words), "\t")
+        same(f"{' '.join(words)} without --csv", guarded(exact), self.records(*words)[1:])
 
     # ---- posts
 
@@ -205,7 +216,7 @@ class Lists:
         """A trial balance has the office's rows, each fund's sums to zero, and each account's is its look and the sum of its posts."""
         head, *rows = self.records("balances", str(year))
         same("the columns of a trial balance", head, "basis fund fund_name account account_name balance".split())
-        same(f"the balances of {year}", rows, list(balances_of(self.office, year)))
+        same(f"the balances of {year}", rows, guarded(balances_of(self.office, year)))
         totals = Counter()
         for basis, fund, _, _, _, balance in rows:
             totals[basis, fund] += cents(balance)
@@ -226,7 +237,7 @@ class Lists:
         head, *rows = self.records("statement", str(year), kind)
         same(f"the columns of {kind}", head, HEADS.get(kind, "section name amount").split())
         report = printed(self.folder, self.program, "report", str(year), kind, "--csv")
-        same(f"the rows of {kind} of {year}", rows, list(named_rows(self.office, kind, records_of(report))))
+        same(f"the rows of {kind} of {year}", rows, guarded(named_rows(self.office, kind, records_of(report))))
 
     # ---- what is open
 

@@ -2,3 +2,4 @@ pub mod Seen
 pub mod Adding
 pub mod Amounts
 pub mod RowLines
+pub mod Formulas
