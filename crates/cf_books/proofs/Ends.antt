@@ -7,6 +7,11 @@ use Rattle.cf_base.specs.Limits.{last_year}
 use Rattle.cf_book.specs.Recovery.{recovered}
 use Rattle.cf_book.specs.declared.refused.BookRefused.{BookRefused}
 use Rattle.cf_book.specs.declared.refused.BookRefused.TheVariants as book_refused
+use Rattle.cf_books_front.specs.Front.{front_in}
+use Rattle.cf_books_front.specs.Whole.{Parts, whole_of}
+use Rattle.cf_books_front.specs.declared.front.FrontRefused.{FrontRefused}
+use Rattle.cf_books_front.specs.declared.front.FrontRefused.TheVariants.{Fewer, Nothing}
+use Rattle.cf_books_words.specs.Words.{Asked}
 use Rattle.cf_books_words.specs.declared.words.Command.{Command}
 use Rattle.cf_books_words.specs.declared.words.Command.TheVariants as asked
 use Rattle.cf_chart.specs.Plan.{Plan}
@@ -26,9 +31,8 @@ use Rattle.cf_journal.specs.declared.refused.OpenRefused.TheVariants as open_ref
 use Rattle.cf_model.specs.State.{OfficeState}
 use Rattle.cf_words.specs.declared.words.ReportKind.{ReportKind}
 use Rattle.cf_books.specs.declared.status.Status.{Status}
-use Rattle.cf_books.specs.declared.status.Status.TheVariants.{Done, BadWords, ChartRefused, GrantsRefused, ReadFault, WriteFault, NotFounded, Damaged, NoMemory, Cut}
-use Rattle.cf_books.specs.Answers.{AreLeft, Ends, Gave, IsBeside, Said, answered, chart_lines_said, chart_said, document_said, end_of, entry_at, grants_said, lines_said, nothing, office_said, over_office, refusal_of, refused_entry, refused_in, refused_said, rows_said, said, said_with, statement_said, under_chart, vouchers_said, whole_said}
-use Rattle.cf_books.specs.Whole.{Parts, whole_of}
+use Rattle.cf_books.specs.declared.status.Status.TheVariants.{Done, BadWords, ChartRefused, GrantsRefused, ReadFault, WriteFault, NotFounded, Damaged, NoMemory, Cut, NoSuchDay, DayRefused, EntriesRefused, Unknown}
+use Rattle.cf_books.specs.Answers.{AreLeft, Ends, Gave, IsBeside, Said, answered, chart_lines_said, chart_said, document_said, end_of, entry_at, grants_said, lines_in, lines_said, nothing, office_said, over_office, refusal_of, refused_entry, refused_in, refused_said, rows_said, said, said_at, said_by, said_first, said_with, statement_said, text_of, under_chart, vouchers_said, whole_said}
 
 -- bytes that are fewer than could have been taken were read to the end
 whole : (most : ℕ) (left left' : Option (List ℕ)) (bytes : List ℕ) → IsRead most left left' bytes → length bytes < most → IsAtEnd left'
@@ -55,239 +59,166 @@ few v = omega (arith, v.ok.0, v.ok.1, v.small)
 
 -- ---- which statuses an answer has
 
--- neither the file nor the output failed
-abbrev pub IsNoFault : Status → Type 0
-IsNoFault ReadFault = ⊥
-IsNoFault WriteFault = ⊥
-IsNoFault s = Unit {0}
+-- neither the file nor the output failed, and where memory was wanting nothing is printed
+abbrev pub Fits : List ℕ → Status → Type 0
+Fits out ReadFault = ⊥
+Fits out WriteFault = ⊥
+Fits out NoMemory = out ≡ []
+Fits out s = Unit {0}
 
-chart_no_fault : (bytes : List ℕ) (r : Result Plan ChartFault) → IsNoFault (chart_said bytes r).status
-chart_no_fault bytes (Ok plan) = tt
-chart_no_fault bytes (Err f) = tt
+abbrev pub IsFit : Said → Type 0
+IsFit s = Fits s.out s.status
 
-end_no_fault : (damage : Option ℕ) (len : ℕ) → IsNoFault (end_of damage len)
-end_no_fault None len = tt
-end_no_fault (Some at) len = tt
+chart_fit : (bytes : List ℕ) (r : Result Plan ChartFault) → IsFit (chart_said bytes r)
+chart_fit bytes (Ok plan) = tt
+chart_fit bytes (Err f) = tt
 
-open_no_fault : (e : OpenRefused) → IsNoFault (refusal_of e)
-open_no_fault (open_refused.NotFounded len byte) = tt
-open_no_fault (open_refused.Damaged at) = tt
-open_no_fault open_refused.Disk = tt
-open_no_fault open_refused.NoMemory = tt
+end_fit : (out : List ℕ) (damage : Option ℕ) (len : ℕ) → Fits out (end_of damage len)
+end_fit out None len = tt
+end_fit out (Some at) len = tt
 
-whole_no_fault : (command : Command) (len : ℕ) (r : Result Parts OpenRefused) → IsNoFault (whole_said command len r).status
-whole_no_fault command len (Ok p) = end_no_fault p.damage len
-whole_no_fault command len (Err e) = open_no_fault e
+open_fit : (e : OpenRefused) → IsFit (nothing (refusal_of e))
+open_fit (open_refused.NotFounded len byte) = tt
+open_fit (open_refused.Damaged at) = tt
+open_fit open_refused.Disk = refl
+open_fit open_refused.NoMemory = refl
 
-chart_lines_no_fault : (bytes : List ℕ) (r : Result Plan ChartFault) → IsNoFault (chart_lines_said bytes r).status
-chart_lines_no_fault bytes (Ok plan) = tt
-chart_lines_no_fault bytes (Err (chart_fault.TooLong limit)) = tt
-chart_lines_no_fault bytes (Err chart_fault.NotToml) = tt
-chart_lines_no_fault bytes (Err f) = tt
+whole_fit : (command : Command) (len : ℕ) (r : Result Parts OpenRefused) → IsFit (whole_said command len r)
+whole_fit command len (Ok p) = end_fit (text_of command p) p.damage len
+whole_fit command len (Err e) = open_fit e
 
-lines_no_fault : (bytes : List ℕ) (r : Result Parts OpenRefused) → IsNoFault (lines_said bytes r).status
-lines_no_fault bytes (Ok p) = end_no_fault p.damage (length bytes)
-lines_no_fault bytes (Err (open_refused.NotFounded len byte)) = chart_lines_no_fault bytes (chart_of bytes)
-lines_no_fault bytes (Err (open_refused.Damaged at)) = tt
-lines_no_fault bytes (Err open_refused.Disk) = tt
-lines_no_fault bytes (Err open_refused.NoMemory) = tt
+chart_lines_fit : (bytes : List ℕ) (r : Result Plan ChartFault) → IsFit (chart_lines_said bytes r)
+chart_lines_fit bytes (Ok plan) = tt
+chart_lines_fit bytes (Err (chart_fault.TooLong limit)) = tt
+chart_lines_fit bytes (Err chart_fault.NotToml) = tt
+chart_lines_fit bytes (Err f) = tt
 
-entry_no_fault : (offset number : ℕ) (found : Option (ℕ × Entry)) → IsNoFault (refused_entry offset number found).status
-entry_no_fault offset number None = tt
-entry_no_fault offset number (Some x) = tt
+lines_fit : (bytes : List ℕ) (r : Result Parts OpenRefused) → IsFit (lines_said bytes r)
+lines_fit bytes (Ok p) = end_fit (lines_in (chart_of p.chart)) p.damage (length bytes)
+lines_fit bytes (Err (open_refused.NotFounded len byte)) = chart_lines_fit bytes (chart_of bytes)
+lines_fit bytes (Err (open_refused.Damaged at)) = tt
+lines_fit bytes (Err open_refused.Disk) = refl
+lines_fit bytes (Err open_refused.NoMemory) = refl
 
-refused_in_no_fault : (offset number : ℕ) (r : Result (List ℕ × List Entry) OpenRefused) → IsNoFault (refused_in offset number r).status
-refused_in_no_fault offset number (Ok x) = entry_no_fault offset number (entry_at offset (length x.0) x.1)
-refused_in_no_fault offset number (Err e) = open_no_fault e
+entry_fit : (offset number : ℕ) (found : Option (ℕ × Entry)) → IsFit (refused_entry offset number found)
+entry_fit offset number None = tt
+entry_fit offset number (Some x) = tt
 
-refused_no_fault : (bytes : List ℕ) (e : BookRefused) → IsNoFault (refused_said bytes e).status
-refused_no_fault bytes (book_refused.NotFounded len byte) = tt
-refused_no_fault bytes (book_refused.Damaged at None) = tt
-refused_no_fault bytes (book_refused.Damaged at (Some number)) = refused_in_no_fault at number (frames bytes)
-refused_no_fault bytes book_refused.Disk = tt
-refused_no_fault bytes book_refused.NoMemory = tt
+refused_in_fit : (offset number : ℕ) (r : Result (List ℕ × List Entry) OpenRefused) → IsFit (refused_in offset number r)
+refused_in_fit offset number (Ok x) = entry_fit offset number (entry_at offset (length x.0) x.1)
+refused_in_fit offset number (Err e) = open_fit e
 
-office_no_fault : (command : Command) (bytes : List ℕ) (r : Result OfficeState BookRefused) → IsNoFault (office_said command bytes r).status
-office_no_fault command bytes (Ok s) = tt
-office_no_fault command bytes (Err e) = refused_no_fault bytes e
+refused_fit : (bytes : List ℕ) (e : BookRefused) → IsFit (refused_said bytes e)
+refused_fit bytes (book_refused.NotFounded len byte) = tt
+refused_fit bytes (book_refused.Damaged at None) = tt
+refused_fit bytes (book_refused.Damaged at (Some number)) = refused_in_fit at number (frames bytes)
+refused_fit bytes book_refused.Disk = refl
+refused_fit bytes book_refused.NoMemory = refl
 
-either_no_fault : (here : Bool) (one other : Said) → IsNoFault one.status → IsNoFault other.status → IsNoFault (if here then one else other).status
-either_no_fault true one other first second = first
-either_no_fault false one other first second = second
+office_fit : (command : Command) (bytes : List ℕ) (r : Result OfficeState BookRefused) → IsFit (office_said command bytes r)
+office_fit command bytes (Ok s) = tt
+office_fit command bytes (Err e) = refused_fit bytes e
 
-statement_no_fault : (year : ℕ) (kind : ReportKind) (csv : Bool) (bytes : List ℕ) → IsNoFault (statement_said year kind csv bytes).status
-statement_no_fault year kind csv bytes =
-    either_no_fault (nat_le 1971 year && nat_le year last_year) (office_said (asked.Statement year kind csv) bytes (recovered bytes)) (nothing BadWords)
-    (office_no_fault (asked.Statement year kind csv) bytes (recovered bytes)) tt
+either_fit : (here : Bool) (one other : Said) → IsFit one → IsFit other → IsFit (if here then one else other)
+either_fit true one other first second = first
+either_fit false one other first second = second
 
-document_no_fault : (bytes : List ℕ) (r : Checked (List Grant)) → IsNoFault (document_said bytes r).status
-document_no_fault bytes (Ok grants) = tt
-document_no_fault bytes (Err f) = tt
+statement_fit : (year : ℕ) (kind : ReportKind) (csv : Bool) (bytes : List ℕ) → IsFit (statement_said year kind csv bytes)
+statement_fit year kind csv bytes =
+    either_fit (nat_le 1971 year && nat_le year last_year) (office_said (asked.Statement year kind None csv) bytes (recovered bytes)) (nothing BadWords)
+    (office_fit (asked.Statement year kind None csv) bytes (recovered bytes)) tt
 
-under_no_fault : (bytes chart : List ℕ) (r : Result Plan ChartFault) → IsNoFault (under_chart bytes chart r).status
-under_no_fault bytes chart (Ok plan) = document_no_fault bytes (grants_of plan bytes)
-under_no_fault bytes chart (Err f) = tt
+document_fit : (bytes : List ℕ) (r : Checked (List Grant)) → IsFit (document_said bytes r)
+document_fit bytes (Ok grants) = tt
+document_fit bytes (Err f) = tt
 
-grants_no_fault : (bytes : List ℕ) (r : Result Parts OpenRefused) → IsNoFault (grants_said bytes r).status
-grants_no_fault bytes (Ok p) = under_no_fault bytes p.chart (chart_of p.chart)
-grants_no_fault bytes (Err e) = open_no_fault e
+under_fit : (bytes chart : List ℕ) (r : Result Plan ChartFault) → IsFit (under_chart bytes chart r)
+under_fit bytes chart (Ok plan) = document_fit bytes (grants_of plan bytes)
+under_fit bytes chart (Err f) = tt
 
-rows_no_fault : (csv : Bool) (bytes : List ℕ) (r : Checked (List GrantVoucher)) → IsNoFault (rows_said csv bytes r).status
-rows_no_fault csv bytes (Ok rows) = tt
-rows_no_fault csv bytes (Err f) = tt
+grants_fit : (bytes : List ℕ) (r : Result Parts OpenRefused) → IsFit (grants_said bytes r)
+grants_fit bytes (Ok p) = under_fit bytes p.chart (chart_of p.chart)
+grants_fit bytes (Err e) = open_fit e
 
-claims_no_fault : (id : ℕ) (csv : Bool) (bytes journal : List ℕ) (r : Result OfficeState BookRefused) → IsNoFault (over_office (vouchers_said id csv bytes) journal r).status
-claims_no_fault id csv bytes journal (Ok s) = rows_no_fault csv bytes (vouchers_of_grant s.plan s.entries bytes id)
-claims_no_fault id csv bytes journal (Err e) = refused_no_fault journal e
+rows_fit : (csv : Bool) (bytes : List ℕ) (r : Checked (List GrantVoucher)) → IsFit (rows_said csv bytes r)
+rows_fit csv bytes (Ok rows) = tt
+rows_fit csv bytes (Err f) = tt
 
-no_fault : (command : Command) (bytes : List ℕ) → IsNoFault (said command bytes).status
-no_fault asked.CheckChart bytes = chart_no_fault bytes (chart_of bytes)
-no_fault asked.Check bytes = office_no_fault asked.Check bytes (recovered bytes)
-no_fault (asked.Posts filter csv) bytes = office_no_fault (asked.Posts filter csv) bytes (recovered bytes)
-no_fault (asked.Balances year csv) bytes = office_no_fault (asked.Balances year csv) bytes (recovered bytes)
-no_fault (asked.Open csv) bytes = office_no_fault (asked.Open csv) bytes (recovered bytes)
-no_fault (asked.Statement year kind csv) bytes = statement_no_fault year kind csv bytes
-no_fault asked.CheckGrants bytes = whole_no_fault asked.CheckGrants (length bytes) (whole_of bytes)
-no_fault (asked.Claims grant csv) bytes = whole_no_fault (asked.Claims grant csv) (length bytes) (whole_of bytes)
-no_fault (asked.List csv) bytes = whole_no_fault (asked.List csv) (length bytes) (whole_of bytes)
-no_fault asked.Calls bytes = whole_no_fault asked.Calls (length bytes) (whole_of bytes)
-no_fault asked.Chart bytes = whole_no_fault asked.Chart (length bytes) (whole_of bytes)
-no_fault asked.Lines bytes = lines_no_fault bytes (whole_of bytes)
+claims_fit : (id : ℕ) (csv : Bool) (bytes journal : List ℕ) (r : Result OfficeState BookRefused) → IsFit (over_office (vouchers_said id csv bytes) journal r)
+claims_fit id csv bytes journal (Ok s) = rows_fit csv bytes (vouchers_of_grant s.plan s.entries bytes id)
+claims_fit id csv bytes journal (Err e) = refused_fit journal e
 
-pub no_fault_with : (command : Command) (bytes journal : List ℕ) → IsNoFault (said_with command bytes journal).status
-no_fault_with asked.CheckGrants bytes journal = grants_no_fault bytes (whole_of journal)
-no_fault_with (asked.Claims grant csv) bytes journal = claims_no_fault grant csv bytes journal (recovered journal)
-no_fault_with asked.CheckChart bytes journal = no_fault asked.CheckChart bytes
-no_fault_with asked.Check bytes journal = no_fault asked.Check bytes
-no_fault_with (asked.List csv) bytes journal = no_fault (asked.List csv) bytes
-no_fault_with asked.Calls bytes journal = no_fault asked.Calls bytes
-no_fault_with asked.Chart bytes journal = no_fault asked.Chart bytes
-no_fault_with asked.Lines bytes journal = no_fault asked.Lines bytes
-no_fault_with (asked.Posts filter csv) bytes journal = no_fault (asked.Posts filter csv) bytes
-no_fault_with (asked.Balances year csv) bytes journal = no_fault (asked.Balances year csv) bytes
-no_fault_with (asked.Open csv) bytes journal = no_fault (asked.Open csv) bytes
-no_fault_with (asked.Statement year kind csv) bytes journal = no_fault (asked.Statement year kind csv) bytes
+fit : (key : Option (List ℕ)) (command : Command) (bytes : List ℕ) → IsFit (said key command bytes)
+fit key asked.CheckChart bytes = chart_fit bytes (chart_of bytes)
+fit key asked.CheckGrants bytes = whole_fit asked.CheckGrants (length bytes) (whole_of bytes)
+fit key asked.Check bytes = office_fit asked.Check bytes (recovered bytes)
+fit key (asked.List csv) bytes = whole_fit (asked.List csv) (length bytes) (whole_of bytes)
+fit key asked.Calls bytes = whole_fit asked.Calls (length bytes) (whole_of bytes)
+fit key asked.Chart bytes = whole_fit asked.Chart (length bytes) (whole_of bytes)
+fit key asked.Lines bytes = lines_fit bytes (whole_of bytes)
+fit key (asked.Claims grant csv) bytes = whole_fit (asked.Claims grant csv) (length bytes) (whole_of bytes)
+fit key (asked.Posts filter None csv) bytes = office_fit (asked.Posts filter None csv) bytes (recovered bytes)
+fit key (asked.Posts filter (Some day) csv) bytes = tt
+fit key (asked.Balances year None false csv) bytes = office_fit (asked.Balances year None false csv) bytes (recovered bytes)
+fit key (asked.Balances year None true csv) bytes = tt
+fit key (asked.Balances year (Some day) alone csv) bytes = tt
+fit key (asked.Open csv) bytes = office_fit (asked.Open csv) bytes (recovered bytes)
+fit key (asked.Statement year kind None csv) bytes = statement_fit year kind csv bytes
+fit key (asked.Statement year kind (Some day) csv) bytes = tt
+fit key (asked.Ledger filter csv) bytes = tt
+fit key (asked.Documents filter csv) bytes = tt
+fit key (asked.Month month csv) bytes = tt
+fit key (asked.Paid year csv) bytes = tt
 
--- ---- where memory was wanting nothing is printed
+first_fit : (n : ℕ) (key : Option (List ℕ)) (command : Command) (r : Result (List ℕ) FrontRefused) → IsFit (said_first n key command r)
+first_fit n key command (Ok bytes) = fit key command bytes
+first_fit n key command (Err (Fewer entries)) = tt
+first_fit n key command (Err (Nothing e)) = open_fit e
 
-chart_silent : (bytes : List ℕ) (r : Result Plan ChartFault) → (chart_said bytes r).status ≡ NoMemory → (chart_said bytes r).out ≡ []
-chart_silent bytes (Ok plan) e = cc
-chart_silent bytes (Err f) e = refl
+at_fit : (entries : Option ℕ) (key : Option (List ℕ)) (command : Command) (bytes : List ℕ) → IsFit (said_at entries key command bytes)
+at_fit None key command bytes = fit key command bytes
+at_fit (Some n) key command bytes = first_fit n key command (front_in n bytes)
 
-end_known : (damage : Option ℕ) (len : ℕ) → end_of damage len ≡ NoMemory → ⊥
-end_known None len e = cc
-end_known (Some at) len e = cc
+by_fit : (command : Command) (entries : Option ℕ) (key : Option (List ℕ)) (bytes journal : List ℕ) → IsFit (said_by command entries key bytes journal)
+by_fit asked.CheckChart entries key bytes journal = chart_fit bytes (chart_of bytes)
+by_fit asked.CheckGrants entries key bytes journal = grants_fit bytes (whole_of journal)
+by_fit (asked.Claims grant csv) entries key bytes journal = claims_fit grant csv bytes journal (recovered journal)
+by_fit asked.Check entries key bytes journal = at_fit entries key asked.Check bytes
+by_fit (asked.List csv) entries key bytes journal = at_fit entries key (asked.List csv) bytes
+by_fit asked.Calls entries key bytes journal = at_fit entries key asked.Calls bytes
+by_fit asked.Chart entries key bytes journal = at_fit entries key asked.Chart bytes
+by_fit asked.Lines entries key bytes journal = at_fit entries key asked.Lines bytes
+by_fit (asked.Posts filter through csv) entries key bytes journal = at_fit entries key (asked.Posts filter through csv) bytes
+by_fit (asked.Balances year through alone csv) entries key bytes journal = at_fit entries key (asked.Balances year through alone csv) bytes
+by_fit (asked.Open csv) entries key bytes journal = at_fit entries key (asked.Open csv) bytes
+by_fit (asked.Statement year kind through csv) entries key bytes journal = at_fit entries key (asked.Statement year kind through csv) bytes
+by_fit (asked.Ledger filter csv) entries key bytes journal = at_fit entries key (asked.Ledger filter csv) bytes
+by_fit (asked.Documents filter csv) entries key bytes journal = at_fit entries key (asked.Documents filter csv) bytes
+by_fit (asked.Month month csv) entries key bytes journal = at_fit entries key (asked.Month month csv) bytes
+by_fit (asked.Paid year csv) entries key bytes journal = at_fit entries key (asked.Paid year csv) bytes
 
-whole_silent : (command : Command) (len : ℕ) (r : Result Parts OpenRefused) → (whole_said command len r).status ≡ NoMemory → (whole_said command len r).out ≡ []
-whole_silent command len (Ok p) e = absurd (end_known p.damage len e)
-whole_silent command len (Err why) e = refl
-
-chart_lines_silent : (bytes : List ℕ) (r : Result Plan ChartFault) → (chart_lines_said bytes r).status ≡ NoMemory → (chart_lines_said bytes r).out ≡ []
-chart_lines_silent bytes (Ok plan) e = cc
-chart_lines_silent bytes (Err (chart_fault.TooLong limit)) e = refl
-chart_lines_silent bytes (Err chart_fault.NotToml) e = refl
-chart_lines_silent bytes (Err f) e = refl
-
-lines_silent : (bytes : List ℕ) (r : Result Parts OpenRefused) → (lines_said bytes r).status ≡ NoMemory → (lines_said bytes r).out ≡ []
-lines_silent bytes (Ok p) e = absurd (end_known p.damage (length bytes) e)
-lines_silent bytes (Err (open_refused.NotFounded len byte)) e = chart_lines_silent bytes (chart_of bytes) e
-lines_silent bytes (Err (open_refused.Damaged at)) e = refl
-lines_silent bytes (Err open_refused.Disk) e = refl
-lines_silent bytes (Err open_refused.NoMemory) e = refl
-
-entry_silent : (offset number : ℕ) (found : Option (ℕ × Entry)) → (refused_entry offset number found).status ≡ NoMemory → (refused_entry offset number found).out ≡ []
-entry_silent offset number None e = refl
-entry_silent offset number (Some x) e = cc
-
-refused_in_silent : (offset number : ℕ) (r : Result (List ℕ × List Entry) OpenRefused) → (refused_in offset number r).status ≡ NoMemory → (refused_in offset number r).out ≡ []
-refused_in_silent offset number (Ok x) e = entry_silent offset number (entry_at offset (length x.0) x.1) e
-refused_in_silent offset number (Err why) e = refl
-
-refused_silent : (bytes : List ℕ) (why : BookRefused) → (refused_said bytes why).status ≡ NoMemory → (refused_said bytes why).out ≡ []
-refused_silent bytes (book_refused.NotFounded len byte) e = refl
-refused_silent bytes (book_refused.Damaged at None) e = refl
-refused_silent bytes (book_refused.Damaged at (Some number)) e = refused_in_silent at number (frames bytes) e
-refused_silent bytes book_refused.Disk e = refl
-refused_silent bytes book_refused.NoMemory e = refl
-
-office_silent : (command : Command) (bytes : List ℕ) (r : Result OfficeState BookRefused) → (office_said command bytes r).status ≡ NoMemory → (office_said command bytes r).out ≡ []
-office_silent command bytes (Ok s) e = cc
-office_silent command bytes (Err why) e = refused_silent bytes why e
-
-either_silent : (here : Bool) (one other : Said) → (one.status ≡ NoMemory → one.out ≡ []) → (other.status ≡ NoMemory → other.out ≡ [])
-    → (if here then one else other).status ≡ NoMemory → (if here then one else other).out ≡ []
-either_silent true one other first second e = first e
-either_silent false one other first second e = second e
-
-statement_silent : (year : ℕ) (kind : ReportKind) (csv : Bool) (bytes : List ℕ) → (statement_said year kind csv bytes).status ≡ NoMemory → (statement_said year kind csv bytes).out ≡ []
-statement_silent year kind csv bytes e =
-    either_silent (nat_le 1971 year && nat_le year last_year) (office_said (asked.Statement year kind csv) bytes (recovered bytes)) (nothing BadWords)
-    (office_silent (asked.Statement year kind csv) bytes (recovered bytes)) (λ why. refl) e
-
-document_silent : (bytes : List ℕ) (r : Checked (List Grant)) → (document_said bytes r).status ≡ NoMemory → (document_said bytes r).out ≡ []
-document_silent bytes (Ok grants) e = cc
-document_silent bytes (Err f) e = refl
-
-under_silent : (bytes chart : List ℕ) (r : Result Plan ChartFault) → (under_chart bytes chart r).status ≡ NoMemory → (under_chart bytes chart r).out ≡ []
-under_silent bytes chart (Ok plan) e = document_silent bytes (grants_of plan bytes) e
-under_silent bytes chart (Err f) e = refl
-
-grants_silent : (bytes : List ℕ) (r : Result Parts OpenRefused) → (grants_said bytes r).status ≡ NoMemory → (grants_said bytes r).out ≡ []
-grants_silent bytes (Ok p) e = under_silent bytes p.chart (chart_of p.chart) e
-grants_silent bytes (Err why) e = refl
-
-rows_silent : (csv : Bool) (bytes : List ℕ) (r : Checked (List GrantVoucher)) → (rows_said csv bytes r).status ≡ NoMemory → (rows_said csv bytes r).out ≡ []
-rows_silent csv bytes (Ok rows) e = cc
-rows_silent csv bytes (Err f) e = refl
-
-claims_silent : (id : ℕ) (csv : Bool) (bytes journal : List ℕ) (r : Result OfficeState BookRefused) → (over_office (vouchers_said id csv bytes) journal r).status ≡ NoMemory
-    → (over_office (vouchers_said id csv bytes) journal r).out ≡ []
-claims_silent id csv bytes journal (Ok s) e = rows_silent csv bytes (vouchers_of_grant s.plan s.entries bytes id) e
-claims_silent id csv bytes journal (Err why) e = refused_silent journal why e
-
-silent : (command : Command) (bytes : List ℕ) → (said command bytes).status ≡ NoMemory → (said command bytes).out ≡ []
-silent asked.CheckChart bytes = chart_silent bytes (chart_of bytes)
-silent asked.Check bytes = office_silent asked.Check bytes (recovered bytes)
-silent (asked.Posts filter csv) bytes = office_silent (asked.Posts filter csv) bytes (recovered bytes)
-silent (asked.Balances year csv) bytes = office_silent (asked.Balances year csv) bytes (recovered bytes)
-silent (asked.Open csv) bytes = office_silent (asked.Open csv) bytes (recovered bytes)
-silent (asked.Statement year kind csv) bytes = statement_silent year kind csv bytes
-silent asked.CheckGrants bytes = whole_silent asked.CheckGrants (length bytes) (whole_of bytes)
-silent (asked.Claims grant csv) bytes = whole_silent (asked.Claims grant csv) (length bytes) (whole_of bytes)
-silent (asked.List csv) bytes = whole_silent (asked.List csv) (length bytes) (whole_of bytes)
-silent asked.Calls bytes = whole_silent asked.Calls (length bytes) (whole_of bytes)
-silent asked.Chart bytes = whole_silent asked.Chart (length bytes) (whole_of bytes)
-silent asked.Lines bytes = lines_silent bytes (whole_of bytes)
-
-silent_with : (command : Command) (bytes journal : List ℕ) → (said_with command bytes journal).status ≡ NoMemory → (said_with command bytes journal).out ≡ []
-silent_with asked.CheckGrants bytes journal = grants_silent bytes (whole_of journal)
-silent_with (asked.Claims grant csv) bytes journal = claims_silent grant csv bytes journal (recovered journal)
-silent_with asked.CheckChart bytes journal = silent asked.CheckChart bytes
-silent_with asked.Check bytes journal = silent asked.Check bytes
-silent_with (asked.List csv) bytes journal = silent (asked.List csv) bytes
-silent_with asked.Calls bytes journal = silent asked.Calls bytes
-silent_with asked.Chart bytes journal = silent asked.Chart bytes
-silent_with asked.Lines bytes journal = silent asked.Lines bytes
-silent_with (asked.Posts filter csv) bytes journal = silent (asked.Posts filter csv) bytes
-silent_with (asked.Balances year csv) bytes journal = silent (asked.Balances year csv) bytes
-silent_with (asked.Open csv) bytes journal = silent (asked.Open csv) bytes
-silent_with (asked.Statement year kind csv) bytes journal = silent (asked.Statement year kind csv) bytes
+pub fit_with : (a : Asked) (bytes journal : List ℕ) → IsFit (said_with a bytes journal)
+fit_with a bytes journal = by_fit a.command a.entries a.key bytes journal
 
 -- ---- how an answer ends a run
 
 -- the whole answer ends a run as the answer says
-pub gave_ends : (command : Command) (left beside held held' : Option (List ℕ)) (s : Status) → Gave command left beside held held' s → Ends command left beside held held' s
-gave_ends command left beside held held' Done g = g
-gave_ends command left beside held held' BadWords g = g
-gave_ends command left beside held held' (ChartRefused f id) g = g
-gave_ends command left beside held held' (GrantsRefused f id) g = g
-gave_ends command left beside held held' ReadFault g = absurd (subst IsNoFault g.is (no_fault_with command g.inputs.bytes g.inputs.journal))
-gave_ends command left beside held held' WriteFault g = record {
+pub gave_ends : (a : Asked) (left beside held held' : Option (List ℕ)) (s : Status) → Gave a left beside held held' s → Ends a left beside held held' s
+gave_ends a left beside held held' Done g = g
+gave_ends a left beside held held' BadWords g = g
+gave_ends a left beside held held' (ChartRefused f id) g = g
+gave_ends a left beside held held' (GrantsRefused f id) g = g
+gave_ends a left beside held held' ReadFault g = absurd (subst (Fits (answered g.inputs).out) g.is (fit_with a g.inputs.bytes g.inputs.journal))
+gave_ends a left beside held held' WriteFault g = record {
   inputs = g.inputs;
   rest = [];
   put = record { done = (answered g.inputs).out; joins = sym (append-nil (answered g.inputs).out); put = g.put };
 }
-gave_ends command left beside held held' (NotFounded len) g = g
-gave_ends command left beside held held' (Damaged at entry) g = g
-gave_ends command left beside held held' NoMemory g = subst (Appends held held') (silent_with command g.inputs.bytes g.inputs.journal g.is) g.put
-gave_ends command left beside held held' (Cut at lost) g = g
+gave_ends a left beside held held' (NotFounded len) g = g
+gave_ends a left beside held held' (Damaged at entry) g = g
+gave_ends a left beside held held' NoMemory g = subst (Appends held held') (subst (Fits (answered g.inputs).out) g.is (fit_with a g.inputs.bytes g.inputs.journal)) g.put
+gave_ends a left beside held held' (Cut at lost) g = g
+gave_ends a left beside held held' NoSuchDay g = g
+gave_ends a left beside held held' (DayRefused first) g = g
+gave_ends a left beside held held' (EntriesRefused n entries) g = g
+gave_ends a left beside held held' (Unknown table number) g = g

@@ -3,3 +3,4 @@ pub mod CallsAgain
 pub mod Noted
 pub mod Steps
 pub mod Ends
+pub mod Today

@@ -24,8 +24,9 @@ use Rattle.cf_journal.specs.declared.refused.OpenRefused.{OpenRefused}
 use Rattle.cf_journal.specs.declared.refused.OpenRefused.TheVariants as open_refused
 use Rattle.cf_model.specs.State.{OfficeState}
 use Rattle.cf_words.specs.declared.words.ReportKind.{ReportKind}
+use Rattle.cf_books_words.specs.Words.{Asked}
 use Rattle.cf_books_words.specs.declared.words.Command.{Command}
-use Rattle.cf_books_words.specs.declared.words.Command.TheVariants.{CheckChart, CheckGrants, Check, Claims, List as Listing, Calls, Chart, Lines, Posts, Balances, Open, Statement}
+use Rattle.cf_books_words.specs.declared.words.Command.TheVariants.{CheckChart, CheckGrants, Check, Claims, List as Listing, Calls, Chart, Lines, Posts, Balances, Open, Statement, Ledger, Documents, Month, Paid}
 use Rattle.cf_books_grants.specs.Documents.{document_text}
 use Rattle.cf_books_grants.specs.FaultIds.{fault_id as grant_fault_id}
 use Rattle.cf_books_grants.specs.Vouchers.{vouchers_text}
@@ -42,7 +43,10 @@ use Rattle.cf_books.specs.Lines.{lines_text}
 use Rattle.cf_books.specs.Listing.{list_text}
 use Rattle.cf_books.specs.Room.{room_text}
 use Rattle.cf_books.specs.Summary.{chart_text, journal_text}
-use Rattle.cf_books.specs.Whole.{Parts, whole_of}
+use Rattle.cf_books_front.specs.Front.{front_in}
+use Rattle.cf_books_front.specs.Whole.{Parts, whole_of}
+use Rattle.cf_books_front.specs.declared.front.FrontRefused.{FrontRefused}
+use Rattle.cf_books_front.specs.declared.front.FrontRefused.TheVariants.{Fewer, Nothing}
 
 -- what is printed, and how the run ends
 pub record Said : Type 0 where
@@ -131,10 +135,10 @@ refused_said bytes NoMemory = nothing status.NoMemory
 
 -- the posts, the balances, what is open and the statements are those of the history that the bytes recover to
 abbrev pub office_text : Command → List ℕ → OfficeState → List ℕ
-office_text (Posts filter csv) bytes s = posts_of csv filter s.plan s.entries
-office_text (Balances year csv) bytes s = balances_of csv year s.plan s.entries
+office_text (Posts filter None csv) bytes s = posts_of csv filter s.plan s.entries
+office_text (Balances year None false csv) bytes s = balances_of csv year s.plan s.entries
 office_text (Open csv) bytes s = open_text csv s.plan s.entries
-office_text (Statement year kind csv) bytes s = statement_text csv year kind s.plan s.entries
+office_text (Statement year kind None csv) bytes s = statement_text csv year kind s.plan s.entries
 office_text _ bytes s = journal_text s.entries ++ room_text bytes s.entries
 
 -- what is told of the office of these bytes, or why there is none
@@ -151,7 +155,7 @@ office_said command bytes x = over_office (office_told command bytes) bytes x
 -- a statement is of a fiscal year from 1971 to 2199: words with another are refused
 abbrev pub statement_said : ℕ → ReportKind → Bool → List ℕ → Said
 statement_said year kind csv bytes =
-    if nat_le 1971 year && nat_le year last_year then office_said (Statement year kind csv) bytes (recovered bytes)
+    if nat_le 1971 year && nat_le year last_year then office_said (Statement year kind None csv) bytes (recovered bytes)
     else nothing status.BadWords
 
 -- ---- a document of grants, under the chart or over the history of a journal
@@ -183,15 +187,49 @@ vouchers_said id csv bytes s = rows_said csv bytes (vouchers_of_grant s.plan s.e
 
 -- ---- any command
 
-abbrev pub said : Command → List ℕ → Said
-said CheckChart bytes = chart_said bytes (chart_of bytes)
-said Lines bytes = lines_said bytes (whole_of bytes)
-said Check bytes = office_said Check bytes (recovered bytes)
-said (Posts filter csv) bytes = office_said (Posts filter csv) bytes (recovered bytes)
-said (Balances year csv) bytes = office_said (Balances year csv) bytes (recovered bytes)
-said (Open csv) bytes = office_said (Open csv) bytes (recovered bytes)
-said (Statement year kind csv) bytes = statement_said year kind csv bytes
-said command bytes = whole_said command (length bytes) (whole_of bytes)
+abbrev pub said : Option (List ℕ) → Command → List ℕ → Said
+said key CheckChart bytes = chart_said bytes (chart_of bytes)
+said key Lines bytes = lines_said bytes (whole_of bytes)
+said key Check bytes = office_said Check bytes (recovered bytes)
+said key (Posts filter None csv) bytes = office_said (Posts filter None csv) bytes (recovered bytes)
+said key (Posts filter (Some day) csv) bytes = nothing status.BadWords
+said key (Balances year None false csv) bytes = office_said (Balances year None false csv) bytes (recovered bytes)
+said key (Balances year through alone csv) bytes = nothing status.BadWords
+said key (Open csv) bytes = office_said (Open csv) bytes (recovered bytes)
+said key (Statement year kind None csv) bytes = statement_said year kind csv bytes
+said key (Statement year kind (Some day) csv) bytes = nothing status.BadWords
+said key (Ledger filter csv) bytes = nothing status.BadWords
+said key (Documents filter csv) bytes = nothing status.BadWords
+said key (Month month csv) bytes = nothing status.BadWords
+said key (Paid year csv) bytes = nothing status.BadWords
+said key command bytes = whole_said command (length bytes) (whole_of bytes)
+
+-- ---- the first entries of a history
+
+-- the same of a journal's front, or why it has none
+abbrev pub said_first : ℕ → Option (List ℕ) → Command → Result (List ℕ) FrontRefused → Said
+said_first n key command (Ok bytes) = said key command bytes
+said_first n key command (Err (Fewer entries)) = nothing (status.EntriesRefused n entries)
+said_first n key command (Err (Nothing e)) = nothing (refusal_of e)
+
+-- what a command says of a journal's first entries, where a number of them is asked for, or of all
+abbrev pub said_at : Option ℕ → Option (List ℕ) → Command → List ℕ → Said
+said_at None key command bytes = said key command bytes
+said_at (Some n) key command bytes = said_first n key command (front_in n bytes)
+
+-- the commands that say of a journal with n entries the same as of its first n; `check` has counts of the file's bytes too
+abbrev pub is_of_entries : Command → Bool
+is_of_entries CheckChart = false
+is_of_entries CheckGrants = false
+is_of_entries Check = false
+is_of_entries (Claims grant csv) = false
+is_of_entries command = true
+
+-- where the journal is whole and has n entries, this is what is said of it without their number
+abbrev pub IsToday : ℕ → Option (List ℕ) → Command → List ℕ → Said → Type 0
+IsToday n key command bytes x = (p : Parts) → whole_of bytes ≡ Ok p → p.damage ≡ None → length p.entries ≡ n → is_of_entries command ≡ true → x ≡ said key command bytes
+
+-- ---- any request
 
 -- whether a command reads a journal beside its file
 abbrev pub reads_journal : Command → Bool
@@ -199,11 +237,15 @@ reads_journal CheckGrants = true
 reads_journal (Claims id csv) = true
 reads_journal _ = false
 
--- the same with the bytes of that journal
-abbrev pub said_with : Command → List ℕ → List ℕ → Said
-said_with CheckGrants bytes journal = grants_said bytes (whole_of journal)
-said_with (Claims id csv) bytes journal = over_office (vouchers_said id csv bytes) journal (recovered journal)
-said_with command bytes journal = said command bytes
+abbrev pub said_by : Command → Option ℕ → Option (List ℕ) → List ℕ → List ℕ → Said
+said_by CheckChart entries key bytes journal = said key CheckChart bytes
+said_by CheckGrants entries key bytes journal = grants_said bytes (whole_of journal)
+said_by (Claims id csv) entries key bytes journal = over_office (vouchers_said id csv bytes) journal (recovered journal)
+said_by command entries key bytes journal = said_at entries key command bytes
+
+-- what is said of the bytes of a request's file, and of those of the journal beside it
+abbrev pub said_with : Asked → List ℕ → List ℕ → Said
+said_with a bytes journal = said_by a.command a.entries a.key bytes journal
 
 -- the answer is this one, or there was no memory for it
 abbrev pub view : Answer → Said
@@ -244,31 +286,31 @@ abbrev pub IsBeside : Bool → Option (List ℕ) → List ℕ → Type 0
 IsBeside true left journal = AreLeft left journal
 IsBeside false left journal = ⊤
 
--- the bytes that a command reads: those of its file, and of the journal beside it
-pub record Inputs (command : Command) (left beside : Option (List ℕ)) : Type 0 where
+-- the bytes that a request reads: those of its file, and of the journal beside it
+pub record Inputs (asked : Asked) (left beside : Option (List ℕ)) : Type 0 where
   pub bytes : List ℕ
   pub journal : List ℕ
   pub all : AreLeft left bytes
-  pub whole : IsBeside (reads_journal command) beside journal
+  pub whole : IsBeside (reads_journal asked.command) beside journal
 
-abbrev pub answered : {command : Command} {left beside : Option (List ℕ)} → Inputs command left beside → Said
-answered {command = command} i = said_with command i.bytes i.journal
+abbrev pub answered : {asked : Asked} {left beside : Option (List ℕ)} → Inputs asked left beside → Said
+answered {asked = asked} i = said_with asked i.bytes i.journal
 
 -- the output got the whole answer
-pub record Gave (command : Command) (left beside held held' : Option (List ℕ)) (s : Status) : Type 0 where
-  pub inputs : Inputs command left beside
+pub record Gave (asked : Asked) (left beside held held' : Option (List ℕ)) (s : Status) : Type 0 where
+  pub inputs : Inputs asked left beside
   pub is : (answered inputs).status ≡ s
   pub put : Appends held held' (answered inputs).out
 
 -- the output got a front of it
-pub record GaveFront (command : Command) (left beside held held' : Option (List ℕ)) : Type 0 where
-  pub inputs : Inputs command left beside
+pub record GaveFront (asked : Asked) (left beside held held' : Option (List ℕ)) : Type 0 where
+  pub inputs : Inputs asked left beside
   pub rest : List ℕ
   pub put : Wrote held held' (answered inputs).out rest
 
 -- the output got nothing where a file can't be read or there is no memory
-abbrev pub Ends : Command → Option (List ℕ) → Option (List ℕ) → Option (List ℕ) → Option (List ℕ) → Status → Type 0
-Ends command left beside held held' status.ReadFault = Appends held held' []
-Ends command left beside held held' status.NoMemory = Appends held held' []
-Ends command left beside held held' status.WriteFault = GaveFront command left beside held held'
-Ends command left beside held held' s = Gave command left beside held held' s
+abbrev pub Ends : Asked → Option (List ℕ) → Option (List ℕ) → Option (List ℕ) → Option (List ℕ) → Status → Type 0
+Ends asked left beside held held' status.ReadFault = Appends held held' []
+Ends asked left beside held held' status.NoMemory = Appends held held' []
+Ends asked left beside held held' status.WriteFault = GaveFront asked left beside held held'
+Ends asked left beside held held' s = Gave asked left beside held held' s

@@ -7,7 +7,6 @@ pub mod Listing
 pub mod Lines
 pub mod Summary
 pub mod Room
-pub mod Whole
 pub mod FaultRows
 pub mod Notices
 pub mod Answers

@@ -1,12 +1,16 @@
 //! What each command answers.
 
-ghost use Rattle.std.specs.Prelude.{◌≡◌, length, None, IfOk};
+ghost use Rattle.std.specs.Prelude.{◌≡◌, ℕ, List, Option, Some, None, Result, Err, IfOk, length, option_map};
 ghost use Rattle.std.specs.List.{All};
 ghost use Rattle.cf_chart.specs.Reading.{chart_of};
 ghost use Rattle.cf_journal.specs.Records.{HasRecord};
 ghost use Rattle.cf_books.specs.Answers as spec;
-ghost use Rattle.cf_books.specs.Answers.{Answers};
-ghost use Rattle.cf_books.specs.Whole.{parts, whole_of};
+ghost use Rattle.cf_books.specs.Answers.{Answers, IsToday};
+ghost use Rattle.cf_books_front.specs.Front.{GivesFront};
+ghost use Rattle.cf_books_front.specs.declared.front.FrontRefused.{FrontRefused as FrontRefusal};
+ghost use Rattle.cf_books_words.specs.Words.{asks};
+ghost use Rattle.cf_books_words.specs.declared.words.Command.{Command as Asking};
+ghost use Rattle.cf_books_front.specs.Whole.{parts, whole_of};
 
 use crate::calls::put_calls;
 use crate::fault_rows::fault_id;
@@ -17,9 +21,9 @@ use crate::lists::{balances_answer, open_answer, posts_answer, statement_answer}
 use crate::office::office_answer;
 use crate::status::Status;
 use crate::summary::put_chart;
-use crate::whole::{Whole, read_whole};
+use cf_books_front::{FrontRefused, Whole, front_with, read_whole};
 use cf_books_lists::Layout;
-use cf_books_words::Command;
+use cf_books_words::{Command, Request};
 use cf_chart::{Chart, ChartFault, ChartRefused};
 use cf_journal::OpenRefused;
 use std::alloc::{AllocError, Global};
@@ -175,29 +179,130 @@ fn lines_answer(alloc: Global, bytes: &[u8]) -> Result<Answer, AllocError>
     }
 }
 
-/// What a command answers of its file's bytes, and of those of the journal beside it where it reads one.
-pub fn answer_of(
+/// What a command answers of a journal's bytes, or of those of a chart.
+fn command_answer(
     alloc: Global,
     command: Command,
+    key: Option<&str>,
+    bytes: &[u8],
+) -> Result<Answer, AllocError>
+    ensures { Answers result (spec.said (option_map (λ k. k.now) key.entry) command bytes.now) }
+{
+    match command {
+        Command::CheckChart => chart_answer(alloc, bytes),
+        Command::Lines => lines_answer(alloc, bytes),
+        Command::Check => office_answer(alloc, bytes),
+        Command::Posts {
+            filter,
+            through: None,
+            csv,
+        } => posts_answer(Layout { alloc, csv }, filter, bytes),
+        Command::Balances {
+            year,
+            through: None,
+            alone: false,
+            csv,
+        } => balances_answer(Layout { alloc, csv }, year, bytes),
+        Command::Open { csv } => open_answer(Layout { alloc, csv }, bytes),
+        Command::Statement {
+            year,
+            kind,
+            through: None,
+            csv,
+        } => statement_answer(Layout { alloc, csv }, year, kind, bytes),
+        Command::Posts { .. }
+        | Command::Balances { .. }
+        | Command::Statement { .. }
+        | Command::Ledger { .. }
+        | Command::Documents { .. }
+        | Command::Month { .. }
+        | Command::Paid { .. } => Ok(nothing(alloc, Status::BadWords)),
+        Command::CheckGrants
+        | Command::Claims { .. }
+        | Command::List { .. }
+        | Command::Calls
+        | Command::Chart => whole_answer(alloc, command, bytes),
+    }
+}
+
+/// What is said where a journal has no front with so many entries.
+fn no_front(alloc: Global, asked: u64, why: FrontRefused) -> Result<Answer, AllocError>
+    ensures { (command : Asking) → (key : Option (List ℕ)) → (x : Result (List ℕ) FrontRefusal) → GivesFront (Err why) x → Answers result (spec.said_first asked key command x) }
+{
+    match why {
+        FrontRefused::Fewer { entries } => {
+            Ok(nothing(alloc, Status::EntriesRefused { asked, entries }))
+        }
+        FrontRefused::Nothing(OpenRefused::NotFounded { len, byte: _ }) => {
+            Ok(nothing(alloc, Status::NotFounded { len }))
+        }
+        FrontRefused::Nothing(OpenRefused::Damaged { offset }) => Ok(damaged(alloc, offset)),
+        FrontRefused::Nothing(OpenRefused::Disk | OpenRefused::NoMemory) => Err(AllocError),
+    }
+}
+
+/// What a command answers of a journal's first `n` entries. Where the journal is whole and has no more, it is what the
+/// command answers of the journal.
+fn first_answer(
+    alloc: Global,
+    n: u64,
+    command: Command,
+    key: Option<&str>,
+    bytes: &[u8],
+) -> Result<Answer, AllocError>
+    ensures answer { Answers result (spec.said_at (Some n) (option_map (λ k. k.now) key.entry) command bytes.now) }
+    ensures all { IfOk result (λ a. IsToday n (option_map (λ k. k.now) key.entry) command bytes.now (spec.view a)) }
+{
+    match front_with(alloc, n, bytes) {
+        Ok(front) => command_answer(alloc, command, key, front.as_slice()),
+        Err(why) => no_front(alloc, n, why),
+    }
+}
+
+/// What a command answers of a journal's first entries, where a number of them is asked for, or of all. Where the
+/// journal is whole and has that number of entries, it is what the command answers of all.
+fn answer_at(
+    alloc: Global,
+    request: &Request,
+    bytes: &[u8],
+) -> Result<Answer, AllocError>
+    ensures answer { Answers result (spec.said_at request.now.entries (option_map (λ k. k.now) request.now.key) request.now.command bytes.now) }
+    ensures all { IfOk result (λ a. (n : ℕ) → request.now.entries ≡ Some n → IsToday n (option_map (λ k. k.now) request.now.key) request.now.command bytes.now (spec.view a)) }
+{
+    match request.entries {
+        None => command_answer(alloc, request.command, request.key, bytes),
+        Some(n) => first_answer(alloc, n, request.command, request.key, bytes),
+    }
+}
+
+/// What is answered to a request of its file's bytes, and of those of the journal beside it where it reads one.
+pub fn answer_of(
+    alloc: Global,
+    request: Request,
     bytes: &[u8],
     journal: &[u8],
 ) -> Result<Answer, AllocError>
-    ensures { Answers result (spec.said_with command bytes.now journal.now) }
+    ensures answer { Answers result (spec.said_with (asks request) bytes.now journal.now) }
+    ensures all { IfOk result (λ a. (n : ℕ) → request.entries ≡ Some n → IsToday n (option_map (λ k. k.now) request.key) request.command bytes.now (spec.view a)) }
 {
-    match command {
+    match request.command {
         Command::CheckGrants => grants_answer(alloc, bytes, journal),
         Command::Claims { grant, csv } => {
             claims_answer(Layout { alloc, csv }, grant, bytes, journal)
         }
         Command::CheckChart => chart_answer(alloc, bytes),
-        Command::Lines => lines_answer(alloc, bytes),
-        Command::Check => office_answer(alloc, bytes),
-        Command::Posts { filter, csv } => posts_answer(Layout { alloc, csv }, filter, bytes),
-        Command::Balances { year, csv } => balances_answer(Layout { alloc, csv }, year, bytes),
-        Command::Open { csv } => open_answer(Layout { alloc, csv }, bytes),
-        Command::Statement { year, kind, csv } => {
-            statement_answer(Layout { alloc, csv }, year, kind, bytes)
-        }
-        _ => whole_answer(alloc, command, bytes),
+        Command::Check
+        | Command::List { .. }
+        | Command::Calls
+        | Command::Chart
+        | Command::Lines
+        | Command::Posts { .. }
+        | Command::Balances { .. }
+        | Command::Open { .. }
+        | Command::Statement { .. }
+        | Command::Ledger { .. }
+        | Command::Documents { .. }
+        | Command::Month { .. }
+        | Command::Paid { .. } => answer_at(alloc, &request, bytes),
     }
 }

@@ -6,13 +6,13 @@ ghost use Rattle.cf_claims.specs.Standing.{vouchers_of_grant as rows_of_grant};
 ghost use Rattle.cf_grants.specs.Reading.{grants_of};
 ghost use Rattle.cf_books.specs.Answers as spec;
 ghost use Rattle.cf_books.specs.Answers.{Answers};
-ghost use Rattle.cf_books.specs.Whole.{whole_of};
+ghost use Rattle.cf_books_front.specs.Whole.{whole_of};
 
 use crate::answers::{Answer, damaged, nothing};
 use crate::fault_rows;
 use crate::office::{open_book, refused_answer};
 use crate::status::Status;
-use crate::whole::read_whole;
+use cf_books_front::read_whole;
 use cf_book::Book;
 use cf_books_grants::{document_text, fault_id, vouchers_text};
 use cf_books_lists::Layout;

@@ -18,7 +18,6 @@ mod room;
 mod running;
 mod status;
 mod summary;
-mod whole;
 
 pub use answers::{Answer, answer_of};
 pub use running::{run, tell};

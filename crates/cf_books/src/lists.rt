@@ -1,6 +1,6 @@
 //! The lists of a journal whose entries the office takes again: posts, balances, what is open, and statements.
 
-ghost use Rattle.std.specs.Prelude.{◌≡◌, IfOk};
+ghost use Rattle.std.specs.Prelude.{◌≡◌, false, IfOk, None};
 ghost use Rattle.cf_book.specs.Recovery.{recovered};
 ghost use Rattle.cf_book.specs.Watching.{all_posted};
 ghost use Rattle.cf_calls.specs.Form.{IsYear};
@@ -51,7 +51,7 @@ fn open_posts(
 
 /// The posts that are wanted, or why the journal has none.
 pub fn posts_answer(layout: Layout, filter: PostFilter, bytes: &[u8]) -> Result<Answer, AllocError>
-    ensures { Answers result (spec.office_said (Posts filter layout.csv) bytes.now (recovered bytes.now)) }
+    ensures { Answers result (spec.office_said (Posts filter None layout.csv) bytes.now (recovered bytes.now)) }
 {
     let copy = Vec::from_slice(layout.alloc, bytes)?;
     match open_posts(layout.alloc, copy) {
@@ -62,7 +62,7 @@ pub fn posts_answer(layout: Layout, filter: PostFilter, bytes: &[u8]) -> Result<
 
 /// The balances through a fiscal year, or why the journal has none.
 pub fn balances_answer(layout: Layout, year: u16, bytes: &[u8]) -> Result<Answer, AllocError>
-    ensures { Answers result (spec.office_said (Balances year layout.csv) bytes.now (recovered bytes.now)) }
+    ensures { Answers result (spec.office_said (Balances year None false layout.csv) bytes.now (recovered bytes.now)) }
 {
     let copy = Vec::from_slice(layout.alloc, bytes)?;
     match open_book(layout.alloc, copy) {
@@ -96,7 +96,7 @@ fn statement_of(
     bytes: &[u8],
 ) -> Result<Answer, AllocError>
     requires { IsYear year }
-    ensures { Answers result (spec.office_said (Statement year kind layout.csv) bytes.now (recovered bytes.now)) }
+    ensures { Answers result (spec.office_said (Statement year kind None layout.csv) bytes.now (recovered bytes.now)) }
 {
     let copy = Vec::from_slice(layout.alloc, bytes)?;
     match open_book(layout.alloc, copy) {

@@ -5,6 +5,7 @@ ghost use Rattle.cf_chart.specs.Faults.{word_of};
 ghost use Rattle.cf_books.specs.Notices as spec;
 
 use crate::status::{RefusedEntry, Status};
+use cf_base::day_text;
 use cf_books_grants::put_id;
 use cf_books_lists::{put_between, put_text};
 use cf_calls::refusal_name;
@@ -92,6 +93,24 @@ fn put_damage(out: &mut Vec<u8>, offset: u64, entry: Option<RefusedEntry>) -> Re
     }
 }
 
+/// Appends that so many entries were asked for of a journal that has fewer.
+fn put_entries(out: &mut Vec<u8>, asked: u64, entries: u64) -> Result<(), AllocError>
+    ensures { OnOk result (out.new.items ≡ out.old.items ++ spec.status_text (Status.EntriesRefused asked entries)) }
+{
+    put_between(out, "entries refused: ", asked, " asked, the journal has ")?;
+    put_number(out, entries)
+}
+
+/// Appends what a chart hasn't.
+fn put_unknown(out: &mut Vec<u8>, table: TableName, number: u16) -> Result<(), AllocError>
+    ensures { OnOk result (out.new.items ≡ out.old.items ++ spec.status_text (Status.Unknown table number)) }
+{
+    put_text(out, "unknown ")?;
+    out.extend_from_slice(table.word().as_bytes())?;
+    out.push(b' ')?;
+    put_number(out, u64::from(number))
+}
+
 /// Appends what is said of how a run ended.
 fn put_status(out: &mut Vec<u8>, status: Status) -> Result<(), AllocError>
     ensures { OnOk result (out.new.items ≡ out.old.items ++ spec.status_text status) }
@@ -123,6 +142,13 @@ fn put_status(out: &mut Vec<u8>, status: Status) -> Result<(), AllocError>
                 " bytes are lost",
             )
         }
+        Status::NoSuchDay => out.extend_from_slice(b"no such day"),
+        Status::DayRefused { first } => {
+            put_text(out, "day refused: the first fiscal year begins ")?;
+            out.extend_from_slice(&day_text(first))
+        }
+        Status::EntriesRefused { asked, entries } => put_entries(out, asked, entries),
+        Status::Unknown { table, number } => put_unknown(out, table, number),
     }
 }
 

@@ -10,7 +10,7 @@ ghost use Rattle.cf_books.specs.Answers.{Answers};
 use crate::answers::{Answer, damaged, nothing};
 use crate::calls::put_call;
 use crate::status::{RefusedEntry, Status};
-use crate::whole::read_frames;
+use cf_books_front::read_frames;
 use cf_calls::Entry;
 use cf_journal::{OpenRefused, record_len};
 use std::alloc::{AllocError, Global};

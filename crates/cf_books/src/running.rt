@@ -6,12 +6,13 @@ ghost use Rattle.cf_base.specs.Causes.{Rose};
 ghost use Rattle.cf_books.specs.Answers as spec;
 ghost use Rattle.cf_books.specs.Answers.{Ends, IsBeside};
 ghost use Rattle.cf_books.specs.Notices.{notice_of};
+ghost use Rattle.cf_books_words.specs.Words.{asks};
 
 use crate::answers::answer_of;
 use crate::notices::put_notice;
 use crate::status::Status;
 use cf_base::{Failed, Sink, Source};
-use cf_books_words::Command;
+use cf_books_words::{Command, Request};
 use cf_desk::{Unread, read_all, write_all};
 use std::alloc::Global;
 
@@ -40,34 +41,34 @@ fn read_beside<J: Source>(
     read_all(alloc, journal, usize::MAX)
 }
 
-/// Runs a command over the bytes of its file, and of the journal beside it for the two commands on grants. Both are only
+/// Runs a request over the bytes of its file, and of the journal beside it for the two commands on grants. Both are only
 /// read: nothing else of them can be asked of a source. What is read of a journal that a desk writes to meanwhile isn't
 /// said to be a state that it had (`docs/JOURNAL.md`).
 pub fn run<S: Source, J: Source, K: Sink>(
     alloc: Global,
-    command: Command,
+    request: Request,
     source: &mut S,
     journal: &mut J,
     out: &mut K,
 ) -> Status
-    ensures ends { Ends command (S.left source.old) (J.left journal.old) (K.held out.old) (K.held out.new) result }
+    ensures ends { Ends (asks request) (S.left source.old) (J.left journal.old) (K.held out.old) (K.held out.new) result }
     ensures read { result ≡ Status.ReadFault → Rose (S.faults source.old) (S.faults source.new) ⊎ Rose (J.faults journal.old) (J.faults journal.new) }
     ensures write { result ≡ Status.WriteFault → Rose (K.faults out.old) (K.faults out.new) }
     ensures input_quiet { result ≢ Status.ReadFault → (S.faults source.new ≡ S.faults source.old) × (J.faults journal.new ≡ J.faults journal.old) }
     ensures out_quiet { result ≢ Status.WriteFault → K.faults out.new ≡ K.faults out.old }
-    ensures unread { spec.reads_journal command ≡ false → journal.new ≡ journal.old }
+    ensures unread { spec.reads_journal request.command ≡ false → journal.new ≡ journal.old }
 {
     let bytes = match read_all(alloc, source, usize::MAX) {
         Ok(bytes) => bytes,
         Err(Unread::Fault) => return Status::ReadFault,
         Err(Unread::NoMemory) => return Status::NoMemory,
     };
-    let beside = match read_beside(alloc, command, journal) {
+    let beside = match read_beside(alloc, request.command, journal) {
         Ok(bytes) => bytes,
         Err(Unread::Fault) => return Status::ReadFault,
         Err(Unread::NoMemory) => return Status::NoMemory,
     };
-    let Ok(answer) = answer_of(alloc, command, bytes.as_slice(), beside.as_slice()) else {
+    let Ok(answer) = answer_of(alloc, request, bytes.as_slice(), beside.as_slice()) else {
         return Status::NoMemory;
     };
     match write_all(out, answer.out.as_slice()) {

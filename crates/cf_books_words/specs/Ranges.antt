@@ -17,13 +17,11 @@ IsOptionFrom low high None = ⊤
 IsOptionFrom low high (Some n) = IsFrom low high n
 
 -- a day, and a month, that a history may have, from 1971 on
-pub record IsAskedDay (d : Day) : Type 0 where
-  pub day : is_day d ≡ true
-  pub from : 1971 ≤ d.year
+abbrev pub IsAskedDay : Day → Type 0
+IsAskedDay d = (is_day d ≡ true) × 1971 ≤ d.year
 
-pub record IsAskedMonth (m : Month) : Type 0 where
-  pub month : is_call_month m ≡ true
-  pub from : 1971 ≤ m.year
+abbrev pub IsAskedMonth : Month → Type 0
+IsAskedMonth m = (is_call_month m ≡ true) × 1971 ≤ m.year
 
 abbrev pub IsOptionDay : Option Day → Type 0
 IsOptionDay None = ⊤

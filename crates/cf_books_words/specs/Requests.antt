@@ -1,5 +1,5 @@
 -- The request that a parse found.
-use Rattle.std.specs.Prelude.{ℕ, Bool, ⊤, true, false, if◌then◌else◌, List, Option, Some, None, Ok, Err, codes}
+use Rattle.std.specs.Prelude.{ℕ, zero, suc, Bool, ⊤, true, false, if◌then◌else◌, List, Option, Some, None, Ok, Err, codes}
 use Rattle.std.specs.Str.{bytes_eq}
 use Rattle.clap.specs.Words.{Row, Text, first_of}
 use Rattle.cf_base.specs.Limits.{most_entries}
@@ -59,9 +59,9 @@ last_word file (Some more) = Err BadWords
 
 -- the file of a command, behind its own words
 abbrev pub file_behind : ℕ → List Row → Read (Option Text)
-file_behind 0 rows = last_word (first_of (codes "first") rows) (first_of (codes "second") rows)
-file_behind 1 rows = last_word (first_of (codes "second") rows) (first_of (codes "third") rows)
-file_behind n rows = Ok (first_of (codes "third") rows)
+file_behind zero rows = last_word (first_of (codes "first") rows) (first_of (codes "second") rows)
+file_behind (suc zero) rows = last_word (first_of (codes "second") rows) (first_of (codes "third") rows)
+file_behind (suc (suc n)) rows = Ok (first_of (codes "third") rows)
 
 -- the month of the word behind `month`
 abbrev pub month_command_in : List Row → Read Command

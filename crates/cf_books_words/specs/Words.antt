@@ -1,5 +1,6 @@
 -- What the words ask for.
 use Rattle.std.specs.Prelude.{ℕ, ◌≡◌, ⊤, [], ◌∷◌, Option, Some, None, option_map, Result, Ok, Err, codes}
+use Rattle.std.specs.Borrow.{Bor}
 use Rattle.clap.specs.Words.{Text}
 use Rattle.cf_books_words.specs.declared.words.Command.{Command}
 use Rattle.cf_books_words.specs.declared.words.Command.TheVariants as command
@@ -43,6 +44,11 @@ abbrev pub ◌>>=◌ : {A B : Type 0} → Read A → (A → Read B) → Read B
 abbrev pub or_refuse : {A : Type 0} → WordsRefused → Option A → Read A
 or_refuse why None = Err why
 or_refuse why (Some a) = Ok a
+
+-- texts, as contracts see what the code borrows of them
+abbrev pub texts : Read (Option (Bor Text)) → Read (Option Text)
+texts (Ok text) = Ok (option_map (λ t. t.now) text)
+texts (Err e) = Err e
 
 -- ---- answers, where want of memory is free
 

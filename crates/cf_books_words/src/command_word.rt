@@ -89,10 +89,7 @@ pub fn words_of(word: CommandWord) -> u8
         | CommandWord::Open
         | CommandWord::Ledger
         | CommandWord::Documents => 0,
-        CommandWord::Claims
-        | CommandWord::Balances
-        | CommandWord::Month
-        | CommandWord::Paid => 1,
+        CommandWord::Claims | CommandWord::Balances | CommandWord::Month | CommandWord::Paid => 1,
         CommandWord::Statement => 2,
     }
 }

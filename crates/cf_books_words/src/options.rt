@@ -1,8 +1,10 @@
 //! The options, as a parse found them.
 
-ghost use Rattle.std.specs.Prelude.{◌≡◌, IfOk, IfSome, map, option_map};
-ghost use Rattle.std.specs.List.{list_all};
+ghost use Rattle.std.specs.Prelude.{◌≡◌, IfOk, IfSome, map, option_map, true};
+ghost use Rattle.std.specs.List.{list_all, list_any};
+ghost use Rattle.std.specs.Str.{bytes_eq};
 ghost use Rattle.clap.specs.Words.{first_of, found_of, rows_of};
+ghost use Rattle.cf_base.specs.Calendar.{day_of_text, is_call_month, is_day, month_of_text};
 ghost use Rattle.cf_words.specs.Words as read;
 ghost use Rattle.cf_books_words.specs.Options as spec;
 ghost use Rattle.cf_books_words.specs.Ranges.{IsAskedDay, IsAskedMonth, IsOptionDay, IsOptionFrom};
@@ -44,12 +46,26 @@ pub fn option_from(text: Option<&str>, low: u64, high: u64) -> Option<Option<u64
     }
 }
 
+fn day_of(text: &str) -> Option<Day>
+    ensures day { result ≡ day_of_text text.now }
+    ensures range { IfSome result (λ d. is_day d ≡ true) }
+{
+    read_day(text.as_bytes())
+}
+
+fn month_of(text: &str) -> Option<Month>
+    ensures month { result ≡ month_of_text text.now }
+    ensures range { IfSome result (λ m. is_call_month m ≡ true) }
+{
+    read_month(text.as_bytes())
+}
+
 /// The day of a text, from 1971 on.
 fn day_from(text: &str) -> Result<Day, WordsRefused>
     ensures day { result ≡ spec.day_in text.now }
     ensures range { IfOk result IsAskedDay }
 {
-    match read_day(text.as_bytes()) {
+    match day_of(text) {
         Some(day) if 1971 <= day.year => Ok(day),
         Some(_) | None => Err(WordsRefused::NoSuchDay),
     }
@@ -60,7 +76,7 @@ pub fn month_from(text: &str) -> Result<Month, WordsRefused>
     ensures month { result ≡ spec.month_in text.now }
     ensures range { IfOk result IsAskedMonth }
 {
-    match read_month(text.as_bytes()) {
+    match month_of(text) {
         Some(month) if 1971 <= month.year => Ok(month),
         Some(_) | None => Err(WordsRefused::NoSuchDay),
     }
@@ -89,38 +105,39 @@ pub fn days_found(matches: &ArgMatches) -> Result<Days, WordsRefused>
 }
 
 fn is_listed(own: &[&str], name: &str) -> bool
-    ensures { result ≡ spec.is_listed (map (λ n. n.now) own.now) name.now }
+    ensures { result ≡ list_any (λ n. bytes_eq n.now name.now) own.now }
 {
-    for listed in own {
-        if *listed == name {
-            return true;
-        }
-    }
-    false
+    own.iter().any(|listed| *listed == name)
 }
 
-/// Whether each of the options with a value that was given is one of a command's own.
+/// Whether an option with a value wasn't given, or is one of a command's own.
+#[tactic(auto, using(crate::proofs::Names::listed_names))]
+fn is_own(matches: &ArgMatches, own: &[&str], name: &str) -> bool
+    ensures { result ≡ spec.is_own (rows_of (found_of matches.now)) (map (λ n. n.now) own.now) name.now }
+{
+    text_of(matches, name).is_none() || is_listed(own, name)
+}
+
+/// Whether an option without a value wasn't given, or is one of a command's own.
+#[tactic(auto, using(crate::proofs::Names::listed_names))]
+fn is_own_flag(matches: &ArgMatches, own: &[&str], name: &str) -> bool
+    ensures { result ≡ spec.is_own_flag (rows_of (found_of matches.now)) (map (λ n. n.now) own.now) name.now }
+{
+    !is_set(matches, name) || is_listed(own, name)
+}
+
+/// Whether each of these options with a value that was given is one of a command's own.
 fn are_own(matches: &ArgMatches, own: &[&str], names: &[&str]) -> bool
-    ensures { result ≡ list_all (spec.is_own (rows_of (found_of matches.now)) (map (λ n. n.now) own.now)) (map (λ n. n.now) names.now) }
+    ensures { result ≡ list_all (λ n. spec.is_own (rows_of (found_of matches.now)) (map (λ n. n.now) own.now) n.now) names.now }
 {
-    for name in names {
-        if text_of(matches, name).is_some() && !is_listed(own, name) {
-            return false;
-        }
-    }
-    true
+    names.iter().all(|name| is_own(matches, own, name))
 }
 
-/// Whether each of the options without a value that was given is one of a command's own.
+/// Whether each of these options without a value that was given is one of a command's own.
 fn are_own_flags(matches: &ArgMatches, own: &[&str], names: &[&str]) -> bool
-    ensures { result ≡ list_all (spec.is_own_flag (rows_of (found_of matches.now)) (map (λ n. n.now) own.now)) (map (λ n. n.now) names.now) }
+    ensures { result ≡ list_all (λ n. spec.is_own_flag (rows_of (found_of matches.now)) (map (λ n. n.now) own.now) n.now) names.now }
 {
-    for name in names {
-        if is_set(matches, name) && !is_listed(own, name) {
-            return false;
-        }
-    }
-    true
+    names.iter().all(|name| is_own_flag(matches, own, name))
 }
 
 /// The options with a value.
@@ -133,9 +150,16 @@ pub fn option_names() -> &'static [&'static str]
     ]
 }
 
+/// The options without a value.
+pub fn flag_names() -> &'static [&'static str]
+    ensures { map (λ n. n.now) result.now ≡ spec.flag_names }
+{
+    &["csv", "alone"]
+}
+
 /// Whether each option that was given is one of a command's own.
 pub fn has_only(matches: &ArgMatches, own: &[&str]) -> bool
     ensures { result ≡ spec.has_only (rows_of (found_of matches.now)) (map (λ n. n.now) own.now) }
 {
-    are_own(matches, own, option_names()) && are_own_flags(matches, own, &["csv", "alone"])
+    are_own(matches, own, option_names()) && are_own_flags(matches, own, flag_names())
 }

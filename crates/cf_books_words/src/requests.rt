@@ -1,11 +1,11 @@
 //! The request that a parse found.
 
-ghost use Rattle.std.specs.Prelude.{◌≡◌, ◌≤◌, IfOk, option_map, result_map};
+ghost use Rattle.std.specs.Prelude.{◌≡◌, ◌≤◌, IfOk, option_map};
 ghost use Rattle.clap.specs.Words.{first_of, found_of, rows_of};
 ghost use Rattle.cf_base.specs.Limits.{most_entries};
 ghost use Rattle.cf_books_words.specs.Ranges.{IsInRange, IsOptionDay, IsOptionFrom, IsRequestInRange};
 ghost use Rattle.cf_books_words.specs.Requests as spec;
-ghost use Rattle.cf_books_words.specs.Words.{Gives};
+ghost use Rattle.cf_books_words.specs.Words.{Gives, texts};
 
 use crate::command_word::{CommandWord, options_of, word_named, words_of};
 use crate::found::{
@@ -18,11 +18,8 @@ use cf_base::MOST_ENTRIES;
 use clap::ArgMatches;
 
 /// The file, where no more words follow.
-fn last_word<'a>(
-    file: Option<&'a str>,
-    more: Option<&str>,
-) -> Result<Option<&'a str>, WordsRefused>
-    ensures { result_map (option_map (λ t. t.now)) result ≡ spec.last_word (option_map (λ t. t.now) file.entry) (option_map (λ t. t.now) more.entry) }
+fn last_word<'a>(file: Option<&'a str>, more: Option<&str>) -> Result<Option<&'a str>, WordsRefused>
+    ensures { texts result ≡ spec.last_word (option_map (λ t. t.now) file.entry) (option_map (λ t. t.now) more.entry) }
 {
     match more {
         None => Ok(file),
@@ -31,12 +28,9 @@ fn last_word<'a>(
 }
 
 /// The file behind a command's own words, of which there are so many.
-fn file_behind<'a>(
-    matches: &ArgMatches<'a>,
-    words: u8,
-) -> Result<Option<&'a str>, WordsRefused>
+fn file_behind<'a>(matches: &ArgMatches<'a>, words: u8) -> Result<Option<&'a str>, WordsRefused>
     requires { words ≤ 2 }
-    ensures { result_map (option_map (λ t. t.now)) result ≡ spec.file_behind words (rows_of (found_of matches.now)) }
+    ensures { texts result ≡ spec.file_behind words (rows_of (found_of matches.now)) }
 {
     match words {
         0 => last_word(text_of(matches, "first"), text_of(matches, "second")),

@@ -1,6 +1,6 @@
 //! What the words ask for.
 
-ghost use Rattle.std.specs.Prelude.{◌≡◌, ◌⊎◌, IfOk, false, foldl, map, string_bytes};
+ghost use Rattle.std.specs.Prelude.{◌≡◌, ◌⊎◌, IfOk, false, fold, map, string_bytes};
 ghost use Rattle.clap.specs.Words.{app_of, kind_of, with_rule};
 ghost use Rattle.clap.specs.declared.Command.TheViews.{out-Command as fields_of};
 ghost use Rattle.cf_books_words.specs.CommandLine as line;
@@ -209,18 +209,10 @@ fn places<'a>(alloc: Global) -> Result<Parser<'a>, AllocError>
 }
 
 /// A parser with an option without a value more.
-fn with_flag<'a>(
-    alloc: Global,
-    parser: Parser<'a>,
-    name: &'a str,
-) -> Result<Parser<'a>, AllocError>
+fn with_flag<'a>(alloc: Global, parser: Parser<'a>, name: &'a str) -> Result<Parser<'a>, AllocError>
     ensures { IfOk result (λ p. app_of p ≡ with_rule (app_of parser.entry) (flag_rule name.entry.now)) }
 {
-    parser.arg(
-        Arg::new(alloc, name)
-            .long(name)
-            .action(ArgAction::SetTrue),
-    )
+    parser.arg(Arg::new(alloc, name).long(name).action(ArgAction::SetTrue))
 }
 
 /// A command, up to three words behind it, and the options without a value.
@@ -249,7 +241,7 @@ fn with_options<'a>(
     parser: Parser<'a>,
     names: &'a [&'a str],
 ) -> Result<Parser<'a>, AllocError>
-    ensures { IfOk result (λ p. app_of p ≡ foldl with_rule (app_of parser.entry) (map option_rule (map (λ n. n.now) names.entry.now))) }
+    ensures { IfOk result (λ p. app_of p ≡ fold with_rule (app_of parser.entry) (map option_rule (map (λ n. n.now) names.entry.now))) }
 {
     let mut parser = parser;
     for name in names {

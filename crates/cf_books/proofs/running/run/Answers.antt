@@ -2,7 +2,8 @@ use Rattle.std.proofs.Common.{◌≡◌, ◌∙◌, List, ℕ, ap, sym, subst}
 use Rattle.std.specs.Io.KnownBytes.{Appends}
 use Rattle.cf_desk.specs.Sinks.{Wrote}
 use Rattle.cf_books.specs.Answers.{AreLeft, IsBeside, reads_journal, said_with}
-use Rattle.cf_books.proofs.Ends.{IsNoFault, are_left, few, gave_ends, no_fault_with}
+use Rattle.cf_books_words.specs.Words.{asks}
+use Rattle.cf_books.proofs.Ends.{Fits, are_left, few, fit_with, gave_ends}
 use Rattle.cf_books.proofs.running.run.Goals as goal
 
 pub returns-in-Ok-write_all-clause-ends : goal.returns-in-Ok-write_all-clause-ends
@@ -13,15 +14,15 @@ returns-in-Ok-write_all-clause-ends g c =
     let held' = g.K.Sink.held c.write_all.new.sink in
     let bytes = c.as_slice.result.now in
     let journal = c.as_slice-2.result.now in
-    let answer = c.in-Ok-answer_of.ensures in
-    let out : (said_with c.args.command bytes journal).out ≡ c.as_slice-3.result.now = ap (λ x. x.out) answer ∙ sym c.as_slice-3.ensures.value in
-    gave_ends c.args.command left beside held held' c.in-Ok-answer_of.answer.status
+    let answer = c.in-Ok-answer_of.ensures.answer in
+    let out : (said_with (asks c.args.request) bytes journal).out ≡ c.as_slice-3.result.now = ap (λ x. x.out) answer ∙ sym c.as_slice-3.ensures.value in
+    gave_ends (asks c.args.request) left beside held held' c.in-Ok-answer_of.answer.status
     (record {
       inputs = record {
         bytes = bytes;
         journal = journal;
         all = subst (AreLeft left) (sym c.as_slice.ensures.value) (are_left _ left _ _ c.in-Ok.ensures.ok (few c.in-Ok.bytes));
-        whole = subst (IsBeside (reads_journal c.args.command) beside) (sym c.as_slice-2.ensures.value) c.in-Ok-read_beside.ensures.ok;
+        whole = subst (IsBeside (reads_journal c.args.request.command) beside) (sym c.as_slice-2.ensures.value) c.in-Ok-read_beside.ensures.ok;
       };
       is = ap (λ x. x.status) answer;
       put = subst (λ (t : List ℕ). Appends held held' t) (sym out) c.in-Ok-write_all.ensures.ok;
@@ -35,15 +36,15 @@ returns-clause-ends g c =
     let held' = g.K.Sink.held c.write_all.new.sink in
     let bytes = c.as_slice.result.now in
     let journal = c.as_slice-2.result.now in
-    let answer = c.in-Ok-answer_of.ensures in
-    let out : (said_with c.args.command bytes journal).out ≡ c.as_slice-3.result.now = ap (λ x. x.out) answer ∙ sym c.as_slice-3.ensures.value in
+    let answer = c.in-Ok-answer_of.ensures.answer in
+    let out : (said_with (asks c.args.request) bytes journal).out ≡ c.as_slice-3.result.now = ap (λ x. x.out) answer ∙ sym c.as_slice-3.ensures.value in
     let front = c.in-Err.ensures.err in
     record {
       inputs = record {
         bytes = bytes;
         journal = journal;
         all = subst (AreLeft left) (sym c.as_slice.ensures.value) (are_left _ left _ _ c.in-Ok.ensures.ok (few c.in-Ok.bytes));
-        whole = subst (IsBeside (reads_journal c.args.command) beside) (sym c.as_slice-2.ensures.value) c.in-Ok-read_beside.ensures.ok;
+        whole = subst (IsBeside (reads_journal c.args.request.command) beside) (sym c.as_slice-2.ensures.value) c.in-Ok-read_beside.ensures.ok;
       };
       rest = front.0;
       put = subst (λ (t : List ℕ). Wrote held held' t front.0) (sym out) front.1;
@@ -51,8 +52,12 @@ returns-clause-ends g c =
 
 pub returns-in-Ok-write_all-clause-read : goal.returns-in-Ok-write_all-clause-read
 returns-in-Ok-write_all-clause-read g c = λ e.
-    absurd (subst IsNoFault (ap (λ x. x.status) c.in-Ok-answer_of.ensures ∙ e) (no_fault_with c.args.command c.as_slice.result.now c.as_slice-2.result.now))
+    let bytes = c.as_slice.result.now in
+    let journal = c.as_slice-2.result.now in
+    absurd (subst (Fits (said_with (asks c.args.request) bytes journal).out) (ap (λ x. x.status) c.in-Ok-answer_of.ensures.answer ∙ e) (fit_with (asks c.args.request) bytes journal))
 
 pub returns-in-Ok-write_all-clause-write : goal.returns-in-Ok-write_all-clause-write
 returns-in-Ok-write_all-clause-write g c = λ e.
-    absurd (subst IsNoFault (ap (λ x. x.status) c.in-Ok-answer_of.ensures ∙ e) (no_fault_with c.args.command c.as_slice.result.now c.as_slice-2.result.now))
+    let bytes = c.as_slice.result.now in
+    let journal = c.as_slice-2.result.now in
+    absurd (subst (Fits (said_with (asks c.args.request) bytes journal).out) (ap (λ x. x.status) c.in-Ok-answer_of.ensures.answer ∙ e) (fit_with (asks c.args.request) bytes journal))

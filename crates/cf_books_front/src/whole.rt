@@ -5,8 +5,8 @@ ghost use Rattle.std.specs.List.{All};
 ghost use Rattle.cf_journal.specs.Frames.{frames};
 ghost use Rattle.cf_journal.specs.Records.{HasRecord};
 ghost use Rattle.cf_journal.specs.declared.refused.OpenRefused.TheVariants as refused;
-ghost use Rattle.cf_books.specs.Whole as spec;
-ghost use Rattle.cf_books.specs.Whole.{ReadsFrames, ReadsWhole};
+ghost use Rattle.cf_books_front.specs.Whole as spec;
+ghost use Rattle.cf_books_front.specs.Whole.{Lies, LiesWhole, ReadsFrames, ReadsWhole};
 
 use cf_calls::Entry;
 use cf_disk::MemDisk;
@@ -26,6 +26,7 @@ pub struct Whole {
 pub fn read_frames(alloc: Global, bytes: Vec<u8>) -> Result<(Vec<u8>, Vec<Entry>), OpenRefused>
     ensures answer { ReadsFrames result (frames bytes.items) }
     ensures records { IfOk result (λ x. All HasRecord x.1.items) }
+    ensures lies { IfOk result (λ x. Lies x.0.items x.1.items bytes.items) }
 {
     let mut disk = MemDisk::new(alloc, bytes)?;
     let Opened { bytes, entries, .. } = open(alloc, &mut disk)?;
@@ -33,10 +34,10 @@ pub fn read_frames(alloc: Global, bytes: Vec<u8>) -> Result<(Vec<u8>, Vec<Entry>
 }
 
 /// The bytes before a place, with a closed gate there.
-fn before(alloc: Global, at: u64, bytes: &[u8]) -> Result<Vec<u8>, AllocError>
+pub(crate) fn before(alloc: Global, at: u128, bytes: &[u8]) -> Result<Vec<u8>, AllocError>
     ensures { IfOk result (λ v. v.items ≡ spec.before at bytes.now) }
 {
-    let len = (at as usize).min(bytes.len());
+    let len = at.min(bytes.len() as u128) as usize;
     let mut front = Vec::from_slice(alloc, &bytes[..len])?;
     front.push(0)?;
     Ok(front)
@@ -46,8 +47,9 @@ fn before(alloc: Global, at: u64, bytes: &[u8]) -> Result<Vec<u8>, AllocError>
 fn read_before(alloc: Global, at: u64, bytes: &[u8]) -> Result<Whole, OpenRefused>
     ensures answer { ReadsWhole result (spec.parts_or (Some at) (refused.Damaged at) (frames (spec.before at bytes.now))) }
     ensures records { IfOk result (λ w. All HasRecord w.entries.items) }
+    ensures lies { IfOk result (λ w. LiesWhole w bytes.now) }
 {
-    let front = before(alloc, at, bytes)?;
+    let front = before(alloc, u128::from(at), bytes)?;
     match read_frames(alloc, front) {
         Ok((chart, entries)) => Ok(Whole {
             chart,
@@ -65,6 +67,7 @@ fn read_before(alloc: Global, at: u64, bytes: &[u8]) -> Result<Whole, OpenRefuse
 pub fn read_whole(alloc: Global, bytes: &[u8]) -> Result<Whole, OpenRefused>
     ensures answer { ReadsWhole result (spec.whole_of bytes.now) }
     ensures records { IfOk result (λ w. All HasRecord w.entries.items) }
+    ensures lies { IfOk result (λ w. LiesWhole w bytes.now) }
 {
     let copy = Vec::from_slice(alloc, bytes)?;
     match read_frames(alloc, copy) {

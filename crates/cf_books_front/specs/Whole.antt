@@ -2,8 +2,9 @@
 use Rattle.std.specs.Prelude.{◌≡◌, ⊤, ℕ, List, [], ◌∷◌, ◌++◌, take, Option, Some, None, Vec, Result, Ok, Err}
 use Rattle.std.specs.declared.alloc.Global.{Global}
 use Rattle.cf_calls.specs.declared.entry.Entry.{Entry}
-use Rattle.cf_books.specs.declared.whole.Whole.{Whole}
+use Rattle.cf_books_front.specs.declared.whole.Whole.{Whole}
 use Rattle.cf_journal.specs.Frames.{frames}
+use Rattle.cf_journal.specs.Layout.{IsAtRest, IsValid}
 use Rattle.cf_journal.specs.declared.refused.OpenRefused.{OpenRefused}
 use Rattle.cf_journal.specs.declared.refused.OpenRefused.TheVariants.{Damaged, Disk, NoMemory}
 
@@ -31,6 +32,19 @@ or_before bytes (Err e) = Err e
 abbrev pub whole_of : List ℕ → Result Parts OpenRefused
 whole_of bytes = or_before bytes (frames bytes)
 
+-- ---- how they lie in the bytes
+
+-- the chart and the records of the entries stand in front of a closed gate
+pub record Lies (chart : List ℕ) (entries : List Entry) (image : List ℕ) : Type 0 where
+  pub version : ℕ
+  pub valid : IsValid version chart entries
+  pub rest : IsAtRest version chart entries image
+
+-- the bytes that are whole, up to the damage where there is one
+abbrev pub whole_bytes : Option ℕ → List ℕ → List ℕ
+whole_bytes None bytes = bytes
+whole_bytes (Some at) bytes = before at bytes
+
 -- ---- answers, where want of memory is free
 
 abbrev pub ReadsFrames : Result (Vec ℕ Global × Vec Entry Global) OpenRefused → Result (List ℕ × List Entry) OpenRefused → Type 0
@@ -41,6 +55,9 @@ ReadsFrames (Err e) frames = frames ≡ Err e
 
 abbrev pub parts : Whole → Parts
 parts w = record { chart = w.chart.items; entries = w.entries.items; damage = w.damage }
+
+abbrev pub LiesWhole : Whole → List ℕ → Type 0
+LiesWhole w bytes = Lies w.chart.items w.entries.items (whole_bytes w.damage bytes)
 
 abbrev pub ReadsWhole : Result Whole OpenRefused → Result Parts OpenRefused → Type 0
 ReadsWhole (Ok w) x = x ≡ Ok (parts w)
