@@ -40,12 +40,12 @@ legal_at plan seen (x ∷ later) (suc n) e legal is =
 
 module _ {D : Type 0} (device : Device D) where
   -- a book whose history a legal one continues refuses none of that at its place
-  pub behind_of : (start : DurableBook D) (whole : List Entry) → Continues start whole → IsBehind (book_office device) start whole
-  behind_of start whole on = record { frames = All-weaker HasRecord HasFrame framed whole on.records; front = on.front; takes = takes }
+  pub behind_of : (start : DurableBook D) (whole : List Entry) → start.doubt ≡ None → Continues start whole → IsBehind (book_office device) start whole
+  behind_of start whole clear on = record { frames = All-weaker HasRecord HasFrame framed whole on.records; front = on.front; takes = takes }
     where
-      takes : (f : DurableBook D) (e : Entry) → IsReached device start f → f.entries ≡ take (length f.entries) whole → slice_get whole (length f.entries) ≡ Some e → entry_refusal f.plan f.entries e ≡ None
+      takes : (f : DurableBook D) (e : Entry) → IsReached device start f None → f.entries ≡ take (length f.entries) whole → slice_get whole (length f.entries) ≡ Some e → entry_refusal f.plan f.entries e ≡ None
       takes f e reached front is =
-          let since = reached_since device start f reached in
+          let since = reached_since device start f None clear reached in
           let adds : Adds start.plan (take (length f.entries) whole) e = legal_at start.plan [] whole (length f.entries) e on.legal is in
           added_again f.plan f.entries e (subst (λ (p : Plan). Adds p f.entries e) (sym since.plan) (subst (λ (h : List Entry). Adds start.plan h e) (sym front) adds))
 

@@ -1,6 +1,7 @@
 -- A run of `ship`.
 use Rattle.std.proofs.Common.{◌≡◌, ℕ, ◌≤◌, nat_le, List, length, Option, IsTrue, Ok, ap, sym, subst, ◌∙◌, inl, inr}
 use Rattle.std.proofs.lemmas.Bool.{leb-true}
+use Rattle.cf_articulation.specs.Articulates.{AllArticulate}
 use Rattle.cf_book.specs.declared.refused.BookRefused.{BookRefused}
 use Rattle.cf_book.specs.declared.refused.BookRefused.TheVariants as refused
 use Rattle.cf_book.specs.DurableState.{DurableBook}
@@ -12,7 +13,9 @@ use Rattle.cf_chart.specs.Plan.{Plan}
 use Rattle.cf_chart.specs.Reading.{chart_of}
 use Rattle.cf_chart.specs.declared.fault.ChartFault.TheVariants.{TooLong}
 use Rattle.cf_chart.proofs.Steps.{bind_ok, must_ok}
+use Rattle.cf_closed.specs.ClosedYears.{ClosedYearsStay}
 use Rattle.cf_journal.specs.Frames.{frames}
+use Rattle.cf_model.specs.State.{IsSoundState}
 use Rattle.cf_stream.specs.Readings.{Ships}
 use Rattle.cf_stream.specs.Streams.{stream_of}
 use Rattle.cf_stream.specs.declared.shipping.ShipEnd.{ShipEnd}
@@ -52,10 +55,10 @@ module _ {D : Type 0} (device : Device D) (from : ℕ) (old : D) (held held' : O
 
   -- the stream of the opened book was shipped
   pub ship_ends : (chart : List ℕ) (book : DurableBook D) (new : D) (how : ShipEnd) → IsOpened device old chart book → new ≡ book.disk
-      → Ships (stream_of chart book.entries from) held held' how → ShipEnds device from old new held held' (status_of_shipped how)
-  ship_ends chart book new how opened same ships = (
+      → IsSoundState (record { plan = book.plan; entries = book.entries }) → ClosedYearsStay book.plan book.entries → AllArticulate book.plan book.entries → Ships (stream_of chart book.entries from) held held' how → ShipEnds device from old new held held' (status_of_shipped how)
+  ship_ends chart book new how opened same sound closed articulates ships = (
     subst (IsUnwritten device old) (sym same) opened.unwritten,
-    says new how (record { chart = chart; book = book; opened = opened; same = same; ships = ships }),
+    says new how (record { chart = chart; book = book; opened = opened; same = same; sound = sound; closed = closed; articulates = articulates; ships = ships }),
     λ fine. ap device.faults same ∙ opened.quiet,
   )
 

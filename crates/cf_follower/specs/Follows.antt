@@ -1,5 +1,5 @@
 -- What a run of `follow` says, by its status.
-use Rattle.std.specs.Prelude.{◌≡◌, ◌≢◌, ◌⊎◌, ◌≤◌, ℕ, List, [], ◌∷◌, ◌++◌, All, codes, decimal, length, take, Option, IsTrue, Some, Err}
+use Rattle.std.specs.Prelude.{◌≡◌, ◌≢◌, ◌⊎◌, ◌≤◌, ℕ, List, [], ◌∷◌, ◌++◌, All, codes, decimal, length, take, Option, IfSome, IsTrue, Some, Err}
 use Rattle.std.specs.Io.KnownBytes.{Consumes}
 use Rattle.cf_articulation.specs.Articulates.{AllArticulate}
 use Rattle.cf_book.specs.Books.{RecoversNear}
@@ -9,7 +9,7 @@ use Rattle.cf_book.specs.declared.refused.BookRefused.{BookRefused}
 use Rattle.cf_book.specs.declared.refused.BookRefused.TheVariants as refused
 use Rattle.cf_calls.specs.declared.entry.Entry.{Entry}
 use Rattle.cf_closed.specs.ClosedYears.{ClosedYearsStay}
-use Rattle.cf_follow.specs.Following.{FollowEnds}
+use Rattle.cf_follow.specs.Following.{FollowEnds, failed_in}
 use Rattle.cf_follow.specs.Laws.{IsCopy, IsShipped}
 use Rattle.cf_follow.specs.declared.end.FollowEnd.{FollowEnd}
 use Rattle.cf_follow.specs.declared.end.FollowEnd.TheVariants as end
@@ -38,18 +38,21 @@ pub record Continues {D : Type 0} (book : DurableBook D) (whole : List Entry) : 
 -- A book of this chart followed the stream to this last one, whose history is the first one, or that with the stream's
 -- entries of later places, as far as the end says. Where the stream was shipped from a history that continues the first one,
 -- the last one is a front of that too, no entry was found to differ, and none was refused. Whatever a crash leaves of the
--- disk then recovers to the last history, or to it and the entry in doubt.
+-- disk then recovers to the last history, or to it and the entry in doubt, and that is sound too. At each moment of the run
+-- it recovers to a front of the last history that has the first one, or to the last history and one entry: that of the
+-- stream's record at which the disk failed. So is the entry in doubt.
 pub record Copied {D : Type 0} (device : Device D) (chart : List ℕ) (start last : DurableBook D) (new : D) (left left' : Option (List ℕ)) (how : FollowEnd) : Type 0 where
   pub ends : FollowEnds (book_office device) chart start last left left' how
   pub copies : (whole : List Entry) → Continues start whole → IsShipped chart whole left → IsCopy (book_office device) whole last how
   pub unfaulted : (whole : List Entry) → Continues start whole → (s : IsShipped chart whole left) → s.lost ≡ [] → length chart ≤ most_chart → (offset : ℕ) → how ≢ end.StreamFault offset
   pub still : last.entries ≡ start.entries → how ≢ end.DiskFault → last ≡ start
-  pub since : IsSince device start last
+  pub since : IsSince device start last (failed_in ends)
   pub disk : new ≡ last.disk
   pub sound : IsSoundState (record { plan = last.plan; entries = last.entries })
   pub closed : ClosedYearsStay last.plan last.entries
   pub articulates : AllArticulate last.plan last.entries
   pub images : IsTrue device.tells → (image : List ℕ) → device.is_image new image → RecoversNear last.plan last.entries (λ e. last.doubt ≡ Some e) image
+  pub doubt_sound : IfSome last.doubt (λ e. IsSoundState (record { plan = last.plan; entries = last.entries ++ e ∷ [] }))
 
 -- the journal was opened, and its book followed the stream
 pub record Followed {D : Type 0} (device : Device D) (old new : D) (left left' : Option (List ℕ)) (how : FollowEnd) : Type 0 where

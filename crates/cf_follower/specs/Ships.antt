@@ -1,10 +1,13 @@
 -- What a run of `ship` says, by its status.
 use Rattle.std.specs.Prelude.{◌≡◌, ◌≢◌, ◌⊎◌, ℕ, List, Option, IsTrue, None, Ok, Err}
+use Rattle.cf_articulation.specs.Articulates.{AllArticulate}
 use Rattle.cf_book.specs.DurableState.{DurableBook}
 use Rattle.cf_book.specs.Recovery.{recovered, RecoversTo}
 use Rattle.cf_book.specs.declared.refused.BookRefused.TheVariants as refused
 use Rattle.cf_chart.specs.Reading.{chart_of}
+use Rattle.cf_closed.specs.ClosedYears.{ClosedYearsStay}
 use Rattle.cf_journal.specs.Frames.{frames}
+use Rattle.cf_model.specs.State.{IsSoundState}
 use Rattle.cf_stream.specs.Readings.{Ships}
 use Rattle.cf_stream.specs.Streams.{stream_of}
 use Rattle.cf_stream.specs.declared.shipping.ShipEnd.{ShipEnd}
@@ -24,12 +27,16 @@ pub record IsOpened {D : Type 0} (device : Device D) (old : D) (chart : List ℕ
   pub unwritten : IsUnwritten device old book.disk
   pub quiet : device.faults book.disk ≡ device.faults old
 
--- the stream of the chart and the history that the disk's content recovers to went to the output, or a front of it
+-- The stream of the chart and the history that the disk's content recovers to went to the output, or a front of it. That
+-- history is sound, no entry of it posts to a closed fiscal year, and its statements articulate.
 pub record Shipped {D : Type 0} (device : Device D) (from : ℕ) (old new : D) (held held' : Option (List ℕ)) (how : ShipEnd) : Type 0 where
   pub chart : List ℕ
   pub book : DurableBook D
   pub opened : IsOpened device old chart book
   pub same : new ≡ book.disk
+  pub sound : IsSoundState (record { plan = book.plan; entries = book.entries })
+  pub closed : ClosedYearsStay book.plan book.entries
+  pub articulates : AllArticulate book.plan book.entries
   pub ships : Ships (stream_of chart book.entries from) held held' how
 
 abbrev pub ShipSays : {D : Type 0} → Device D → ℕ → D → D → Option (List ℕ) → Option (List ℕ) → Status → Type 0

@@ -1,6 +1,6 @@
 //! The run of `follow`.
 
-ghost use Rattle.std.specs.Prelude.{◌≡◌, ◌≢◌, ◌⊎◌, Some, IfOk, length, map, string_bytes};
+ghost use Rattle.std.specs.Prelude.{◌≡◌, ◌≢◌, ◌⊎◌, Some, None, IfOk, length, map, string_bytes};
 ghost use Rattle.cf_base.specs.Causes.{Rose};
 ghost use Rattle.cf_book.specs.DurableState.{DurableBook};
 ghost use Rattle.cf_follow.specs.Steps.{IsReadCause};
@@ -47,13 +47,14 @@ fn followed_bytes(alloc: Global, count: u64) -> Result<Vec<u8>, AllocError>
     Ok(text)
 }
 
-/// Has a book of this chart follow the stream, and gives its disk back, with how many entries there are then.
+/// Has a book of this chart, with nothing in doubt, follow the stream, and gives its disk back, with how many entries there are then.
 fn keep_copy<I: Source, D: Disk + Drop>(
     alloc: Global,
     book: Book<D>,
     chart: &[u8],
     input: &mut I,
 ) -> (FollowEnd, u64, D)
+    requires clear { book.doubt ≡ None }
     ensures copied { (last : DurableBook D) × Copied (device D.tells D.content D.is_image D.moment D.was_image D.faults) chart.now book last result.2 (I.left input.old) (I.left input.new) result.0
         × (result.1 ≡ length last.entries) }
     ensures cause { IsReadCause (I.faults input.old) (I.faults input.new) result.0 }

@@ -14,7 +14,7 @@ returns-in-Ok-clause-ends g c =
     c.as_slice.ensures.value c.entries.ensures.value c.from.ensures c.ship-how.ensures.ships in
     rw c.status_of.ensures
     (ship_ends d c.args.from c.args.disk (g.O.Sink.held c.args.out.now) (g.O.Sink.held c.ship-how.new.out) c.in-Ok.chart.items c.in-Ok.book c.close.result c.ship-how.result
-    (opened_by d c.args.disk c.in-Ok.chart.items c.in-Ok.book c.in-Ok.ensures.ok c.in-Ok.ensures.stated c.in-Ok.ensures.bytes) c.close.ensures.disk ships)
+    (opened_by d c.args.disk c.in-Ok.chart.items c.in-Ok.book c.in-Ok.ensures.ok c.in-Ok.ensures.stated c.in-Ok.ensures.bytes) c.close.ensures.disk c.close.ensures.sound c.close.ensures.closed c.close.ensures.articulates ships)
 
 pub returns-in-Err-clause-ends : goal.returns-in-Err-clause-ends
 returns-in-Err-clause-ends g c =

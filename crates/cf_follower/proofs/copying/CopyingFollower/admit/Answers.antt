@@ -1,6 +1,5 @@
 use Rattle.cf_runs.specs.Devices.{device}
-use Rattle.cf_follower.specs.Copies.{IsReached}
-use Rattle.cf_follower.proofs.Admitted.{admits_as, since_admitted}
+use Rattle.cf_follower.proofs.Admitted.{admits_as}
 use Rattle.cf_follower.proofs.copying.CopyingFollower.admit.Goals as goal
 
 pub returns-clause-admits : goal.returns-clause-admits
@@ -8,11 +7,4 @@ returns-clause-admits g c =
     let b = c.self.inside in
     let d = device g.D.Disk.tells g.D.Disk.content g.D.Disk.is_image g.D.Disk.moment g.D.Disk.was_image g.D.Disk.faults in
     let a = c.admit-said in
-    rw (← c.self.view_is, c.admission_of.ensures) (admits_as d b.book a.new.self c.args.entry a.result a.ensures.admits a.ensures.refused a.ensures.memory)
-
-pub returns-clause-since : goal.returns-clause-since
-returns-clause-since g c =
-    let b = c.self.inside in
-    let d = device g.D.Disk.tells g.D.Disk.content g.D.Disk.is_image g.D.Disk.moment g.D.Disk.was_image g.D.Disk.faults in
-    let a = c.admit-said in
-    rw (← c.self.view_is) (IsReached.more b.book b.book a.new.self (IsReached.here b.book) (since_admitted d b.book a.new.self c.args.entry _ a.ensures.any_moment a.result a.ensures.admits))
+    rw (← c.self.view_is, c.admission_of.ensures) (admits_as d b.book a.new.self c.args.entry c.requires a.ensures.any_moment a.result a.ensures.admits a.ensures.refused a.ensures.memory)
