@@ -19,8 +19,8 @@ const CHUNK: usize = 16_384;
 /// The room for a head, a body and one read.
 const ROOM: usize = 294_912;
 
-/// The memory that serving needs, but for what an answerer takes. It is taken once, before the first
-/// request.
+/// The memory that serving needs, but for what an answerer takes. It is taken once, before the
+/// first request.
 #[derive(Drop)]
 pub struct Workspace {
     pub routes: Routes,

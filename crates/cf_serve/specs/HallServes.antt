@@ -5,12 +5,13 @@ use Rattle.cf_book.specs.DurableState.{DurableBook}
 use Rattle.cf_calls.specs.declared.entry.Entry.{Entry}
 use Rattle.cf_chart.specs.Plan.{Plan}
 use Rattle.cf_hall.specs.Fronts.{IsUnacknowledged, KeptSince}
-use Rattle.cf_http.specs.Doors.{Tells}
+use Rattle.cf_http.specs.Doors.{DoorTells}
+use Rattle.cf_http.specs.Links.{LinkTells}
 use Rattle.cf_model.specs.State.{IsSoundState}
 use Rattle.cf_serve.specs.declared.end.ServeEnd.{ServeEnd}
 use Rattle.cf_serve.specs.declared.end.ServeEnd.TheVariants.{Served, DoorFailed, NoMemory}
 use Rattle.cf_talk.specs.ServeEnds.{AllQuiet, SomeRose, links_given}
-use Rattle.cf_talk.specs.ServeRuns.{DoorState, ServeRan, failed_said, faults_said}
+use Rattle.cf_talk.specs.ServeRuns.{ServeRan, failed_said, faults_said}
 
 -- what a disk tells
 pub record DiskTells (D : Type 0) : Type 1 where
@@ -30,7 +31,7 @@ pub record IsKeptOn {D : Type 0} (device : DiskTells D) (plan : Plan) (history :
 -- answered by a fault of the disk, nothing came in doubt. At each moment since then a crash left what recovers to a front of the
 -- last history that has the book's, or to that and one entry. That, as the entry in doubt, was in doubt before, or is the entry
 -- of a call of the doors' talks that was answered by a fault of the disk, and that the step accepts there.
-pub record HallRan {D L : Type 0} (device : DiskTells D) (tells : Tells L) (known : Bool) (links : ℕ) (book : DurableBook D) (disk : D) (olds news : List (DoorState L)) (given : ℕ) : Type 0 where
+pub record HallRan {D L : Type 0} (device : DiskTells D) (tells : L → LinkTells) (known : Bool) (links : ℕ) (book : DurableBook D) (disk : D) (olds news : List (DoorTells L)) (given : ℕ) : Type 0 where
   pub last : List Entry
   pub ran : ServeRan tells known book.plan book.entries last links (device.faults book.disk) (device.faults disk) olds news
   pub kept : IsKeptOn device book.plan last disk
@@ -41,10 +42,10 @@ pub record HallRan {D L : Type 0} (device : DiskTells D) (tells : Tells L) (know
 
 -- The doors were served and none failed; or one failed, whose count rose; or there was no memory, and the doors and the disk
 -- are as they were, and no link was given.
-abbrev pub Serves : {D L : Type 0} → DiskTells D → Tells L → Bool → ℕ → DurableBook D → D → List (DoorState L) → List (DoorState L) → ℕ → ServeEnd → Type 0
-Serves device tells known links book disk olds news given Served = HallRan device tells known links book disk olds news given × AllQuiet olds news
-Serves device tells known links book disk olds news given DoorFailed = HallRan device tells known links book disk olds news given × SomeRose olds news
-Serves device tells known links book disk olds news given NoMemory = (news ≡ olds) × (disk ≡ book.disk) × (given ≡ 0)
+abbrev pub ServesDoors : {D L : Type 0} → DiskTells D → (L → LinkTells) → Bool → ℕ → DurableBook D → D → List (DoorTells L) → List (DoorTells L) → ℕ → ServeEnd → Type 0
+ServesDoors device tells known links book disk olds news given Served = HallRan device tells known links book disk olds news given × AllQuiet olds news
+ServesDoors device tells known links book disk olds news given DoorFailed = HallRan device tells known links book disk olds news given × SomeRose olds news
+ServesDoors device tells known links book disk olds news given NoMemory = (news ≡ olds) × (disk ≡ book.disk) × (given ≡ 0)
 
 -- how the service ended, where a door failed or none did
 abbrev pub end_by : Bool → ServeEnd

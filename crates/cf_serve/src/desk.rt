@@ -29,10 +29,7 @@ impl<'a, N: City, D: Disk + Drop, H: Wait, R: Door + Drop> Model for Desk<'a, N,
 
     ghost view = { λ d. record {
       pass = d.clerk;
-      finished = R.finished d.door;
-      given = R.given d.door;
-      coming = R.coming d.door;
-      faults = R.faults d.door;
+      door = R.tells d.door;
       end = d.end;
     } };
 }
@@ -40,8 +37,7 @@ impl<'a, N: City, D: Disk + Drop, H: Wait, R: Door + Drop> Model for Desk<'a, N,
 impl<'a, N: City, D: Disk + Drop, H: Wait, R: Door + Drop> Desk<'a, N, D, H, R> {
     /// Serves so many links of the door, one after another: fewer where none is left to come, or the door fails.
     pub fn keep(&mut self, alloc: Global, links: u32)
-        ensures { DeskKept (record { received = R.Link.received; sent = R.Link.sent; ended = R.Link.ended; reads = R.Link.reads; read_faults = R.Link.read_faults; write_faults = R.Link.write_faults })
-            R.tells N.plan links self.old self.new }
+        ensures { DeskKept R.Link.tells R.known N.plan links self.old self.new }
     {
         let how = serve_door(alloc, &mut self.door, links, &mut self.clerk);
         self.end = how;
@@ -59,8 +55,7 @@ pub fn keep_all<
 where
     R::Link: Send,
     requires { length desks.old.items < 2 ^ 32 }
-    ensures kept { EachKept (record { received = R.Link.received; sent = R.Link.sent; ended = R.Link.ended; reads = R.Link.reads; read_faults = R.Link.read_faults; write_faults = R.Link.write_faults })
-        R.tells N.plan links desks.old.items desks.new.items }
+    ensures kept { EachKept R.Link.tells R.known N.plan links desks.old.items desks.new.items }
     ensures many { length desks.new.items ≡ length desks.old.items }
 {
     let threads = desks.len() + 1;

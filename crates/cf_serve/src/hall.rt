@@ -3,8 +3,7 @@
 ghost use Rattle.std.specs.Prelude.{◌≡◌, ◌<◌, ◌≤◌, ℕ, length, map};
 ghost use Rattle.cf_hall.specs.OpeningNames.{name_at};
 ghost use Rattle.cf_serve.specs.HallServes as spec;
-ghost use Rattle.cf_serve.specs.HallServes.{Serves};
-ghost use Rattle.cf_talk.specs.ServeRuns.{door_state};
+ghost use Rattle.cf_serve.specs.HallServes.{ServesDoors};
 
 use crate::end::{HallServed, ServeEnd};
 use crate::rooms::Rooms;
@@ -61,10 +60,16 @@ where
     requires risen { D.faults book.disk ≡ N.risen }
     ensures many { length doors.new.items ≡ length doors.old.items }
     ensures untouched { result.end ≡ ServeEnd.NoMemory → doors.new.items ≡ doors.old.items }
-    ensures ends { Serves (record { tells = D.tells; is_image = D.is_image; moment = D.moment; was_image = D.was_image; faults = D.faults })
-        (record { received = R.Link.received; sent = R.Link.sent; ended = R.Link.ended; reads = R.Link.reads; read_faults = R.Link.read_faults; write_faults = R.Link.write_faults })
-        R.tells links book result.disk (map (door_state R.finished R.given R.coming R.faults) doors.old.items)
-        (map (door_state R.finished R.given R.coming R.faults) doors.new.items) result.links result.end }
+    ensures ends { ServesDoors
+        (record {
+          tells = D.tells;
+          is_image = D.is_image;
+          moment = D.moment;
+          was_image = D.was_image;
+          faults = D.faults;
+        })
+        R.Link.tells R.known links book result.disk (map R.tells doors.old.items)
+        (map R.tells doors.new.items) result.links result.end }
 {
     let Ok(rooms) = Rooms::<N, D, H, R>::new(alloc, doors.len()) else {
         return HallServed {

@@ -6,7 +6,7 @@ ghost use Rattle.std.specs.Vec.{vec_capacity};
 ghost use Rattle.cf_names.specs.Closing.{IsFreshPass};
 ghost use Rattle.cf_serve.specs.DesksRun.{DesksRan};
 ghost use Rattle.cf_talk.specs.Desks.{end_links, is_fault};
-ghost use Rattle.cf_talk.specs.ServeRuns.{door_of, door_state};
+ghost use Rattle.cf_talk.specs.ServeRuns.{door_of};
 
 use crate::clerk::Clerk;
 use crate::desk::{Desk, keep_all};
@@ -27,7 +27,7 @@ fn seat<'a, N: City, D: Disk + Drop, H: Wait, R: Door + Drop>(
     pass: HallPass<N>,
 ) -> Desk<'a, N, D, H, R>
     ensures pass { result.pass ≡ pass }
-    ensures door { door_of result ≡ door_state R.finished R.given R.coming R.faults door }
+    ensures door { door_of result ≡ R.tells door }
 {
     let clerk = Clerk {
         rt,
@@ -55,7 +55,7 @@ fn seat_all<'a, N: City, D: Disk + Drop, H: Wait, R: Door + Drop>(
     requires fresh { All (IsFreshPass N.first) passes.old.items }
     requires empty { desks.old.items ≡ [] }
     requires room { length doors.items ≤ vec_capacity desks.old }
-    ensures doors { map door_of desks.new.items ≡ map (door_state R.finished R.given R.coming R.faults) doors.items }
+    ensures doors { map door_of desks.new.items ≡ map R.tells doors.items }
     ensures many { length desks.new.items ≡ length doors.items }
     ensures fresh { All (λ d. IsFreshPass N.first d.pass) desks.new.items }
     ensures passes { passes.new.items ≡ [] }
@@ -114,7 +114,7 @@ fn links_given<'a, N: City, D: Disk + Drop, H: Wait, R: Door + Drop>(
 fn part<'a, N: City, D: Disk + Drop, H: Wait, R: Door + Drop>(
     desk: Desk<'a, N, D, H, R>,
 ) -> (R, HallPass<N>)
-    ensures door { door_state R.finished R.given R.coming R.faults result.0 ≡ door_of desk.entry }
+    ensures door { R.tells result.0 ≡ door_of desk.entry }
     ensures pass { result.1 ≡ desk.entry.pass }
 {
     let Desk { door, clerk, .. } = desk;
@@ -131,8 +131,9 @@ fn part_all<'a, N: City, D: Disk + Drop, H: Wait, R: Door + Drop>(
     requires empty { (doors.old.items ≡ []) × (passes.old.items ≡ []) }
     requires doors_room { length desks.items ≤ vec_capacity doors.old }
     requires passes_room { length desks.items ≤ vec_capacity passes.old }
-    ensures doors { map (door_state R.finished R.given R.coming R.faults) doors.new.items ≡ map door_of desks.entry.items }
-    ensures many { (length doors.new.items ≡ length desks.entry.items) × (length passes.new.items ≡ length desks.entry.items) }
+    ensures doors { map R.tells doors.new.items ≡ map door_of desks.entry.items }
+    ensures many { (length doors.new.items ≡ length desks.entry.items)
+        × (length passes.new.items ≡ length desks.entry.items) }
     ensures passes { passes.new.items ≡ map (λ d. d.pass) desks.entry.items }
 {
     for desk in desks {
@@ -176,10 +177,10 @@ where
     requires back_room { length doors.items ≤ vec_capacity back.old }
     requires passes_room { length doors.items ≤ vec_capacity passes.old }
     requires desks_room { length doors.items ≤ vec_capacity desks }
-    ensures many { (length back.new.items ≡ length doors.items) × (length passes.new.items ≡ length doors.items) }
-    ensures ran { DesksRan (record { received = R.Link.received; sent = R.Link.sent; ended = R.Link.ended; reads = R.Link.reads; read_faults = R.Link.read_faults; write_faults = R.Link.write_faults })
-        R.tells N.plan N.first links (map (door_state R.finished R.given R.coming R.faults) doors.items)
-        (map (door_state R.finished R.given R.coming R.faults) back.new.items) passes.new.items result.links result.failed }
+    ensures many { (length back.new.items ≡ length doors.items)
+        × (length passes.new.items ≡ length doors.items) }
+    ensures ran { DesksRan R.Link.tells R.known N.plan N.first links (map R.tells doors.items)
+        (map R.tells back.new.items) passes.new.items result.links result.failed }
 {
     seat_all(rt, alloc, shared, doors, passes, &mut desks);
     keep_all(rt, alloc, &mut desks, links);

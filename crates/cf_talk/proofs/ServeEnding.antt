@@ -6,7 +6,8 @@ use Rattle.cf_base.specs.Causes.{Rose}
 use Rattle.cf_chart.specs.Plan.{Plan}
 use Rattle.cf_http.specs.declared.end.DoorEnd.{DoorEnd}
 use Rattle.cf_http.specs.declared.end.DoorEnd.TheVariants.{Done, DoorFault}
-use Rattle.cf_http.specs.Doors.{Tells, IsEnough, IsQuiet}
+use Rattle.cf_http.specs.Doors.{IsEnough, IsQuiet}
+use Rattle.cf_http.specs.Links.{LinkTells}
 use Rattle.cf_turns.specs.Lists.{TaggedEntry}
 use Rattle.cf_talk.specs.Desks.{DeskState, end_links, is_fault}
 use Rattle.cf_talk.specs.ServeEnds.{AllQuiet, SomeRose, links_given}
@@ -36,14 +37,14 @@ either false b e = inr e
 
 -- ---- all doors
 
-module _ {L : Type 0} (tells : Tells L) (known : Bool) (plan : Plan) (first : ℕ) (list : List TaggedEntry) (links : ℕ) where
+module _ {L : Type 0} (tells : L → LinkTells) (known : Bool) (plan : Plan) (first : ℕ) (list : List TaggedEntry) (links : ℕ) where
   pub all_quiet : (olds news : List (DeskState L)) → AllKept tells known plan first list links olds news → list_any (λ (d : DeskState L). is_fault d.end) news ≡ false → AllQuiet (map door_of olds) (map door_of news)
   all_quiet [] [] all none = tt
   all_quiet [] (n ∷ news) all none = absurd all
   all_quiet (o ∷ olds) [] all none = absurd all
   all_quiet (o ∷ olds) (n ∷ news) all none =
       let split = neither (is_fault n.end) (list_any (λ (d : DeskState L). is_fault d.end) news) none in
-      (quiet_is o.faults n.faults n.end all.1.quiet split.0, all_quiet olds news all.3 split.1)
+      (quiet_is o.door.faults n.door.faults n.end all.1.quiet split.0, all_quiet olds news all.3 split.1)
 
   pub some_rose : (olds news : List (DeskState L)) → AllKept tells known plan first list links olds news → list_any (λ (d : DeskState L). is_fault d.end) news ≡ true → SomeRose (map door_of olds) (map door_of news)
   some_rose [] [] all some = absurd (true≢false (sym some))
@@ -51,7 +52,7 @@ module _ {L : Type 0} (tells : Tells L) (known : Bool) (plan : Plan) (first : �
   some_rose (o ∷ olds) [] all some = absurd all
   some_rose (o ∷ olds) (n ∷ news) all some =
       elim (either (is_fault n.end) (list_any (λ (d : DeskState L). is_fault d.end) news) some) [
-        | inl here ↦ inl (rose_is o.faults n.faults n.end all.1.quiet here)
+        | inl here ↦ inl (rose_is o.door.faults n.door.faults n.end all.1.quiet here)
         | inr later ↦ inr (some_rose olds news all.3 later)
       ]
 
@@ -61,6 +62,6 @@ module _ {L : Type 0} (tells : Tells L) (known : Bool) (plan : Plan) (first : �
   given_is [] (n ∷ news) all = absurd all
   given_is (o ∷ olds) [] all = absurd all
   given_is (o ∷ olds) (n ∷ news) all =
-      let here = enough_links links n.coming n.end all.1.count all.1.enough in
+      let here = enough_links links n.door.coming n.end all.1.count all.1.enough in
       let cons = sum_by-cons (λ (d : DeskState L). end_links d.end) n news in
       omega (arith, here, cons, all.1.kept.served.given, given_is olds news all.3)

@@ -6,7 +6,7 @@ use Rattle.cf_calls.specs.declared.call.Call.{Call}
 use Rattle.cf_calls.specs.declared.entry.Entry.{Entry}
 use Rattle.cf_chart.specs.Plan.{Plan}
 use Rattle.cf_model.specs.State.{IsSoundState}
-use Rattle.cf_http.specs.Doors.{Tells}
+use Rattle.cf_http.specs.Links.{LinkTells}
 use Rattle.cf_names.specs.Lists.{entries_of}
 use Rattle.cf_turns.specs.Lists.{TaggedEntry}
 use Rattle.cf_turns.specs.States.{PassState}
@@ -20,7 +20,7 @@ use Rattle.cf_talk.proofs.Entries.{entries_front}
 use Rattle.cf_talk.proofs.Joining.{each_is_one}
 use Rattle.cf_talk.proofs.Talking.{talk_over, talk_places, talk_failed, talk_faults}
 
-module _ {L : Type 0} (tells : Tells L) (known : Bool) (plan : Plan) (first : ℕ) (list : List TaggedEntry) (links : ℕ) where
+module _ {L : Type 0} (tells : L → LinkTells) (known : Bool) (plan : Plan) (first : ℕ) (list : List TaggedEntry) (links : ℕ) where
   -- what was said at each desk
   said_at : (olds news : List (DeskState L)) → AllKept tells known plan first list links olds news → List (List Said)
   said_at [] [] all = []
@@ -139,7 +139,7 @@ module _ {L : Type 0} (tells : Tells L) (known : Bool) (plan : Plan) (first : �
 
 -- ---- the run
 
-module _ {L : Type 0} (tells : Tells L) (known : Bool) (plan : Plan) (opening : List Entry) (list : List TaggedEntry) (links : ℕ) (olds news : List (DeskState L)) (kept : PassState) (before now : ℕ)
+module _ {L : Type 0} (tells : L → LinkTells) (known : Bool) (plan : Plan) (opening : List Entry) (list : List TaggedEntry) (links : ℕ) (olds news : List (DeskState L)) (kept : PassState) (before now : ℕ)
     (all : AllKept tells known plan (length opening) list links olds news) (is : entries_of kept.seen ≡ opening) (has : HasFirst (length opening) kept.places) (front : IsPrefix kept.seen list)
     (closes : Closes list (receipts_of kept ∷ map receipts_of (map (λ (d : DeskState L). d.pass) news))) where
   pub serve_ran : IsSoundState (record { plan = plan; entries = entries_of list }) → RoseBy (faults_in (map receipts_of (map (λ (d : DeskState L). d.pass) news))) before now

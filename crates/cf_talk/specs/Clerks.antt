@@ -12,7 +12,8 @@ use Rattle.cf_chart.specs.Plan.{Plan}
 use Rattle.cf_heads.specs.declared.route.Route.{Route}
 use Rattle.cf_heads.specs.declared.route.Route.TheVariants as route
 use Rattle.cf_http.specs.declared.request.Request.{Request}
-use Rattle.cf_http.specs.Doors.{Tells, DoorServed}
+use Rattle.cf_http.specs.Doors.{DoorTells, DoorServed}
+use Rattle.cf_http.specs.Links.{LinkTells}
 use Rattle.cf_members.specs.declared.fault.FormFault.{FormFault}
 use Rattle.cf_json.specs.Calls.{call_of}
 use Rattle.cf_reply_text.specs.Replies.{text, form_text}
@@ -78,7 +79,7 @@ pub record AnswersCall (plan : Plan) (old new : PassState) (c : Call) (code : �
 -- ---- a door
 
 -- the links that a door gave were served one after another, and what was said there is what its pass was told
-pub record DoorKept {L : Type 0} (tells : Tells L) (known : Bool) (plan : Plan) (old new : PassState) (finished_old finished_new : List L) (given_old given_new : ℕ) (count : ℕ) : Type 0 where
+pub record DoorKept {L : Type 0} (tells : L → LinkTells) (known : Bool) (plan : Plan) (before after : PassState) (old new : DoorTells L) (count : ℕ) : Type 0 where
   pub said : List Said
-  pub served : DoorServed tells Adds known [] said finished_old finished_new given_old given_new count
-  pub talked : Talked plan old said new
+  pub served : DoorServed tells Adds known [] said old new count
+  pub talked : Talked plan before said after

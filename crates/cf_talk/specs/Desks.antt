@@ -1,27 +1,25 @@
 -- Desks: a door each, and the clerk who answers there.
-use Rattle.std.specs.Prelude.{ℕ, List, Bool, true, false}
+use Rattle.std.specs.Prelude.{ℕ, Bool, true, false}
 use Rattle.cf_chart.specs.Plan.{Plan}
 use Rattle.cf_http.specs.declared.end.DoorEnd.{DoorEnd}
 use Rattle.cf_http.specs.declared.end.DoorEnd.TheVariants.{Done, DoorFault}
-use Rattle.cf_http.specs.Doors.{Tells, IsEnough, IsQuiet}
+use Rattle.cf_http.specs.Doors.{DoorTells, IsEnough, IsQuiet}
+use Rattle.cf_http.specs.Links.{LinkTells}
 use Rattle.cf_turns.specs.States.{PassState}
 use Rattle.cf_talk.specs.Clerks.{DoorKept}
 
 -- the clerk's pass, what the door tells, and how the service ended
 pub record DeskState (L : Type 0) : Type 0 where
   pub pass : PassState
-  pub finished : List L
-  pub given : ℕ
-  pub coming : Bool
-  pub faults : ℕ
+  pub door : DoorTells L
   pub end : DoorEnd
 
 -- so many links were served at the desk, or fewer where none is left to come or the door failed
-pub record DeskKept {L : Type 0} (tells : Tells L) (known : Bool) (plan : Plan) (links : ℕ) (old new : DeskState L) : Type 0 where
+pub record DeskKept {L : Type 0} (tells : L → LinkTells) (known : Bool) (plan : Plan) (links : ℕ) (old new : DeskState L) : Type 0 where
   pub count : ℕ
-  pub enough : IsEnough links new.coming new.end count
-  pub quiet : IsQuiet old.faults new.faults new.end
-  pub kept : DoorKept tells known plan old.pass new.pass old.finished new.finished old.given new.given count
+  pub enough : IsEnough links new.door.coming new.end count
+  pub quiet : IsQuiet old.door.faults new.door.faults new.end
+  pub kept : DoorKept tells known plan old.pass new.pass old.door new.door count
 
 abbrev pub is_fault : DoorEnd → Bool
 is_fault (Done links) = false

@@ -5,7 +5,8 @@ use Rattle.cf_calls.specs.declared.call.Call.{Call}
 use Rattle.cf_calls.specs.declared.entry.Entry.{Entry}
 use Rattle.cf_chart.specs.Plan.{Plan}
 use Rattle.cf_http.specs.declared.end.DoorEnd.{DoorEnd}
-use Rattle.cf_http.specs.Doors.{Tells, DoorServed, IsEnough, IsQuiet}
+use Rattle.cf_http.specs.Doors.{DoorTells, DoorServed, IsEnough, IsQuiet}
+use Rattle.cf_http.specs.Links.{LinkTells}
 use Rattle.cf_model.specs.State.{IsSoundState}
 use Rattle.cf_turns.specs.Lists.{TaggedEntry}
 use Rattle.cf_talk.specs.Clerks.{Adds}
@@ -14,28 +15,18 @@ use Rattle.cf_talk.specs.Desks.{DeskState, DeskKept}
 use Rattle.cf_talk.specs.Joins.{EachIsOne}
 use Rattle.cf_talk.specs.PassTalks.{Said, PassTalk, failed_of, faults_of}
 
--- what a door tells
-pub record DoorState (L : Type 0) : Type 0 where
-  pub finished : List L
-  pub given : ℕ
-  pub coming : Bool
-  pub faults : ℕ
-
-abbrev pub door_state : {R L : Type 0} → (R → List L) → (R → ℕ) → (R → Bool) → (R → ℕ) → R → DoorState L
-door_state finished given coming faults door = record { finished = finished door; given = given door; coming = coming door; faults = faults door }
-
 -- A door that was kept: it gave so many links, or fewer where none is left to come or it failed. Each was served and
 -- finished, one after another, by one clerk; what was said there is a pass's talk over the last history, from its opening on.
-pub record DoorRan {L : Type 0} (tells : Tells L) (known : Bool) (plan : Plan) (first : ℕ) (last : List Entry) (links : ℕ) (old new : DoorState L) (said : List Said) : Type 0 where
+pub record DoorRan {L : Type 0} (tells : L → LinkTells) (known : Bool) (plan : Plan) (first : ℕ) (last : List Entry) (links : ℕ) (old new : DoorTells L) (said : List Said) : Type 0 where
   pub end : DoorEnd
   pub count : ℕ
   pub enough : IsEnough links new.coming end count
   pub quiet : IsQuiet old.faults new.faults end
-  pub served : DoorServed tells Adds known [] said old.finished new.finished old.given new.given count
+  pub served : DoorServed tells Adds known [] said old new count
   pub talk : PassTalk plan last first said
 
 -- each door, with what was said there
-abbrev pub AllRan : {L : Type 0} → Tells L → Bool → Plan → ℕ → List Entry → ℕ → List (DoorState L) → List (DoorState L) → List (List Said) → Type 0
+abbrev pub AllRan : {L : Type 0} → (L → LinkTells) → Bool → Plan → ℕ → List Entry → ℕ → List (DoorTells L) → List (DoorTells L) → List (List Said) → Type 0
 AllRan tells known plan first last links [] [] [] = ⊤
 AllRan tells known plan first last links (o ∷ olds) (n ∷ news) (said ∷ talks) = DoorRan tells known plan first last links o n said × AllRan tells known plan first last links olds news talks
 AllRan tells known plan first last links _ _ _ = ⊥
@@ -51,7 +42,7 @@ failed_said [] = []
 failed_said (said ∷ talks) = failed_of said ++ failed_said talks
 
 -- The doors that were kept: each new entry of the last history is exactly one accepted reply's, at one door.
-pub record DoorsRan {L : Type 0} (tells : Tells L) (known : Bool) (plan : Plan) (first : ℕ) (last : List Entry) (links : ℕ) (olds news : List (DoorState L)) : Type 0 where
+pub record DoorsRan {L : Type 0} (tells : L → LinkTells) (known : Bool) (plan : Plan) (first : ℕ) (last : List Entry) (links : ℕ) (olds news : List (DoorTells L)) : Type 0 where
   pub talks : List (List Said)
   pub doors : AllRan tells known plan first last links olds news talks
   pub once : EachIsOne first (length last) talks
@@ -59,7 +50,7 @@ pub record DoorsRan {L : Type 0} (tells : Tells L) (known : Bool) (plan : Plan) 
 -- Doors were kept from a history to the last one, which begins with it and is sound. The doors' talks make up what lies
 -- between. The calls answered by a fault of the disk are at most as many as its count of faults rose by, which stands where there
 -- was none.
-pub record ServeRan {L : Type 0} (tells : Tells L) (known : Bool) (plan : Plan) (first last : List Entry) (links faults_old faults_new : ℕ) (olds news : List (DoorState L)) : Type 0 where
+pub record ServeRan {L : Type 0} (tells : L → LinkTells) (known : Bool) (plan : Plan) (first last : List Entry) (links faults_old faults_new : ℕ) (olds news : List (DoorTells L)) : Type 0 where
   pub later : List Entry
   pub goes_on : last ≡ first ++ later
   pub sound : IsSoundState (record { plan = plan; entries = last })
@@ -69,11 +60,11 @@ pub record ServeRan {L : Type 0} (tells : Tells L) (known : Bool) (plan : Plan) 
 
 -- ---- how the workers come to it
 
-abbrev pub door_of : {L : Type 0} → DeskState L → DoorState L
-door_of d = record { finished = d.finished; given = d.given; coming = d.coming; faults = d.faults }
+abbrev pub door_of : {L : Type 0} → DeskState L → DoorTells L
+door_of d = d.door
 
 -- the desks were fresh, each was kept, and what its pass has seen then begins the list
-abbrev pub AllKept : {L : Type 0} → Tells L → Bool → Plan → ℕ → List TaggedEntry → ℕ → List (DeskState L) → List (DeskState L) → Type 0
+abbrev pub AllKept : {L : Type 0} → (L → LinkTells) → Bool → Plan → ℕ → List TaggedEntry → ℕ → List (DeskState L) → List (DeskState L) → Type 0
 AllKept tells known plan first list links [] [] = ⊤
 AllKept tells known plan first list links (o ∷ olds) (n ∷ news) =
     IsFreshPass first o.pass × DeskKept tells known plan links o n × IsPrefix n.pass.seen list × AllKept tells known plan first list links olds news

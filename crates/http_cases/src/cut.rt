@@ -12,20 +12,9 @@ pub struct CutLink {
 }
 
 impl Link for CutLink {
-    ghost use Rattle.std.specs.Prelude.{Some};
-    ghost use Rattle.cf_links.specs.Memory.{received_of, sent_of, ended_of, reads_of};
+    ghost use Rattle.cf_links.specs.Memory.{tells_of};
 
-    ghost received = { λ l. Some (received_of l.link) };
-
-    ghost sent = { λ l. Some (sent_of l.link) };
-
-    ghost ended = { λ l. ended_of l.link };
-
-    ghost reads = { λ l. Some (reads_of l.link) };
-
-    ghost read_faults = { λ l. l.link.read_faults };
-
-    ghost write_faults = { λ l. l.link.write_faults };
+    ghost tells = { λ l. tells_of l.link };
 
     fn read(&mut self, buf: &mut [u8]) -> Result<usize, Failed> {
         let most = buf.len().min(self.most.max(1));

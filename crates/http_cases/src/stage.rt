@@ -64,9 +64,8 @@ impl Stage {
 
     /// Serves a link that gives the text in pieces of at most so many bytes.
     pub fn serve(&self, piece: usize) -> Result<Played, AllocError> {
-        let mut link = self.link(piece)?;
         let mut clerk = self.clerk();
-        let how = serve_link(self.alloc, &mut link, &mut clerk);
+        let (link, how) = serve_link(self.alloc, self.link(piece)?, &mut clerk);
         let sent = Vec::from_slice(self.alloc, link.sent())?;
         let asked = clerk.asked;
         Ok(Played { sent, how, asked })
@@ -75,9 +74,9 @@ impl Stage {
     /// Serves a link whose first read gives at most so many bytes of the text, and the next one all the rest.
     pub fn serve_cut(&self, first: usize) -> Result<Played, AllocError> {
         let link = self.link(usize::MAX)?;
-        let mut link = CutLink { link, most: first };
+        let link = CutLink { link, most: first };
         let mut clerk = self.clerk();
-        let how = serve_link(self.alloc, &mut link, &mut clerk);
+        let (link, how) = serve_link(self.alloc, link, &mut clerk);
         let sent = Vec::from_slice(self.alloc, link.link.sent())?;
         let asked = clerk.asked;
         Ok(Played { sent, how, asked })
@@ -85,16 +84,15 @@ impl Stage {
 
     /// Serves a link that gives the text in pieces of at most so many bytes: what had passed before each of its reads.
     pub fn serve_noted(&self, piece: usize) -> Result<Vec<Passed>, AllocError> {
-        let mut link = self.link(piece)?;
-        serve_link(self.alloc, &mut link, &mut self.clerk());
+        let (link, _) = serve_link(self.alloc, self.link(piece)?, &mut self.clerk());
         Vec::from_slice(self.alloc, link.reads())
     }
 
     /// Serves the text whole, each request by one answer: how the link ended, and how many bytes it took.
     pub fn serve_fixed(&self) -> Result<(LinkEnd, usize), AllocError> {
         let bytes = Vec::from_slice(self.alloc, self.text.as_slice())?;
-        let mut link = MemLink::new(self.alloc, bytes, usize::MAX);
-        let how = serve_link(self.alloc, &mut link, &mut FixedAnswer);
+        let link = MemLink::new(self.alloc, bytes, usize::MAX);
+        let (link, how) = serve_link(self.alloc, link, &mut FixedAnswer);
         Ok((how, link.sent().len()))
     }
 

@@ -1,6 +1,4 @@
 use Rattle.std.proofs.Common.{◌≡◌, map, ap, rules}
-use Rattle.cf_http.specs.Doors.{Tells}
-use Rattle.cf_talk.specs.ServeRuns.{door_state}
 use Rattle.cf_serve.specs.HallServes.{DiskTells}
 use Rattle.cf_serve.proofs.Ending.{hall_served}
 use Rattle.cf_serve.proofs.hall.serve_hall.Goals as goal
@@ -8,9 +6,9 @@ use Rattle.cf_serve.proofs.hall.serve_hall.Goals as goal
 pub returns-clause-ends : goal.returns-clause-ends
 returns-clause-ends g c =
     let device : DiskTells g.row.D.Denot = record { tells = g.D.Disk.tells; is_image = g.D.Disk.is_image; moment = g.D.Disk.moment; was_image = g.D.Disk.was_image; faults = g.D.Disk.faults } in
-    let tells : Tells g.row.R-Link.Denot = record { received = g.R.Link.Link.received; sent = g.R.Link.Link.sent; ended = g.R.Link.Link.ended; reads = g.R.Link.Link.reads; read_faults = g.R.Link.Link.read_faults; write_faults = g.R.Link.Link.write_faults } in
+    let tells = g.R.Link.Link.tells in
     let same : c.replace-all.result.items ≡ c.args.doors.now.items = search rules in
-    hall_served device tells g.R.Door.tells c.args.links c.args.book c.close-closed.result.disk g.N.City.plan g.N.City.first g.N.City.doubt g.N.City.begun g.N.City.risen c.open-hall.result.kept c.enter_all.new.self.kept
+    hall_served device tells g.R.Door.known c.args.links c.args.book c.close-closed.result.disk g.N.City.plan g.N.City.first g.N.City.doubt g.N.City.begun g.N.City.risen c.open-hall.result.kept c.enter_all.new.self.kept
     c.close-closed.result.length _ _ _ c.serve_doors-kept.new.passes.items c.serve_doors-kept.result.links c.serve_doors-kept.result.failed c.end_by.result
-    c.requires.plan.0 c.requires.first c.requires.doubt c.requires.begun c.requires.risen c.enter_all.ensures.kept (ap (map (door_state g.R.Door.finished g.R.Door.given g.R.Door.coming g.R.Door.faults)) same) c.end_by.ensures
+    c.requires.plan.0 c.requires.first c.requires.doubt c.requires.begun c.requires.risen c.enter_all.ensures.kept (ap (map g.R.Door.tells) same) c.end_by.ensures
     c.open-hall.ensures.seen c.open-hall.ensures.places c.serve_doors-kept.ensures.ran c.close-closed.ensures.ends

@@ -1,7 +1,7 @@
 use Rattle.std.proofs.Common.{◌≡◌, ◌++◌, length, map}
 use Rattle.std.specs.Vec.{vec_capacity}
 use Rattle.std.specs.Vec.Iter.{into_iter_items}
-use Rattle.cf_talk.specs.ServeRuns.{door_of, door_state}
+use Rattle.cf_talk.specs.ServeRuns.{door_of}
 use Rattle.cf_serve.proofs.serving.part_all.Given as goal
 
 abbrev pub invariant-loop-desk : goal.invariant-loop-desk
@@ -9,7 +9,7 @@ invariant-loop-desk g l = record {
   next : (goal.iterator-loop-desk g).can_next l.desk-iterator;
   finite : (goal.iterator-loop-desk g).is_finite l.desk-iterator;
   all : l.fn.desks.items ≡ l.yielded ++ into_iter_items l.desk-iterator;
-  doors : map (door_state g.R.Door.finished g.R.Door.given g.R.Door.coming g.R.Door.faults) l.doors.items ≡ map door_of l.yielded;
+  doors : map g.R.Door.tells l.doors.items ≡ map door_of l.yielded;
   passes : l.passes.items ≡ map (λ d. d.pass) l.yielded;
   doors_room : vec_capacity l.doors ≡ vec_capacity l.initial.doors;
   passes_room : vec_capacity l.passes ≡ vec_capacity l.initial.passes;

@@ -3,7 +3,7 @@ use Rattle.std.proofs.lemmas.List.Elements.{All-push, All-pop}
 use Rattle.std.specs.Vec.Iter.{into_iter_items}
 use Rattle.cf_names.specs.Closing.{IsFreshPass}
 use Rattle.cf_talk.specs.Desks.{DeskState}
-use Rattle.cf_talk.specs.ServeRuns.{door_of, door_state}
+use Rattle.cf_talk.specs.ServeRuns.{door_of}
 use Rattle.cf_serve.proofs.Seating.{one_on, long_on, fewer_on, paired_on}
 use Rattle.cf_serve.proofs.serving.seat_all.Goals as goal
 
@@ -21,7 +21,7 @@ loop-door-preserved-in-Some-pop g c =
       capacity = c.pop.ensures.capacity ∙ l.invariant.capacity;
       room = c.push_reserved.ensures.capacity ∙ l.invariant.room;
       many = long_on l.desks.items c.push_reserved.new.self.items l.yielded c.seat.result c.in-Some.door l.invariant.many c.push_reserved.ensures.items;
-      doors = paired_on (door_of {L = g.row.R-Link.Denot}) (door_state g.R.Door.finished g.R.Door.given g.R.Door.coming g.R.Door.faults) l.desks.items c.push_reserved.new.self.items l.yielded c.seat.result c.in-Some.door
+      doors = paired_on (door_of {L = g.row.R-Link.Denot}) g.R.Door.tells l.desks.items c.push_reserved.new.self.items l.yielded c.seat.result c.in-Some.door
           l.invariant.doors c.seat.ensures.door c.push_reserved.ensures.items;
       seated = subst (λ (xs : List (DeskState g.row.R-Link.Denot)). All (λ (d : DeskState g.row.R-Link.Denot). IsFreshPass g.N.City.first d.pass) xs) (sym c.push_reserved.ensures.items)
           (All-push (λ (d : DeskState g.row.R-Link.Denot). IsFreshPass g.N.City.first d.pass) l.desks.items c.seat.result l.invariant.seated (subst (IsFreshPass g.N.City.first) (sym c.seat.ensures.pass) here));

@@ -2,7 +2,7 @@ use Rattle.std.proofs.Common.{◌≡◌, ◌+◌, ◌++◌, length, map, All}
 use Rattle.std.specs.Vec.{vec_capacity}
 use Rattle.std.specs.Vec.Iter.{into_iter_items}
 use Rattle.cf_names.specs.Closing.{IsFreshPass}
-use Rattle.cf_talk.specs.ServeRuns.{door_of, door_state}
+use Rattle.cf_talk.specs.ServeRuns.{door_of}
 use Rattle.cf_serve.proofs.serving.seat_all.Given as goal
 
 abbrev pub invariant-loop-door : goal.invariant-loop-door
@@ -15,6 +15,6 @@ invariant-loop-door g l = record {
   capacity : vec_capacity l.passes ≡ vec_capacity l.initial.passes;
   room : vec_capacity l.desks ≡ vec_capacity l.initial.desks;
   many : length l.desks.items ≡ length l.yielded;
-  doors : map door_of l.desks.items ≡ map (door_state g.R.Door.finished g.R.Door.given g.R.Door.coming g.R.Door.faults) l.yielded;
+  doors : map door_of l.desks.items ≡ map g.R.Door.tells l.yielded;
   seated : All (λ d. IsFreshPass g.N.City.first d.pass) l.desks.items;
 }
