@@ -3,7 +3,7 @@
 use crate::stage::{Stage, words_of};
 use cf_base::{MemSink, MemSource};
 use cf_books::{Status, run, tell};
-use cf_books_words::{Command, WordsRefused, read_words};
+use cf_books_words::{Request, WordsRefused, read_words};
 use std::alloc::Global;
 use std::io;
 
@@ -21,20 +21,21 @@ impl BooksRun {
         BooksRun { out, status }
     }
 
-    /// A run of a command over a file of these bytes, with no journal beside it.
-    pub fn over(alloc: Global, command: Command, bytes: Vec<u8>) -> BooksRun {
+    /// A run of a request over a file of these bytes, with no journal beside it.
+    pub fn over(alloc: Global, request: Request, bytes: Vec<u8>) -> BooksRun {
         let mut source = MemSource::new(bytes);
         let mut journal = MemSource::new(Vec::new(alloc));
         let mut out = MemSink::new(alloc);
-        let status = run(alloc, command, &mut source, &mut journal, &mut out);
+        let status = run(alloc, request, &mut source, &mut journal, &mut out);
         BooksRun { out, status }
     }
 
     /// A run of these words over a journal of these bytes.
     fn of_words(alloc: Global, words: &[String], journal: Vec<u8>) -> BooksRun {
         match read_words(alloc, words) {
-            Ok(request) => BooksRun::over(alloc, request.command, journal),
+            Ok(request) => BooksRun::over(alloc, request, journal),
             Err(WordsRefused::BadWords) => BooksRun::silent(alloc, Status::BadWords),
+            Err(WordsRefused::NoSuchDay) => BooksRun::silent(alloc, Status::NoSuchDay),
             Err(WordsRefused::NoMemory) => BooksRun::silent(alloc, Status::NoMemory),
         }
     }

@@ -1,7 +1,7 @@
 //! What `books check-chart` says of a chart.
 
 use crate::books::{BooksRun, print_status};
-use cf_books_words::Command;
+use cf_books_words::{Command, Request};
 use std::alloc::{AllocError, Global};
 use std::io;
 
@@ -25,6 +25,12 @@ pub fn show_check(
     new: &str,
 ) -> io::Result<()> {
     let text = changed(alloc, chart, old, new)?;
-    let ran = BooksRun::over(alloc, Command::CheckChart, text.into_bytes());
+    let request = Request {
+        command: Command::CheckChart,
+        file: None,
+        entries: None,
+        key: None,
+    };
+    let ran = BooksRun::over(alloc, request, text.into_bytes());
     print_status(rt, alloc, ran.status)
 }
