@@ -228,6 +228,18 @@ sys.exit(wrong > 0)
 PY
 verdict "a journal of $entries entries, cut at each of its $in_use bytes in use, and in its room" $?
 
+# ---- the first entries of a journal: each list says what it says of a journal that ends there
+
+mkdir "$scratch/front"
+for n in 0 1 7 "$entries"; do
+    found front examples/rivertown/chart.toml
+    (cd "$scratch/front" && head -n "$n" "$scratch/first/calls" | "$program" desk > replies)
+    for words in list calls lines open posts "balances 2026" "statement 2026 budget"; do
+        (cd "$scratch/front" && "$books" $words > "$scratch/front-of" && "$books" $words ../first/fund.journal --entries "$n" | cmp - "$scratch/front-of")
+        verdict "$words of the first $n entries" $?
+    done
+done
+
 # ---- an entry that the office refuses: its place is named, and its call is printed
 
 python3 - "$books" "$scratch/first/fund.journal" "$scratch/first/calls" << 'PY'
@@ -276,6 +288,13 @@ expect "an unknown command" 2 "books: bad words" print
 expect "two files" 2 "books: bad words" list fund.journal fund.journal
 expect "records of another command" 2 "books: bad words" calls --csv
 expect "an unknown option" 2 "books: bad words" list --tsv
+expect "an option of another command" 2 "books: bad words" open --fund 1
+expect "entries of a chart" 2 "books: bad words" check-chart --entries 1
+expect "a day that is none" 20 "books: no such day" posts --through 2026-02-30
+expect "a day before 1971" 20 "books: no such day" balances 2026 --through 1970-12-31
+expect "a month that is none" 20 "books: no such day" month 2026-13
+expect "more entries than there are" 22 "books: entries refused: $((entries + 1)) asked, the journal has $entries" list --entries $((entries + 1))
+expect "entries of no journal" 7 "books: not founded: the file has 11 bytes" list text --entries 0
 sed 's/^window = 60$/window = 61/' examples/rivertown/chart.toml > "$scratch/first/window.toml"
 sed 's/^level = "department"$/level = "dept"/' examples/rivertown/chart.toml > "$scratch/first/level.toml"
 expect "a bad level, with the id of its row" 3 "books: chart refused: fund 1 (id 2) has a bad level" check-chart level.toml

@@ -227,7 +227,8 @@ fn command_answer(
 
 /// What is said where a journal has no front with so many entries.
 fn no_front(alloc: Global, asked: u64, why: FrontRefused) -> Result<Answer, AllocError>
-    ensures { (command : Asking) → (key : Option (List ℕ)) → (x : Result (List ℕ) FrontRefusal) → GivesFront (Err why) x → Answers result (spec.said_first asked key command x) }
+    ensures answer { (command : Asking) → (key : Option (List ℕ)) → (x : Result (List ℕ) FrontRefusal) → GivesFront (Err why) x → Answers result (spec.said_first asked key command x) }
+    ensures known { IfOk result (λ a. (x : Result (List ℕ) FrontRefusal) → GivesFront (Err why) x → x ≡ Err why) }
 {
     match why {
         FrontRefused::Fewer { entries } => {
