@@ -1,5 +1,4 @@
 pub mod Behind
 pub mod CallsAgain
-pub mod Noted
 pub mod Steps
 pub mod Ends
