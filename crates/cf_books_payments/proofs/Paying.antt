@@ -2,6 +2,7 @@
 use Rattle.std.proofs.Common.{◌≡◌, ◌∙◌, ◌+◌, ◌+ℤ◌, ◌==◌, nat_le, ℕ, zero, suc, ℤ, pos, Bool, true, false, if◌then◌else◌, List, [], ◌∷◌, ◌++◌, Option, Some, None, refl, sym, ap, ap₂, arith, drop}
 use Rattle.std.specs.Prelude.{flat_map, option_and_then, option_map, option_to_list, slice_get, sum_by, unwrap_or}
 use Rattle.std.proofs.lemmas.Int.{ints}
+use Rattle.std.proofs.lemmas.List.Sums.{sum_by-cons}
 use Rattle.cf_calls.specs.Acts.{schedule_of}
 use Rattle.cf_calls.specs.declared.acts.Act.{Act}
 use Rattle.cf_calls.specs.declared.acts.Act.TheVariants.{Voucher, Pay, PayDue, Lease}
@@ -116,6 +117,7 @@ module _ (history : List Entry) (s : Places) (known : Payable) (same : Agrees hi
       let one : int_sum amount (paid_voucher history s.vouchers by n) ≡ pos (voucher_in known.vouchers n) =
       voucher_place history by n (s.vouchers n) ∙ ap (λ (o : Option ℕ). pos (unwrap_or o 0)) (sym (same.vouchers n)) in
       sum_append amount (paid_voucher history s.vouchers by n) (flat_map (paid_voucher history s.vouchers by) numbers) ∙ adds _ _ _ _ one (each_voucher by numbers)
+      ∙ ap (λ (x : ℕ). pos x) (sym (sum_by-cons (voucher_in known.vouchers) n numbers))
 
   share : (by : ℕ) (drawn : Drawn) (act : Act) → int_sum amount (paid_by history s by drawn act) ≡ vendors_share history s known drawn act
   share by drawn (Pay p) = each_voucher by p.vouchers

@@ -61,11 +61,17 @@ opening_text csv plan basis fund amount = if unsigned_abs amount == 0 then [] el
 abbrev pub account_text : Bool → Plan → List Entry → Basis → ℕ → ℕ → ℕ → List ℕ
 account_text csv plan history basis year fund account = balance_text csv plan basis fund account (year_balance basis plan year fund history account)
 
+abbrev pub kept_row : Bool → Plan → List Entry → Basis → ℕ → ℕ → ℕ → List ℕ
+kept_row csv plan history basis year fund account = if goes_on account then account_text csv plan history basis year fund account else []
+
+abbrev pub changed_row : Bool → Plan → List Entry → Basis → ℕ → ℕ → ℕ → List ℕ
+changed_row csv plan history basis year fund account = if goes_on account then [] else account_text csv plan history basis year fund account
+
 abbrev pub kept_text : Bool → Plan → List Entry → Basis → ℕ → ℕ → List ℕ → List ℕ
-kept_text csv plan history basis year fund accounts = flat_map (λ a. if goes_on a then account_text csv plan history basis year fund a else []) accounts
+kept_text csv plan history basis year fund accounts = flat_map (kept_row csv plan history basis year fund) accounts
 
 abbrev pub changed_text : Bool → Plan → List Entry → Basis → ℕ → ℕ → List ℕ → List ℕ
-changed_text csv plan history basis year fund accounts = flat_map (λ a. if goes_on a then [] else account_text csv plan history basis year fund a) accounts
+changed_text csv plan history basis year fund accounts = flat_map (changed_row csv plan history basis year fund) accounts
 
 -- the accounts that go on, what the year begins with, and the other accounts
 abbrev pub section_text : Bool → Plan → List Entry → Basis → ℕ → ℕ → List ℕ → List ℕ

@@ -37,6 +37,25 @@ fn put_account(
     put_balance_unless_zero(alloc, out, rest.chart(), basis, fund, account, balance)
 }
 
+/// Writes the balance of an account that goes on.
+fn put_if_kept(
+    alloc: Global,
+    out: &mut Rows,
+    rest: &Rest,
+    basis: Basis,
+    year: u16,
+    fund: u16,
+    account: u32,
+) -> Result<(), AllocError>
+    ensures { OnOk result (out.new ≡ added out.old (spec.kept_row out.old.csv rest.now.plan rest.now.entries basis year fund account)) }
+{
+    if goes_on(account) {
+        put_account(alloc, out, rest, basis, year, fund, account)
+    } else {
+        Ok(())
+    }
+}
+
 /// Writes the balances of those of these accounts that go on.
 fn put_kept(
     alloc: Global,
@@ -50,11 +69,28 @@ fn put_kept(
     ensures { OnOk result (out.new ≡ added out.old (spec.kept_text out.old.csv rest.now.plan rest.now.entries basis year fund accounts.now)) }
 {
     for account in accounts {
-        if goes_on(*account) {
-            put_account(alloc, out, rest, basis, year, fund, *account)?;
-        }
+        put_if_kept(alloc, out, rest, basis, year, fund, *account)?;
     }
     Ok(())
+}
+
+/// Writes the balance of another account.
+fn put_if_changed(
+    alloc: Global,
+    out: &mut Rows,
+    rest: &Rest,
+    basis: Basis,
+    year: u16,
+    fund: u16,
+    account: u32,
+) -> Result<(), AllocError>
+    ensures { OnOk result (out.new ≡ added out.old (spec.changed_row out.old.csv rest.now.plan rest.now.entries basis year fund account)) }
+{
+    if goes_on(account) {
+        Ok(())
+    } else {
+        put_account(alloc, out, rest, basis, year, fund, account)
+    }
 }
 
 /// Writes the balances of the others of these accounts.
@@ -70,9 +106,7 @@ fn put_changed(
     ensures { OnOk result (out.new ≡ added out.old (spec.changed_text out.old.csv rest.now.plan rest.now.entries basis year fund accounts.now)) }
 {
     for account in accounts {
-        if !goes_on(*account) {
-            put_account(alloc, out, rest, basis, year, fund, *account)?;
-        }
+        put_if_changed(alloc, out, rest, basis, year, fund, *account)?;
     }
     Ok(())
 }
@@ -223,7 +257,8 @@ fn few_fund_accounts(alloc: Global, chart: &Chart, fund: u16) -> Result<Vec<u32>
     ensures few { IfOk result (λ v. length v.items ≤ 1024) }
 {
     // So that the proof knows how many rows the chart has.
-    let (_sources, _functions) = (chart.sources(), chart.functions());
+    let _sources = chart.sources();
+    let _functions = chart.functions();
     fund_accounts(alloc, chart, fund)
 }
 
@@ -233,6 +268,7 @@ fn few_gov_accounts(alloc: Global, chart: &Chart) -> Result<Vec<u32>, AllocError
     ensures few { IfOk result (λ v. length v.items ≤ 1024) }
 {
     // So that the proof knows how many rows the chart has.
-    let (_sources, _functions) = (chart.sources(), chart.functions());
+    let _sources = chart.sources();
+    let _functions = chart.functions();
     gov_accounts(alloc, chart)
 }
