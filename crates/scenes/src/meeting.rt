@@ -45,17 +45,10 @@ fn fill(buf: &mut [u8], bytes: &[u8]) -> usize
 }
 
 impl Link for WaitingLink<'_> {
-    ghost received = { λ _. None };
-
-    ghost sent = { λ _. None };
-
-    ghost ended = { λ l. l.ended };
-
-    ghost reads = { λ _. None };
-
-    ghost read_faults = { λ _. 0 };
-
-    ghost write_faults = { λ l. l.write_faults };
+    ghost tells = { λ l. record {
+      input = record { received = None; ended = l.ended; reads = None; faults = 0 };
+      output = record { sent = None; faults = l.write_faults };
+    } };
 
     fn read(&mut self, buf: &mut [u8]) -> Result<usize, Failed> {
         if self.is_answered {
@@ -101,15 +94,14 @@ pub struct WaitingDoor<'a> {
 impl<'a> Door for WaitingDoor<'a> {
     type Link = WaitingLink<'a>;
 
-    ghost tells = { false };
+    ghost tells = { λ d. record {
+      finished = [];
+      given = d.given;
+      coming = true;
+      faults = d.faults;
+    } };
 
-    ghost finished = { λ _. [] };
-
-    ghost given = { λ d. d.given };
-
-    ghost coming = { λ _. true };
-
-    ghost faults = { λ d. d.faults };
+    ghost known = { false };
 
     fn next(&mut self) -> Result<Option<WaitingLink<'a>>, Failed> {
         if self.given > 0 {
