@@ -14,13 +14,14 @@ use Rattle.cf_closed.proofs.ClosedYears.{closed_years_always}
 use Rattle.cf_desk.specs.Sinks.{Wrote}
 use Rattle.cf_disk.specs.Moments.{AtEachMoment}
 use Rattle.cf_hall.specs.Fronts.{IsUnacknowledged, KeptSince}
+use Rattle.cf_http.specs.Doors.{DoorTells}
 use Rattle.cf_http.specs.Links.{SentFront}
-use Rattle.cf_serve.specs.HallServes.{HallRan, Serves}
+use Rattle.cf_serve.specs.HallServes.{HallRan, ServesDoors}
 use Rattle.cf_serve.specs.declared.end.ServeEnd.{ServeEnd}
 use Rattle.cf_serve.specs.declared.end.ServeEnd.TheVariants as end
 use Rattle.cf_talk.specs.ServeEnds.{served_text}
 use Rattle.cf_top.specs.Talks.{RoseBy}
-use Rattle.cf_talk.specs.ServeRuns.{DoorState, failed_said, faults_said}
+use Rattle.cf_talk.specs.ServeRuns.{failed_said, faults_said}
 use Rattle.cf_top.specs.declared.serve_command.Kept.{Kept}
 use Rattle.cf_top.specs.declared.serve_command.Kept.TheVariants as kept
 use Rattle.cf_runs.specs.declared.status.Status.{Status}
@@ -48,7 +49,7 @@ front_of held held' text w = record { front = w.1.done; rest = w.0; joins = w.1.
 module _ {D R L : Type 0} (device : Device D) (kind : DoorKind R L) (links : ℕ) (old new : D) where
   -- ---- over an opened journal
 
-  served_by : (book : DurableBook D) (bytes : List ℕ) (olds news : List (DoorState L)) (given : ℕ)
+  served_by : (book : DurableBook D) (bytes : List ℕ) (olds news : List (DoorTells L)) (given : ℕ)
       → OpensBook device.tells device.content device.is_image device.moment device.was_image device.faults old book → chart_of bytes ≡ Ok book.plan
       → HallRan (record { tells = device.tells; is_image = device.is_image; moment = device.moment; was_image = device.was_image; faults = device.faults }) kind.tells kind.known links book new olds news given
       → Served device kind links old new olds news
@@ -79,7 +80,7 @@ module _ {D R L : Type 0} (device : Device D) (kind : DoorKind R L) (links : ℕ
 
   pub doors_kept : (book : DurableBook D) (bytes : List ℕ) (doors doors' : List R) (given : ℕ) (how : ServeEnd)
       → OpensBook device.tells device.content device.is_image device.moment device.was_image device.faults old book → chart_of bytes ≡ Ok book.plan
-      → Serves (record { tells = device.tells; is_image = device.is_image; moment = device.moment; was_image = device.was_image; faults = device.faults }) kind.tells kind.known links book new (map kind.state doors) (map kind.state doors') given how
+      → ServesDoors (record { tells = device.tells; is_image = device.is_image; moment = device.moment; was_image = device.was_image; faults = device.faults }) kind.tells kind.known links book new (map kind.state doors) (map kind.state doors') given how
       → (how ≡ end.NoMemory → doors' ≡ doors) → KeepsDoors device kind links old new doors doors' (kept_of given how)
   doors_kept book bytes doors doors' given end.Served opens states h stay =
       (served_by book bytes (map kind.state doors) (map kind.state doors') given opens states h.0, h.1, h.0.given_is)

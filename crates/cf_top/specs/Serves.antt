@@ -12,11 +12,12 @@ use Rattle.cf_closed.specs.ClosedYears.{ClosedYearsStay}
 use Rattle.cf_desk.specs.Sinks.{Wrote}
 use Rattle.cf_disk.specs.Moments.{AtEachMoment}
 use Rattle.cf_hall.specs.Fronts.{IsUnacknowledged, KeptSince}
+use Rattle.cf_http.specs.Doors.{DoorTells}
 use Rattle.cf_model.specs.State.{IsSoundState}
 use Rattle.cf_serve.specs.declared.end.ServeEnd.{ServeEnd}
 use Rattle.cf_serve.specs.declared.end.ServeEnd.TheVariants as end
 use Rattle.cf_talk.specs.ServeEnds.{AllQuiet, SomeRose, EndsWhole, EndsUnwritten, links_given, served_text}
-use Rattle.cf_talk.specs.ServeRuns.{DoorState, ServeRan, failed_said, faults_said}
+use Rattle.cf_talk.specs.ServeRuns.{ServeRan, failed_said, faults_said}
 use Rattle.cf_top.specs.declared.serve_command.Kept.{Kept}
 use Rattle.cf_top.specs.declared.serve_command.Kept.TheVariants as kept
 use Rattle.cf_runs.specs.declared.status.Status.{Status}
@@ -31,7 +32,7 @@ use Rattle.cf_runs.specs.Refused.{status_of_refused}
 -- by a fault of the disk. Until the journal was opened a crash left what it could have left before the run; at each moment from
 -- then on, what recovers to a front of the last history that has the first one, or to that and one entry. That, as the entry in
 -- doubt, is the entry of a call of a door's talk that was answered by a fault of the disk, and that the step accepts there.
-pub record Served {D R L : Type 0} (device : Device D) (kind : DoorKind R L) (links : ℕ) (old new : D) (olds news : List (DoorState L)) : Type 0 where
+pub record Served {D R L : Type 0} (device : Device D) (kind : DoorKind R L) (links : ℕ) (old new : D) (olds news : List (DoorTells L)) : Type 0 where
   pub plan : Plan
   pub first : List Entry
   pub last : List Entry

@@ -56,7 +56,8 @@ fn prepare<R: Drop>(
     others: usize,
 ) -> Result<(Prepared<R>, Vec<u8>), AllocError>
     ensures first { IfOk result (λ p. (p.0.first.items ≡ []) × (first ≤ vec_capacity p.0.first)) }
-    ensures others { IfOk result (λ p. (p.0.others.items ≡ []) × (others ≤ vec_capacity p.0.others)) }
+    ensures others { IfOk result (λ p. (p.0.others.items ≡ [])
+        × (others ≤ vec_capacity p.0.others)) }
     ensures line { IfOk result (λ p. (p.1.items ≡ []) × (64 ≤ vec_capacity p.1)) }
 {
     let opening = Opening::new(alloc)?;
@@ -177,10 +178,11 @@ where
     R::Link: Send,
     requires few { length doors.old.items ≤ 16 }
     ensures keeps { KeepsDoors (device D.tells D.content D.is_image D.moment D.was_image D.faults)
-        (door_kind R.Link.received R.Link.sent R.Link.ended R.Link.reads R.Link.read_faults R.Link.write_faults R.tells R.finished R.given R.coming R.faults)
+        (door_kind R.Link.tells R.known R.tells)
         links disk result.1 doors.old.items doors.new.items result.0 }
     ensures len { length doors.new.items ≡ length doors.old.items }
-    ensures disk { result.0 ≡ kept.Unopened refused.Disk → Rose (D.faults disk) (D.faults result.1) }
+    ensures disk { result.0 ≡ kept.Unopened refused.Disk
+        → Rose (D.faults disk) (D.faults result.1) }
     ensures memory { result.0 ≡ kept.Unopened refused.NoMemory → D.faults result.1 ≡ D.faults disk }
 {
     match open_with_chart(alloc, disk) {
@@ -207,14 +209,16 @@ fn keep_first<H: Threads + Wait + Sync, D: Disk + Drop + Send, R: Door + Drop + 
 where
     R::Link: Send,
     requires empty { (prepared.first.items ≡ []) × (prepared.others.items ≡ []) }
-    requires room { (count ≤ vec_capacity prepared.first) × (length doors.old.items - count ≤ vec_capacity prepared.others) }
+    requires room { (count ≤ vec_capacity prepared.first)
+        × (length doors.old.items - count ≤ vec_capacity prepared.others) }
     requires enough { count ≤ length doors.old.items }
     requires few { count ≤ 16 }
     ensures keeps { KeepsDoors (device D.tells D.content D.is_image D.moment D.was_image D.faults)
-        (door_kind R.Link.received R.Link.sent R.Link.ended R.Link.reads R.Link.read_faults R.Link.write_faults R.tells R.finished R.given R.coming R.faults)
+        (door_kind R.Link.tells R.known R.tells)
         links disk result.1 (take count doors.old.items) (take count doors.new.items) result.0 }
     ensures others { drop count doors.new.items ≡ drop count doors.old.items }
-    ensures disk { result.0 ≡ kept.Unopened refused.Disk → Rose (D.faults disk) (D.faults result.1) }
+    ensures disk { result.0 ≡ kept.Unopened refused.Disk
+        → Rose (D.faults disk) (D.faults result.1) }
     ensures memory { result.0 ≡ kept.Unopened refused.NoMemory → D.faults result.1 ≡ D.faults disk }
 {
     let Prepared {
@@ -245,11 +249,13 @@ where
     R::Link: Send,
     requires few { count ≤ 16 }
     ensures ends { ServeEnds (device D.tells D.content D.is_image D.moment D.was_image D.faults)
-        (door_kind R.Link.received R.Link.sent R.Link.ended R.Link.reads R.Link.read_faults R.Link.write_faults R.tells R.finished R.given R.coming R.faults)
-        count links disk result.disk doors.old.items doors.new.items (O.held out.old) (O.held out.new) result.status }
+        (door_kind R.Link.tells R.known R.tells)
+        count links disk result.disk doors.old.items doors.new.items
+        (O.held out.old) (O.held out.new) result.status }
     ensures write { result.status ≡ Status.WriteFault → Rose (O.faults out.old) (O.faults out.new) }
     ensures disk { result.status ≡ Status.DiskFault → Rose (D.faults disk) (D.faults result.disk) }
-    ensures memory { result.status ≡ Status.NoMemory → (O.faults out.new ≡ O.faults out.old) × (D.faults result.disk ≡ D.faults disk) }
+    ensures memory { result.status ≡ Status.NoMemory
+        → (O.faults out.new ≡ O.faults out.old) × (D.faults result.disk ≡ D.faults disk) }
     ensures out_quiet { result.status ≢ Status.WriteFault → O.faults out.new ≡ O.faults out.old }
     ensures words { result.status ≡ Status.BadWords → length doors.old.items < count }
 {
@@ -285,18 +291,24 @@ pub fn run_serve<H: Threads + Wait + Sync, O: Sink, D: Disk + Drop + Send, R: Do
 ) -> Ran<D>
 where
     R::Link: Send,
-    ensures ends { (port count links : ℕ) → command_of (map string_bytes words.now) ≡ Some (Command.Serve port count links)
+    ensures ends { (port count links : ℕ)
+        → command_of (map string_bytes words.now) ≡ Some (Command.Serve port count links)
         → ServeEnds (device D.tells D.content D.is_image D.moment D.was_image D.faults)
-        (door_kind R.Link.received R.Link.sent R.Link.ended R.Link.reads R.Link.read_faults R.Link.write_faults R.tells R.finished R.given R.coming R.faults)
-        count links disk result.disk doors.old.items doors.new.items (O.held out.old) (O.held out.new) result.status }
-    ensures short { (port count links : ℕ) → command_of (map string_bytes words.now) ≡ Some (Command.Serve port count links)
+        (door_kind R.Link.tells R.known R.tells)
+        count links disk result.disk doors.old.items doors.new.items
+        (O.held out.old) (O.held out.new) result.status }
+    ensures short { (port count links : ℕ)
+        → command_of (map string_bytes words.now) ≡ Some (Command.Serve port count links)
         → result.status ≡ Status.BadWords → length doors.old.items < count }
-    ensures words { ((port count links : ℕ) → command_of (map string_bytes words.now) ≡ Some (Command.Serve port count links) → ⊥)
-        → ((result.status ≡ Status.BadWords) ⊎ (result.status ≡ Status.NoMemory)) × (O.held out.new ≡ O.held out.old)
+    ensures words { ((port count links : ℕ)
+        → command_of (map string_bytes words.now) ≡ Some (Command.Serve port count links) → ⊥)
+        → ((result.status ≡ Status.BadWords) ⊎ (result.status ≡ Status.NoMemory))
+        × (O.held out.new ≡ O.held out.old)
         × (doors.new.items ≡ doors.old.items) × (result.disk ≡ disk) }
     ensures write { result.status ≡ Status.WriteFault → Rose (O.faults out.old) (O.faults out.new) }
     ensures disk { result.status ≡ Status.DiskFault → Rose (D.faults disk) (D.faults result.disk) }
-    ensures memory { result.status ≡ Status.NoMemory → (O.faults out.new ≡ O.faults out.old) × (D.faults result.disk ≡ D.faults disk) }
+    ensures memory { result.status ≡ Status.NoMemory
+        → (O.faults out.new ≡ O.faults out.old) × (D.faults result.disk ≡ D.faults disk) }
     ensures out_quiet { result.status ≢ Status.WriteFault → O.faults out.new ≡ O.faults out.old }
 {
     match read_words(alloc, words) {

@@ -19,7 +19,7 @@ returns-in-Ok-Serve-clause-read g c = λ is.
     let serves = c.run_serve.ensures.ends c.in-Ok-Serve.field-0-0 c.in-Ok-Serve.field-0-1 c.in-Ok-Serve.field-0-2 asked in
     absurd
     (serve_reads (device g.D.Disk.tells g.D.Disk.content g.D.Disk.is_image g.D.Disk.moment g.D.Disk.was_image g.D.Disk.faults)
-    (door_kind g.R.Link.Link.received g.R.Link.Link.sent g.R.Link.Link.ended g.R.Link.Link.reads g.R.Link.Link.read_faults g.R.Link.Link.write_faults g.R.Door.tells g.R.Door.finished g.R.Door.given g.R.Door.coming g.R.Door.faults)
+    (door_kind g.R.Link.Link.tells g.R.Door.known g.R.Door.tells)
     c.in-Ok-Serve.field-0-1 c.in-Ok-Serve.field-0-2 c.args.disk c.run_serve.result.disk c.args.doors.now.items c.run_serve.new.doors.items
     (g.O.Sink.held c.args.out.now) (g.O.Sink.held c.run_serve.new.out) c.run_serve.result.status serves is)
 
@@ -33,7 +33,7 @@ pub returns-in-Err-NoMemory-clause-ends : goal.returns-in-Err-NoMemory-clause-en
 returns-in-Err-NoMemory-clause-ends g c =
     rw (c.unread.ensures.status, c.unread.ensures.disk)
     (ends_unread (device g.D.Disk.tells g.D.Disk.content g.D.Disk.is_image g.D.Disk.moment g.D.Disk.was_image g.D.Disk.faults)
-    (door_kind g.R.Link.Link.received g.R.Link.Link.sent g.R.Link.Link.ended g.R.Link.Link.reads g.R.Link.Link.read_faults g.R.Link.Link.write_faults g.R.Door.tells g.R.Door.finished g.R.Door.given g.R.Door.coming g.R.Door.faults)
+    (door_kind g.R.Link.Link.tells g.R.Door.known g.R.Door.tells)
     (command_of (map string_bytes c.args.words.now)) (outside (g.C.Source.left c.args.chart.now) (g.I.Source.left c.args.input.now) (g.O.Sink.held c.args.out.now) c.args.doors.now.items) c.args.disk c.unread.ensures.at_rest)
 
 pub returns-in-Ok-Report-clause-ends : goal.returns-in-Ok-Report-clause-ends

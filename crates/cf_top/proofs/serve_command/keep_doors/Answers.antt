@@ -7,6 +7,6 @@ pub returns-in-Ok-clause-keeps : goal.returns-in-Ok-clause-keeps
 returns-in-Ok-clause-keeps g c =
     rw c.kept_by.ensures
     (doors_kept (device g.D.Disk.tells g.D.Disk.content g.D.Disk.is_image g.D.Disk.moment g.D.Disk.was_image g.D.Disk.faults)
-    (door_kind g.R.Link.Link.received g.R.Link.Link.sent g.R.Link.Link.ended g.R.Link.Link.reads g.R.Link.Link.read_faults g.R.Link.Link.write_faults g.R.Door.tells g.R.Door.finished g.R.Door.given g.R.Door.coming g.R.Door.faults)
+    (door_kind g.R.Link.Link.tells g.R.Door.known g.R.Door.tells)
     c.args.links c.args.disk c.serve_hall-served.result.disk c.in-Ok.book c.in-Ok.ensures.stated.0 c.args.doors.now.items c.serve_hall-served.new.doors.items
     c.serve_hall-served.result.links c.serve_hall-served.result.end c.in-Ok.ensures.ok c.in-Ok.ensures.stated.1 c.serve_hall-served.ensures.ends c.serve_hall-served.ensures.untouched)

@@ -7,5 +7,5 @@ pub returns-in-Err-NoMemory-clause-ends : goal.returns-in-Err-NoMemory-clause-en
 returns-in-Err-NoMemory-clause-ends g c = λ port count links is.
     rw (c.unread.ensures.status, c.unread.ensures.disk)
     (ends_unprepared (device g.D.Disk.tells g.D.Disk.content g.D.Disk.is_image g.D.Disk.moment g.D.Disk.was_image g.D.Disk.faults)
-    (door_kind g.R.Link.Link.received g.R.Link.Link.sent g.R.Link.Link.ended g.R.Link.Link.reads g.R.Link.Link.read_faults g.R.Link.Link.write_faults g.R.Door.tells g.R.Door.finished g.R.Door.given g.R.Door.coming g.R.Door.faults)
+    (door_kind g.R.Link.Link.tells g.R.Door.known g.R.Door.tells)
     count links c.args.disk c.args.doors.now.items (g.O.Sink.held c.args.out.now) c.unread.ensures.at_rest)
