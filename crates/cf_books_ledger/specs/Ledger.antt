@@ -34,18 +34,29 @@ abbrev pub is_through : Option Day → Day → Bool
 is_through None on = true
 is_through (Some day) on = not (is_before day on)
 
-abbrev pub is_wanted_of : LedgerFilter → PartyLists → Entry → LedgerRow → Bool
-is_wanted_of f parties e r =
-    is_asked f.fund r.fund && (is_asked f.dept r.dept && (is_asked f.object r.object && (is_named f.line r.line && (is_named f.source r.source
-    && (is_asked f.vendor (party_by parties e.change.act r) && (is_asked f.year r.year && (is_from f.from e.change.on && is_through f.through e.change.on)))))))
+-- whether the accounts, the line and the source of a row are asked for
+abbrev pub is_there : LedgerFilter → LedgerRow → Bool
+is_there f r = is_asked f.fund r.fund && (is_asked f.dept r.dept && (is_asked f.object r.object && (is_named f.line r.line && is_named f.source r.source)))
+
+abbrev pub is_within : LedgerFilter → Day → Bool
+is_within f on = is_from f.from on && is_through f.through on
+
+-- .. and its party, its fiscal year and the day of its entry
+abbrev pub is_wanted : LedgerFilter → PartyLists → Entry → LedgerRow → Bool
+is_wanted f parties e r =
+    is_there f r && (is_asked f.vendor (party_by parties e.change.act r) && (is_asked f.year r.year && is_within f e.change.on))
+
+-- the entry that a row is of
+abbrev pub entry_of : List Entry → LedgerRow → Option Entry
+entry_of history r = slice_get history (r.of.place - 1)
 
 abbrev pub wanted_if : LedgerFilter → PartyLists → Option Entry → LedgerRow → Option Entry
 wanted_if f parties None r = None
-wanted_if f parties (Some e) r = if is_wanted_of f parties e r then Some e else None
+wanted_if f parties (Some e) r = if is_wanted f parties e r then Some e else None
 
--- the entry of a row that is asked for
+-- .. where the row is asked for
 abbrev pub wanted : LedgerFilter → PartyLists → List Entry → LedgerRow → Option Entry
-wanted f parties history r = wanted_if f parties (slice_get history (r.of.place - 1)) r
+wanted f parties history r = wanted_if f parties (entry_of history r) r
 
 -- ---- what was spent and received so far
 

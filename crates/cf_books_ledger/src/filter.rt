@@ -74,19 +74,39 @@ fn is_through(asked: Option<Day>, on: Day) -> bool
     }
 }
 
-/// Whether a row of an entry is asked for.
-fn is_wanted(filter: &LedgerFilter, parties: &Parties, entry: &Entry, row: &LedgerRow) -> bool
-    ensures { result ≡ spec.is_wanted_of filter.now parties.now entry.now row.now }
+/// Whether the accounts, the line and the source of a row are asked for.
+fn is_there(filter: &LedgerFilter, row: &LedgerRow) -> bool
+    ensures { result ≡ spec.is_there filter.now row.now }
 {
     is_asked(filter.fund, row.fund)
         && is_asked(filter.dept, row.dept)
         && is_asked(filter.object, row.object)
         && is_named(filter.line, row.line)
         && is_named(filter.source, row.source)
+}
+
+/// Whether a day is asked for.
+fn is_within(filter: &LedgerFilter, on: Day) -> bool
+    ensures { result ≡ spec.is_within filter.now on }
+{
+    is_from(filter.from, on) && is_through(filter.through, on)
+}
+
+/// Whether a row of an entry is asked for.
+fn is_wanted(filter: &LedgerFilter, parties: &Parties, entry: &Entry, row: &LedgerRow) -> bool
+    ensures { result ≡ spec.is_wanted filter.now parties.now entry.now row.now }
+{
+    is_there(filter, row)
         && is_party_asked(filter.vendor, party_of(parties, &entry.change.act, row))
         && is_asked(filter.year, row.year)
-        && is_from(filter.from, entry.change.on)
-        && is_through(filter.through, entry.change.on)
+        && is_within(filter, entry.change.on)
+}
+
+/// The entry that a row is of.
+fn entry_of<'a>(entries: &'a [Entry], row: &LedgerRow) -> Option<&'a Entry>
+    ensures { option_copied result ≡ spec.entry_of entries.now row.now }
+{
+    entries.get(row.of.place.saturating_sub(1) as usize)
 }
 
 /// The entry of a row that is asked for.
@@ -98,10 +118,14 @@ pub fn wanted<'a>(
 ) -> Option<&'a Entry>
     ensures { option_copied result ≡ spec.wanted filter.now parties.now entries.now row.now }
 {
-    let entry = entries.get(row.of.place.saturating_sub(1) as usize)?;
-    if is_wanted(filter, parties, entry, row) {
-        Some(entry)
-    } else {
-        None
+    match entry_of(entries, row) {
+        Some(entry) => {
+            if is_wanted(filter, parties, entry, row) {
+                Some(entry)
+            } else {
+                None
+            }
+        }
+        None => None,
     }
 }
