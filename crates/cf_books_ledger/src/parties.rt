@@ -61,7 +61,7 @@ fn put_party(parties: &mut Parties, act: &Act) -> Result<(), AllocError>
 }
 
 /// The parties of the documents of a history.
-pub fn parties(alloc: Global, entries: &[Entry]) -> Result<Parties, AllocError>
+pub fn all_parties(alloc: Global, entries: &[Entry]) -> Result<Parties, AllocError>
     ensures { IfOk result (λ p. p ≡ parties_of entries.now) }
 {
     let mut parties = Parties {

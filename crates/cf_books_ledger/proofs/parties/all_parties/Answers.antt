@@ -1,6 +1,6 @@
 use Rattle.std.proofs.Common.{sym}
 use Rattle.cf_books_ledger.proofs.Listing.{parties_more}
-use Rattle.cf_books_ledger.proofs.parties.parties.Goals as goal
+use Rattle.cf_books_ledger.proofs.parties.all_parties.Goals as goal
 
 pub loop-entry-preserved : goal.loop-entry-preserved
 loop-entry-preserved c =
