@@ -1,0 +1,10 @@
+//! The ledger: what each entry moved of control lines and of revenue sources, item by item, as
+//! records that are asked for by fund, line, source, party, fiscal year and day.
+#![tactic(auto)]
+
+mod filter;
+mod ledger;
+mod parties;
+
+pub use filter::LedgerFilter;
+pub use ledger::{Totals, ledger_text};
