@@ -70,6 +70,9 @@ changed '3s/\.00$/.01/' balances 2026 --csv
 changed '4d' balances 2026 --csv
 changed '2{h;d};3G' balances 2026 --csv
 changed '3s/Receivables/Cash/' balances 2026 --csv
+changed '2d' balances 2026 --alone --csv
+changed '3s/\.00$/.01/' paid 2025 --csv
+changed '2{h;d};3G' paid 2025 --csv
 changed '2d' open --csv
 changed '3s/^General Fund/Street Fund/' statement 2026 balance --csv
 changed '4s/Administration/Streets/' statement 2026 budget --csv
@@ -98,6 +101,31 @@ gov,0,,110000,Receivables,900.00
 gov,0,,200000,Vouchers payable,-400.00
 gov,0,,400001,Property tax,-1900.00
 gov,0,,500002,Public works,1000.00" balances 2026 --csv
+expect "the balances of the first day's year alone" 0 "basis,fund,fund_name,account,account_name,balance
+fund,1,General Fund,100000,Cash,400.00
+fund,1,General Fund,110000,Receivables,900.00
+fund,1,General Fund,200000,Vouchers payable,-400.00
+fund,1,General Fund,290000,Unavailable revenue,-900.00
+fund,1,General Fund,400001,Property tax,-1000.00
+fund,1,General Fund,500002,Public works,1000.00
+gov,0,,100000,Cash,400.00
+gov,0,,110000,Receivables,900.00
+gov,0,,200000,Vouchers payable,-400.00
+gov,0,,400001,Property tax,-1900.00
+gov,0,,500002,Public works,1000.00" balances 2026 --alone --csv
+expect "the balances of the year behind the first day's" 0 "basis,fund,fund_name,account,account_name,balance
+fund,1,General Fund,100000,Cash,400.00
+fund,1,General Fund,110000,Receivables,900.00
+fund,1,General Fund,200000,Vouchers payable,-400.00
+fund,1,General Fund,290000,Unavailable revenue,-900.00
+gov,0,,100000,Cash,400.00
+gov,0,,110000,Receivables,900.00
+gov,0,,200000,Vouchers payable,-400.00
+gov,0,,300000,Opening net position,-900.00" balances 2027 --alone --csv
+expect "what vendors were paid in the first day's year" 0 "vendor,document,number,key,day,run,amount
+77,total,,,,,600.00
+77,voucher,1,v1,2025-07-06,p1,600.00" paid 2025 --csv
+expect "what vendors were paid in the year before" 0 "vendor,document,number,key,day,run,amount" paid 2024 --csv
 expect "what is open of the first day" 0 "call,number,item,day,desk,key,party,year,line,fund_name,dept_name,open,next,closed
 bill,1,,2025-07-06,6,l1,5,2026,,,,900.00,,
 voucher,2,,2025-07-05,4,v2,77,2026,,,,400.00,," open --csv

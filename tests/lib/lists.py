@@ -78,6 +78,44 @@ def balances_of(office, year):
                 yield [basis, str(fund), name, str(account), its_name, money(balance)]
 
 
+def year_balances_of(office, year):
+    """The rows of `books balances --alone`: what accounts below 300000 come to through the year, and all others in it, with what the
+    first came to through the year before as the beginning."""
+    parts = [("fund", fund["id"], fund["name"], fund_accounts(office, fund)) for fund in office.by_id("fund")]
+    for basis, fund, name, accounts in [*parts, ("gov", 0, "", city_accounts(office))]:
+        was = {account: office.balance(basis, year - 1, fund, account) for account in accounts}
+        amounts = {account: office.balance(basis, year, fund, account) - (was[account] if account >= 300000 else 0) for account in accounts}
+        amounts[300000] = -sum(amount for account, amount in was.items() if account < 300000)
+        names = {**accounts, 300000: "Opening fund balance" if basis == "fund" else "Opening net position"}
+        kept = [account for account in accounts if account < 300000]
+        for account in [*kept, 300000, *(account for account in accounts if account > 300000)]:
+            if amounts[account]:
+                yield [basis, str(fund), name, str(account), names[account], money(amounts[account])]
+
+
+def paid_of(entries, year):
+    """The rows of `books paid`: of each vendor a total, and each voucher and payment of a lease that an entry dated in the year paid.
+    An entry is a row of `books list` with its call."""
+    vouchers, leases, paid = {}, {}, []
+    for row, call in entries:
+        if call["call"] == "voucher":
+            vouchers[int(row["number"])] = call["vendor"], call["key"], sum(item["amount"] for item in call["items"])
+        elif call["call"] == "lease":
+            leases[int(row["second"])] = call["vendor"], call["key"]
+        elif call["on"].startswith("%d-" % year) and call["call"] == "pay":
+            for number in call["vouchers"]:
+                vendor, key, amount = vouchers[number]
+                paid.append((vendor, "voucher", number, key, call["on"], call["key"], amount))
+        elif call["on"].startswith("%d-" % year) and call["call"] == "pay_due" and call["bond"] in leases:
+            vendor, key = leases[call["bond"]]
+            paid.append((vendor, "lease", call["bond"], key, call["on"], call["key"], cents(row["amount"])))
+    for vendor, rows in itertools.groupby(sorted(paid, key=lambda row: row[0]), lambda row: row[0]):
+        rows = list(rows)
+        yield [str(vendor), "total", "", "", "", "", money(sum(row[-1] for row in rows))]
+        for *fields, amount in rows:
+            yield [*map(str, fields), money(amount)]
+
+
 def line_names(office, number):
     """The names of a control line: of its department, its number, its part of the department's objects, and of a single object."""
     line = office.chart["line"][number]
@@ -230,6 +268,28 @@ class Lists:
         asked = [{"call": "account", "basis": basis, "year": year, "fund": int(fund), "account": int(account)} for basis, fund, account in keys]
         same(f"the looks of {year}", [int(look["balance"]) for look in self.looks(asked)], [posted[key] for key in keys])
 
+    def test_year_balances(self, year):
+        """A trial balance of a year alone has the office's rows, and each fund's sums to zero."""
+        head, *rows = self.records("balances", str(year), "--alone")
+        same("the columns of a year's trial balance", head, "basis fund fund_name account account_name balance".split())
+        same(f"the balances of {year} alone", rows, guarded(year_balances_of(self.office, year)))
+        totals = Counter()
+        for basis, fund, _, _, _, balance in rows:
+            totals[basis, fund] += cents(balance)
+        same(f"the sums of {year} alone", nonzero(totals), {})
+
+    # ---- what was paid
+
+    def test_paid(self, year):
+        """What each vendor was paid in a calendar year, by the calls, and in all by the amounts of the payments."""
+        calls = [json.loads(line) for line in printed(self.folder, self.books, "calls").splitlines()]
+        listed = list(zip(self.rows_of("list"), calls, strict=True))
+        head, *rows = self.records("paid", str(year))
+        same("the columns of what was paid", head, "vendor document number key day run amount".split())
+        same(f"what was paid in {year}", rows, guarded(paid_of(listed, year)))
+        runs = sum(cents(row["amount"]) for row, call in listed if call["call"] == "pay" and call["on"].startswith("%d-" % year))
+        same(f"the payments of vouchers of {year}", sum(cents(row[-1]) for row in rows if row[1] == "voucher"), runs)
+
     # ---- statements
 
     def test_statement(self, year, kind):
@@ -284,10 +344,12 @@ class Lists:
         for year in (self.years[0] - 1, *self.years, self.years[-1] + 1):
             if year in YEARS:
                 yield self.test_balances, (year,)
+                yield self.test_year_balances, (year,)
+                yield self.test_paid, (year,)
         for year, kind in itertools.product(self.years, KINDS):
             yield self.test_statement, (year, kind)
         first = str(self.years[0])
-        for words in (("posts",), ("open",), ("balances", first), *(("statement", first, kind) for kind in KINDS)):
+        for words in (("posts",), ("open",), ("balances", first), ("balances", first, "--alone"), ("paid", first), *(("statement", first, kind) for kind in KINDS)):
             yield self.test_tabs, words
 
 

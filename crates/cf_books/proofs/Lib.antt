@@ -1,6 +1,5 @@
 pub mod Behind
 pub mod CallsAgain
-pub mod Noted
 pub mod Steps
 pub mod Ends
 pub mod Today

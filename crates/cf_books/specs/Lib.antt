@@ -1,8 +1,5 @@
 pub mod Again
 pub mod Calls
-pub mod Amounts
-pub mod Payments
-pub mod Tables
 pub mod Listing
 pub mod Lines
 pub mod Summary

@@ -2,7 +2,6 @@
 //! and change nothing.
 #![tactic(auto)]
 
-mod amounts;
 mod answers;
 mod calls;
 mod fault_rows;
@@ -12,7 +11,6 @@ mod listing;
 mod lists;
 mod notices;
 mod office;
-mod payments;
 mod refused;
 mod room;
 mod running;

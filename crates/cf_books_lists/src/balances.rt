@@ -46,7 +46,7 @@ fn put_balance(
 }
 
 /// Writes the record of a balance that isn't zero.
-fn put_some(
+pub fn put_balance_unless_zero(
     alloc: Global,
     out: &mut Rows,
     chart: &Chart,
@@ -76,7 +76,7 @@ fn put_account(
     ensures { OnOk result (out.new ≡ added out.old (spec.account_text out.old.csv rest.now.plan rest.now.entries basis year fund account)) }
 {
     let balance = rest.balance(basis, year, fund, account);
-    put_some(alloc, out, rest.chart(), basis, fund, account, balance)
+    put_balance_unless_zero(alloc, out, rest.chart(), basis, fund, account, balance)
 }
 
 /// Writes the balances of these accounts through a fiscal year.
@@ -135,8 +135,8 @@ fn put_funds(
     Ok(())
 }
 
-/// Writes the names of the columns.
-fn put_head(out: &mut Rows) -> Result<(), AllocError>
+/// Writes the names of the columns of a trial balance.
+pub fn put_balance_head(out: &mut Rows) -> Result<(), AllocError>
     ensures { OnOk result (out.new ≡ added out.old (head_text out.old.csv spec.head)) }
 {
     let names: [&[u8]; 6] = [
@@ -155,7 +155,7 @@ fn all_text(layout: Layout, rest: &Rest, year: u16) -> Result<Vec<u8>, AllocErro
     ensures { IfOk result (λ v. v.items ≡ spec.balances_of layout.csv year rest.now.plan rest.now.entries) }
 {
     let mut out = Rows::new(layout);
-    put_head(&mut out)?;
+    put_balance_head(&mut out)?;
     put_funds(layout.alloc, &mut out, rest, year, rest.chart().funds())?;
     let accounts = gov_accounts(layout.alloc, rest.chart())?;
     put_accounts(

@@ -12,9 +12,10 @@ mod rows;
 mod statement;
 mod texts;
 
-pub use balances::balances_text;
+pub use accounts::{fund_accounts, gov_accounts};
+pub use balances::{balances_text, put_balance_head, put_balance_unless_zero};
 pub use lines::{later_of, part_and_years, part_name};
-pub use names::{department_name, fund_name};
+pub use names::{basis_word, department_name, fund_name};
 pub use open::open_text;
 pub use posts::{PlacedPost, open_with_posts, posts_text};
 pub use rows::{Layout, Rows};

@@ -47,9 +47,11 @@ fn is_unsigned(text: &[u8]) -> bool
     text.iter().all(|c| *c == b'.' || b'0' <= *c && *c <= b'9')
 }
 
-/// Whether a spreadsheet takes a field for a formula. It never takes an amount for one.
+/// Whether a spreadsheet takes a field for a formula. An amount, up to what 128 bits hold, is none, and stands as it is.
+#[tactic(auto, using(crate::proofs::Formulas::amount_stands))]
 fn is_formula(field: &[u8]) -> bool
-    ensures { result ≡ spec.is_formula field.now }
+    ensures value { result ≡ spec.is_formula field.now }
+    ensures amounts { (amount : ℤ) → unsigned_abs amount < 2 ^ 128 → guarded (money_of amount) ≡ money_of amount }
 {
     match field.split_first() {
         Some((first, rest)) => begins_formula(*first) || *first == b'-' && !is_unsigned(rest),
@@ -118,11 +120,9 @@ impl Model for Rows {
 }
 
 impl Rows {
-    /// No row. An amount, up to what 128 bits hold, is no formula and stands in a row as it is.
-    #[tactic(auto, using(crate::proofs::Formulas::amount_stands))]
+    /// No row.
     pub fn new(layout: Layout) -> Rows
-        ensures none { result ≡ none_written layout.csv }
-        ensures amounts { (amount : ℤ) → unsigned_abs amount < 2 ^ 128 → guarded (money_of amount) ≡ money_of amount }
+        ensures { result ≡ none_written layout.csv }
     {
         Rows {
             layout,

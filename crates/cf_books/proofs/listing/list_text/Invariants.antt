@@ -1,7 +1,7 @@
 use Rattle.std.proofs.Common.{◌≡◌, ◌+◌, drop}
 use Rattle.cf_books.specs.Listing.{entry_rows, list_text}
-use Rattle.cf_books.specs.Payments.{Payable}
-use Rattle.cf_books.specs.Tables.{Knows}
+use Rattle.cf_books_payments.specs.Payments.{Payable}
+use Rattle.cf_books_payments.specs.Tables.{Knows}
 use Rattle.cf_books_lists.specs.Records.{rows_text}
 use Rattle.cf_books_lists.specs.Rows.{added, none_written}
 use Rattle.cf_books.proofs.listing.list_text.Given as goal

@@ -1,4 +1,0 @@
-use Rattle.cf_books_lists.proofs.balances.put_head.Goals as goal
-
-pub returns : goal.returns
-returns c = rw c.as_slice.ensures at c.put_names.ensures

@@ -1,0 +1,4 @@
+pub mod Noted
+pub mod Rising
+pub mod Added
+pub mod Paying

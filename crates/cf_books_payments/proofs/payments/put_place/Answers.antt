@@ -1,0 +1,9 @@
+use Rattle.std.proofs.Common.{◌∙◌, ap, Some, if◌then◌else◌}
+use Rattle.std.specs.Ordering.{nat_cmp}
+use Rattle.std.specs.BTreeMap.{get}
+use Rattle.cf_books_payments.proofs.Noted.{same_number}
+use Rattle.cf_books_payments.proofs.payments.put_place.Goals as goal
+
+pub returns : goal.returns
+returns c n =
+    c.in_ok-insert.ensures.updates.0 n ∙ ap (λ b. if b then Some c.args.at else get nat_cmp c.args.places.now n) (same_number c.args.number n)

@@ -1,0 +1,5 @@
+pub mod Amounts
+pub mod Payments
+pub mod Tables
+pub mod Paid
+pub mod Entering

@@ -1,0 +1,3 @@
+pub mod Opening
+pub mod Forms
+pub mod Few

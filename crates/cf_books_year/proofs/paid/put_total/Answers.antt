@@ -1,0 +1,9 @@
+use Rattle.std.proofs.Common.{◌≡◌, ◌∙◌, decimal}
+use Rattle.cf_base.specs.Amounts.{money_of}
+use Rattle.cf_books_year.proofs.paid.put_total.Goals as goal
+
+pub returns : goal.returns
+returns c =
+    let vendor : c.as_slice.result.now ≡ decimal c.args.vendor = c.as_slice.ensures.value ∙ c.in_ok-number.ensures in
+    let amount : c.as_bytes.result.now ≡ money_of c.args.total = c.as_bytes.ensures.value ∙ c.as_str.ensures.value ∙ c.in_ok-amount.ensures in
+    rw (← vendor, ← amount) (rw c.as_slice-2.ensures at c.put.ensures)
