@@ -38,6 +38,8 @@ use Rattle.cf_books_lists.specs.Balances.{balances_of}
 use Rattle.cf_books_lists.specs.Open.{open_text}
 use Rattle.cf_books_lists.specs.Posts.{posts_of}
 use Rattle.cf_books_lists.specs.Statement.{statement_text}
+use Rattle.cf_books_year.specs.YearBalances.{year_text}
+use Rattle.cf_books_year.specs.Paid.{paid_text}
 use Rattle.cf_books.specs.FaultRows.{fault_id}
 use Rattle.cf_books.specs.Lines.{lines_text}
 use Rattle.cf_books.specs.Listing.{list_text}
@@ -137,6 +139,8 @@ refused_said bytes NoMemory = nothing status.NoMemory
 abbrev pub office_text : Command → List ℕ → OfficeState → List ℕ
 office_text (Posts filter None csv) bytes s = posts_of csv filter s.plan s.entries
 office_text (Balances year None false csv) bytes s = balances_of csv year s.plan s.entries
+office_text (Balances year None true csv) bytes s = year_text csv year s.plan s.entries
+office_text (Paid year csv) bytes s = paid_text csv year s.entries
 office_text (Open csv) bytes s = open_text csv s.plan s.entries
 office_text (Statement year kind None csv) bytes s = statement_text csv year kind s.plan s.entries
 office_text _ bytes s = journal_text s.entries ++ room_text bytes s.entries
@@ -194,14 +198,15 @@ said key Check bytes = office_said Check bytes (recovered bytes)
 said key (Posts filter None csv) bytes = office_said (Posts filter None csv) bytes (recovered bytes)
 said key (Posts filter (Some day) csv) bytes = nothing status.BadWords
 said key (Balances year None false csv) bytes = office_said (Balances year None false csv) bytes (recovered bytes)
-said key (Balances year through alone csv) bytes = nothing status.BadWords
+said key (Balances year None true csv) bytes = office_said (Balances year None true csv) bytes (recovered bytes)
+said key (Balances year (Some day) alone csv) bytes = nothing status.BadWords
 said key (Open csv) bytes = office_said (Open csv) bytes (recovered bytes)
 said key (Statement year kind None csv) bytes = statement_said year kind csv bytes
 said key (Statement year kind (Some day) csv) bytes = nothing status.BadWords
 said key (Ledger filter csv) bytes = nothing status.BadWords
 said key (Documents filter csv) bytes = nothing status.BadWords
 said key (Month month csv) bytes = nothing status.BadWords
-said key (Paid year csv) bytes = nothing status.BadWords
+said key (Paid year csv) bytes = office_said (Paid year csv) bytes (recovered bytes)
 said key command bytes = whole_said command (length bytes) (whole_of bytes)
 
 -- ---- the first entries of a history

@@ -17,7 +17,9 @@ use crate::fault_rows::fault_id;
 use crate::grants::{claims_answer, grants_answer};
 use crate::lines::lines_text;
 use crate::listing::list_text;
-use crate::lists::{balances_answer, open_answer, posts_answer, statement_answer};
+use crate::lists::{
+    balances_answer, open_answer, paid_answer, posts_answer, statement_answer, year_balances_answer,
+};
 use crate::office::office_answer;
 use crate::status::Status;
 use crate::summary::put_chart;
@@ -203,6 +205,13 @@ fn command_answer(
             alone: false,
             csv,
         } => balances_answer(Layout { alloc, csv }, year, bytes),
+        Command::Balances {
+            year,
+            through: None,
+            alone: true,
+            csv,
+        } => year_balances_answer(Layout { alloc, csv }, year, bytes),
+        Command::Paid { year, csv } => paid_answer(Layout { alloc, csv }, year, bytes),
         Command::Open { csv } => open_answer(Layout { alloc, csv }, bytes),
         Command::Statement {
             year,
@@ -211,12 +220,13 @@ fn command_answer(
             csv,
         } => statement_answer(Layout { alloc, csv }, year, kind, bytes),
         Command::Posts { .. }
-        | Command::Balances { .. }
+        | Command::Balances {
+            through: Some(_), ..
+        }
         | Command::Statement { .. }
         | Command::Ledger { .. }
         | Command::Documents { .. }
-        | Command::Month { .. }
-        | Command::Paid { .. } => Ok(nothing(alloc, Status::BadWords)),
+        | Command::Month { .. } => Ok(nothing(alloc, Status::BadWords)),
         Command::CheckGrants
         | Command::Claims { .. }
         | Command::List { .. }
