@@ -231,7 +231,7 @@ verdict "a journal of $entries entries, cut at each of its $in_use bytes in use,
 # ---- the first entries of a journal: each list says what it says of a journal that ends there
 
 mkdir "$scratch/front"
-for n in 0 1 7 "$entries"; do
+for n in 0 1 4 "$entries"; do
     found front examples/rivertown/chart.toml
     (cd "$scratch/front" && head -n "$n" "$scratch/first/calls" | "$program" desk > replies)
     for words in list calls lines open posts "balances 2026" "statement 2026 budget"; do

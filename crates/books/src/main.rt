@@ -79,13 +79,7 @@ fn run_words(rt: &HostRuntime, words: &[String]) -> Status {
             let mut source = FileSource::new(rt, request.path());
             let mut journal = FileSource::new(rt, JOURNAL);
             let mut out = StdSink::new(rt.stdout());
-            run(
-                rt.alloc(),
-                request,
-                &mut source,
-                &mut journal,
-                &mut out,
-            )
+            run(rt.alloc(), request, &mut source, &mut journal, &mut out)
         }
         Err(WordsRefused::BadWords) => Status::BadWords,
         Err(WordsRefused::NoSuchDay) => Status::NoSuchDay,

@@ -1,12 +1,12 @@
 -- What is said of the front of a journal that has no more entries.
 use Rattle.std.proofs.Common.{◌≡◌, ◌∙◌, ℕ, ◌≤◌, Bool, true, false, if◌then◌else◌, nat_le, List, length, Option, Some, None, Result, Ok, Err, refl, sym, ap, arith}
 use Rattle.std.proofs.lemmas.Bool.Decides.{nat_tests}
-use Rattle.std.specs.Prelude.{◌&&◌}
+use Rattle.std.specs.Prelude.{◌&&◌, IfOk}
 use Rattle.cf_base.specs.Limits.{last_year}
 use Rattle.cf_book.specs.Recovery.{of_frames, recovered}
 use Rattle.cf_book.specs.declared.refused.BookRefused.{BookRefused}
 use Rattle.cf_book.specs.declared.refused.BookRefused.TheVariants as book_refused
-use Rattle.cf_books_front.specs.Front.{HasAll, front, front_by, front_in}
+use Rattle.cf_books_front.specs.Front.{GivesFront, HasAll, front, front_by, front_in}
 use Rattle.cf_books_front.specs.Whole.{Parts, before, or_before, parts_or, whole_of}
 use Rattle.cf_books_front.specs.declared.front.FrontRefused.{FrontRefused}
 use Rattle.cf_books_front.specs.declared.front.FrontRefused.TheVariants.{Fewer, Nothing}
@@ -17,16 +17,20 @@ use Rattle.cf_journal.specs.Frames.{frames}
 use Rattle.cf_journal.specs.declared.refused.OpenRefused.{OpenRefused}
 use Rattle.cf_journal.specs.declared.refused.OpenRefused.TheVariants.{Damaged, Disk, NoMemory, NotFounded}
 use Rattle.cf_model.specs.State.{OfficeState}
-use Rattle.cf_books.specs.Answers.{IsToday, Said, is_of_entries, lines_said, nothing, office_said, office_text, over_office, refused_in, refused_said, said, said_first, statement_said, whole_said}
+use Rattle.cf_books.specs.Answers.{Answers, IsToday, Said, is_of_entries, lines_said, nothing, office_said, office_text, over_office, refused_in, refused_said, said, said_first, statement_said, view, whole_said}
+use Rattle.cf_books.specs.declared.answers.Answer.{Answer}
 use Rattle.cf_books.specs.declared.status.Status.TheVariants.{BadWords}
+
+abbrev parts_with : List ℕ × List Entry → Option ℕ → Parts
+parts_with x damage = record { chart = x.0; entries = x.1; damage = damage }
 
 -- where nothing is damaged, what is whole is what the frames are
 undamaged : (bytes : List ℕ) (r : Result (List ℕ × List Entry) OpenRefused) (p : Parts) → or_before bytes r ≡ Ok p → p.damage ≡ None → r ≡ Ok (p.chart, p.entries)
-undamaged bytes (Ok x) p is none = let same : record { chart = x.0; entries = x.1; damage = None } ≡ p = cc is in ap (λ (q : Parts). Ok (q.chart, q.entries)) same
+undamaged bytes (Ok x) p is none = let same : parts_with x None ≡ p = cc is in ap (λ (q : Parts). Ok (q.chart, q.entries)) same
 undamaged bytes (Err (Damaged at)) p is none = damaged (frames (before at bytes)) is
   where
     damaged : (r : Result (List ℕ × List Entry) OpenRefused) → parts_or (Some at) (Damaged at) r ≡ Ok p → Err (Damaged at) ≡ Ok (p.chart, p.entries)
-    damaged (Ok x) is = let same : record { chart = x.0; entries = x.1; damage = Some at } ≡ p = cc is in let some : Some at ≡ None = ap (λ (q : Parts). q.damage) same ∙ none in absurd (cc some)
+    damaged (Ok x) is = let same : parts_with x (Some at) ≡ p = cc is in let some : Some at ≡ None = ap (λ (q : Parts). q.damage) same ∙ none in absurd (cc some)
     damaged (Err e) is = absurd (cc is)
 undamaged bytes (Err e) p is none = absurd (cc is)
 
@@ -37,7 +41,7 @@ module _ (a b : List ℕ) (x : List ℕ × List Entry) (first : frames a ≡ Ok 
   same_frames = first ∙ sym second
 
   abbrev all : Parts
-  all = record { chart = x.0; entries = x.1; damage = None }
+  all = parts_with x None
 
   whole_a : whole_of a ≡ Ok all
   whole_a = ap (or_before a) first
@@ -82,7 +86,7 @@ module _ (a b : List ℕ) (x : List ℕ × List Entry) (first : frames a ≡ Ok 
   same_said key (asked.Posts filter None csv) is = same_book _ _ (λ s. refl)
   same_said key (asked.Posts filter (Some day) csv) is = refl
   same_said key (asked.Balances year None false csv) is = same_book _ _ (λ s. refl)
-  same_said key (asked.Balances year None true csv) is = refl
+  same_said key (asked.Balances year None true csv) is = same_book _ _ (λ s. refl)
   same_said key (asked.Balances year (Some day) alone csv) is = refl
   same_said key (asked.Open csv) is = same_book _ _ (λ s. refl)
   same_said key (asked.Statement year kind None csv) is =
@@ -91,7 +95,7 @@ module _ (a b : List ℕ) (x : List ℕ × List Entry) (first : frames a ≡ Ok 
   same_said key (asked.Ledger filter csv) is = refl
   same_said key (asked.Documents filter csv) is = refl
   same_said key (asked.Month month csv) is = refl
-  same_said key (asked.Paid year csv) is = refl
+  same_said key (asked.Paid year csv) is = same_book _ _ (λ s. refl)
 
 -- ---- the front of all entries
 
@@ -107,3 +111,15 @@ has_front n bytes why refused p whole count =
     let all : nat_le n (length p.entries) ≡ true = let le : n ≤ length p.entries = omega (arith, count) in grind (arith, nat_tests) in
     let made = ap (λ (b : Bool). if b then Ok (front n p bytes) else Err (Fewer (length p.entries))) all in
     absurd (cc (sym made ∙ sym (ap (front_by n bytes) whole) ∙ refused))
+
+-- ---- what is answered
+
+pub today_answer : {E : Type 0} (r : Result Answer E) (n : ℕ) (key : Option (List ℕ)) (command : Command) (bytes made : List ℕ) → Answers r (said key command made) → HasAll n bytes made
+    → IfOk r (λ a. IsToday n key command bytes (view a))
+today_answer (Ok a) n key command bytes made is has = λ p whole none count entries. sym is ∙ front_today n key command bytes made has p whole none count entries
+today_answer (Err e) n key command bytes made is has = tt
+
+pub none_answer : {E : Type 0} (r : Result Answer E) (n : ℕ) (key : Option (List ℕ)) (command : Command) (bytes : List ℕ) (why : FrontRefused)
+    → IfOk r (λ a. (x : Result (List ℕ) FrontRefused) → GivesFront (Err why) x → x ≡ Err why) → GivesFront (Err why) (front_in n bytes) → IfOk r (λ a. IsToday n key command bytes (view a))
+none_answer (Ok a) n key command bytes why known gives = λ p whole none count entries. absurd (has_front n bytes why (known (front_in n bytes) gives) p whole count)
+none_answer (Err e) n key command bytes why known gives = tt

@@ -2,6 +2,7 @@
 use Rattle.std.specs.Prelude.{◌≡◌, ⊤, ℕ, zero, suc, ◌+◌, ◌-◌, ◌&&◌, nat_le, Bool, true, false, if◌then◌else◌, List, [], ◌∷◌, ◌++◌, length, Option, Some, None, Result, Ok, Err}
 use Rattle.std.specs.Io.KnownBytes.{Appends}
 use Rattle.cf_base.specs.Limits.{last_year}
+use Rattle.cf_base.specs.declared.calendar.Day.{Day}
 use Rattle.cf_book.specs.DurableState.{DurableBook}
 use Rattle.cf_book.specs.Recovery.{recovered}
 use Rattle.cf_book.specs.declared.refused.BookRefused.{BookRefused}
@@ -26,6 +27,7 @@ use Rattle.cf_model.specs.State.{OfficeState}
 use Rattle.cf_words.specs.declared.words.ReportKind.{ReportKind}
 use Rattle.cf_books_words.specs.Words.{Asked}
 use Rattle.cf_books_words.specs.declared.words.Command.{Command}
+use Rattle.cf_books_words.specs.declared.words.PostFilter.{PostFilter}
 use Rattle.cf_books_words.specs.declared.words.Command.TheVariants.{CheckChart, CheckGrants, Check, Claims, List as Listing, Calls, Chart, Lines, Posts, Balances, Open, Statement, Ledger, Documents, Month, Paid}
 use Rattle.cf_books_grants.specs.Documents.{document_text}
 use Rattle.cf_books_grants.specs.FaultIds.{fault_id as grant_fault_id}
@@ -38,6 +40,8 @@ use Rattle.cf_books_lists.specs.Balances.{balances_of}
 use Rattle.cf_books_lists.specs.Open.{open_text}
 use Rattle.cf_books_lists.specs.Posts.{posts_of}
 use Rattle.cf_books_lists.specs.Statement.{statement_text}
+use Rattle.cf_books_year.specs.YearBalances.{year_text}
+use Rattle.cf_books_year.specs.Paid.{paid_text}
 use Rattle.cf_books.specs.FaultRows.{fault_id}
 use Rattle.cf_books.specs.Lines.{lines_text}
 use Rattle.cf_books.specs.Listing.{list_text}
@@ -137,6 +141,8 @@ refused_said bytes NoMemory = nothing status.NoMemory
 abbrev pub office_text : Command → List ℕ → OfficeState → List ℕ
 office_text (Posts filter None csv) bytes s = posts_of csv filter s.plan s.entries
 office_text (Balances year None false csv) bytes s = balances_of csv year s.plan s.entries
+office_text (Balances year None true csv) bytes s = year_text csv year s.plan s.entries
+office_text (Paid year csv) bytes s = paid_text csv year s.entries
 office_text (Open csv) bytes s = open_text csv s.plan s.entries
 office_text (Statement year kind None csv) bytes s = statement_text csv year kind s.plan s.entries
 office_text _ bytes s = journal_text s.entries ++ room_text bytes s.entries
@@ -187,21 +193,31 @@ vouchers_said id csv bytes s = rows_said csv bytes (vouchers_of_grant s.plan s.e
 
 -- ---- any command
 
+abbrev pub posts_said : PostFilter → Option Day → Bool → List ℕ → Said
+posts_said filter None csv bytes = office_said (Posts filter None csv) bytes (recovered bytes)
+posts_said filter (Some day) csv bytes = nothing status.BadWords
+
+abbrev pub balances_said : ℕ → Option Day → Bool → Bool → List ℕ → Said
+balances_said year None false csv bytes = office_said (Balances year None false csv) bytes (recovered bytes)
+balances_said year None true csv bytes = office_said (Balances year None true csv) bytes (recovered bytes)
+balances_said year (Some day) alone csv bytes = nothing status.BadWords
+
+abbrev pub statement_through_said : ℕ → ReportKind → Option Day → Bool → List ℕ → Said
+statement_through_said year kind None csv bytes = statement_said year kind csv bytes
+statement_through_said year kind (Some day) csv bytes = nothing status.BadWords
+
 abbrev pub said : Option (List ℕ) → Command → List ℕ → Said
 said key CheckChart bytes = chart_said bytes (chart_of bytes)
 said key Lines bytes = lines_said bytes (whole_of bytes)
 said key Check bytes = office_said Check bytes (recovered bytes)
-said key (Posts filter None csv) bytes = office_said (Posts filter None csv) bytes (recovered bytes)
-said key (Posts filter (Some day) csv) bytes = nothing status.BadWords
-said key (Balances year None false csv) bytes = office_said (Balances year None false csv) bytes (recovered bytes)
-said key (Balances year through alone csv) bytes = nothing status.BadWords
+said key (Posts filter through csv) bytes = posts_said filter through csv bytes
+said key (Balances year through alone csv) bytes = balances_said year through alone csv bytes
 said key (Open csv) bytes = office_said (Open csv) bytes (recovered bytes)
-said key (Statement year kind None csv) bytes = statement_said year kind csv bytes
-said key (Statement year kind (Some day) csv) bytes = nothing status.BadWords
+said key (Statement year kind through csv) bytes = statement_through_said year kind through csv bytes
 said key (Ledger filter csv) bytes = nothing status.BadWords
 said key (Documents filter csv) bytes = nothing status.BadWords
 said key (Month month csv) bytes = nothing status.BadWords
-said key (Paid year csv) bytes = nothing status.BadWords
+said key (Paid year csv) bytes = office_said (Paid year csv) bytes (recovered bytes)
 said key command bytes = whole_said command (length bytes) (whole_of bytes)
 
 -- ---- the first entries of a history

@@ -17,7 +17,7 @@ use crate::fault_rows::fault_id;
 use crate::grants::{claims_answer, grants_answer};
 use crate::lines::lines_text;
 use crate::listing::list_text;
-use crate::lists::{balances_answer, open_answer, posts_answer, statement_answer};
+use crate::lists::{balances_answer, open_answer, paid_answer, posts_answer, statement_answer};
 use crate::office::office_answer;
 use crate::status::Status;
 use crate::summary::put_chart;
@@ -194,29 +194,26 @@ fn command_answer(
         Command::Check => office_answer(alloc, bytes),
         Command::Posts {
             filter,
-            through: None,
+            through,
             csv,
-        } => posts_answer(Layout { alloc, csv }, filter, bytes),
+        } => posts_answer(Layout { alloc, csv }, filter, through, bytes),
         Command::Balances {
             year,
-            through: None,
-            alone: false,
+            through,
+            alone,
             csv,
-        } => balances_answer(Layout { alloc, csv }, year, bytes),
+        } => balances_answer(Layout { alloc, csv }, year, through, alone, bytes),
         Command::Open { csv } => open_answer(Layout { alloc, csv }, bytes),
         Command::Statement {
             year,
             kind,
-            through: None,
+            through,
             csv,
-        } => statement_answer(Layout { alloc, csv }, year, kind, bytes),
-        Command::Posts { .. }
-        | Command::Balances { .. }
-        | Command::Statement { .. }
-        | Command::Ledger { .. }
-        | Command::Documents { .. }
-        | Command::Month { .. }
-        | Command::Paid { .. } => Ok(nothing(alloc, Status::BadWords)),
+        } => statement_answer(Layout { alloc, csv }, year, kind, through, bytes),
+        Command::Paid { year, csv } => paid_answer(Layout { alloc, csv }, year, bytes),
+        Command::Ledger { .. } | Command::Documents { .. } | Command::Month { .. } => {
+            Ok(nothing(alloc, Status::BadWords))
+        }
         Command::CheckGrants
         | Command::Claims { .. }
         | Command::List { .. }
@@ -262,11 +259,7 @@ fn first_answer(
 
 /// What a command answers of a journal's first entries, where a number of them is asked for, or of all. Where the
 /// journal is whole and has that number of entries, it is what the command answers of all.
-fn answer_at(
-    alloc: Global,
-    request: &Request,
-    bytes: &[u8],
-) -> Result<Answer, AllocError>
+fn answer_at(alloc: Global, request: &Request, bytes: &[u8]) -> Result<Answer, AllocError>
     ensures answer { Answers result (spec.said_at request.now.entries (option_map (λ k. k.now) request.now.key) request.now.command bytes.now) }
     ensures all { IfOk result (λ a. (n : ℕ) → request.now.entries ≡ Some n → IsToday n (option_map (λ k. k.now) request.now.key) request.now.command bytes.now (spec.view a)) }
 {

@@ -1,23 +1,24 @@
 //! The lists of a journal whose entries the office takes again: posts, balances, what is open, and statements.
 
-ghost use Rattle.std.specs.Prelude.{◌≡◌, false, IfOk, None};
+ghost use Rattle.std.specs.Prelude.{◌≡◌, false, true, IfOk, None};
 ghost use Rattle.cf_book.specs.Recovery.{recovered};
 ghost use Rattle.cf_book.specs.Watching.{all_posted};
 ghost use Rattle.cf_calls.specs.Form.{IsYear};
 ghost use Rattle.cf_books.specs.Answers as spec;
 ghost use Rattle.cf_books.specs.Answers.{Answers, OpensWith};
 ghost use Rattle.cf_books_lists.specs.Posts.{placed_in};
-ghost use Rattle.cf_books_words.specs.declared.words.Command.TheVariants.{Balances, Open, Posts, Statement};
+ghost use Rattle.cf_books_words.specs.declared.words.Command.TheVariants.{Balances, Open, Paid, Posts, Statement};
 
 use crate::answers::{Answer, nothing};
 use crate::office::{open_book, refused_answer};
 use crate::status::Status;
-use cf_base::LAST_YEAR;
+use cf_base::{Day, LAST_YEAR};
 use cf_book::{Book, BookRefused, NotOpened};
 use cf_books_lists::{
     Layout, PlacedPost, balances_text, open_text, open_with_posts, posts_text, statement_text,
 };
 use cf_books_words::PostFilter;
+use cf_books_year::{paid_text, year_balances_text};
 use cf_disk::MemDisk;
 use cf_words::ReportKind;
 use std::alloc::{AllocError, Global};
@@ -49,8 +50,8 @@ fn open_posts(
     }
 }
 
-/// The posts that are wanted, or why the journal has none.
-pub fn posts_answer(layout: Layout, filter: PostFilter, bytes: &[u8]) -> Result<Answer, AllocError>
+/// The posts of all entries that are wanted, or why the journal has none.
+fn all_posts(layout: Layout, filter: PostFilter, bytes: &[u8]) -> Result<Answer, AllocError>
     ensures { Answers result (spec.office_said (Posts filter None layout.csv) bytes.now (recovered bytes.now)) }
 {
     let copy = Vec::from_slice(layout.alloc, bytes)?;
@@ -60,8 +61,23 @@ pub fn posts_answer(layout: Layout, filter: PostFilter, bytes: &[u8]) -> Result<
     }
 }
 
+/// The posts that are wanted, or why the journal has none.
+pub fn posts_answer(
+    layout: Layout,
+    filter: PostFilter,
+    through: Option<Day>,
+    bytes: &[u8],
+) -> Result<Answer, AllocError>
+    ensures { Answers result (spec.posts_said filter through layout.csv bytes.now) }
+{
+    match through {
+        None => all_posts(layout, filter, bytes),
+        Some(_) => Ok(nothing(layout.alloc, Status::BadWords)),
+    }
+}
+
 /// The balances through a fiscal year, or why the journal has none.
-pub fn balances_answer(layout: Layout, year: u16, bytes: &[u8]) -> Result<Answer, AllocError>
+fn all_balances(layout: Layout, year: u16, bytes: &[u8]) -> Result<Answer, AllocError>
     ensures { Answers result (spec.office_said (Balances year None false layout.csv) bytes.now (recovered bytes.now)) }
 {
     let copy = Vec::from_slice(layout.alloc, bytes)?;
@@ -69,6 +85,51 @@ pub fn balances_answer(layout: Layout, year: u16, bytes: &[u8]) -> Result<Answer
         Ok(book) => {
             let (_, archive) = book.into_parts();
             Ok(done(balances_text(layout, archive.rest(), year)?))
+        }
+        Err(why) => refused_answer(layout.alloc, bytes, why),
+    }
+}
+
+/// The balances of a fiscal year alone, or why the journal has none.
+fn year_balances(layout: Layout, year: u16, bytes: &[u8]) -> Result<Answer, AllocError>
+    ensures { Answers result (spec.office_said (Balances year None true layout.csv) bytes.now (recovered bytes.now)) }
+{
+    let copy = Vec::from_slice(layout.alloc, bytes)?;
+    match open_book(layout.alloc, copy) {
+        Ok(book) => {
+            let (_, archive) = book.into_parts();
+            Ok(done(year_balances_text(layout, archive.rest(), year)?))
+        }
+        Err(why) => refused_answer(layout.alloc, bytes, why),
+    }
+}
+
+/// The balances of a fiscal year, through it or alone, or why the journal has none.
+pub fn balances_answer(
+    layout: Layout,
+    year: u16,
+    through: Option<Day>,
+    alone: bool,
+    bytes: &[u8],
+) -> Result<Answer, AllocError>
+    ensures { Answers result (spec.balances_said year through alone layout.csv bytes.now) }
+{
+    match (through, alone) {
+        (None, false) => all_balances(layout, year, bytes),
+        (None, true) => year_balances(layout, year, bytes),
+        (Some(_), _) => Ok(nothing(layout.alloc, Status::BadWords)),
+    }
+}
+
+/// What each vendor was paid in a calendar year, or why the journal has none.
+pub fn paid_answer(layout: Layout, year: u16, bytes: &[u8]) -> Result<Answer, AllocError>
+    ensures { Answers result (spec.office_said (Paid year layout.csv) bytes.now (recovered bytes.now)) }
+{
+    let copy = Vec::from_slice(layout.alloc, bytes)?;
+    match open_book(layout.alloc, copy) {
+        Ok(book) => {
+            let (_, archive) = book.into_parts();
+            Ok(done(paid_text(layout, archive.rest(), year)?))
         }
         Err(why) => refused_answer(layout.alloc, bytes, why),
     }
@@ -106,7 +167,7 @@ fn statement_of(
 }
 
 /// A statement of a fiscal year, or why the journal has none. Words with a year that isn't from 1971 to 2199 are refused.
-pub fn statement_answer(
+fn whole_statement(
     layout: Layout,
     year: u16,
     kind: ReportKind,
@@ -118,5 +179,21 @@ pub fn statement_answer(
         statement_of(layout, year, kind, bytes)
     } else {
         Ok(nothing(layout.alloc, Status::BadWords))
+    }
+}
+
+/// A statement of a fiscal year, or why the journal has none.
+pub fn statement_answer(
+    layout: Layout,
+    year: u16,
+    kind: ReportKind,
+    through: Option<Day>,
+    bytes: &[u8],
+) -> Result<Answer, AllocError>
+    ensures { Answers result (spec.statement_through_said year kind through layout.csv bytes.now) }
+{
+    match through {
+        None => whole_statement(layout, year, kind, bytes),
+        Some(_) => Ok(nothing(layout.alloc, Status::BadWords)),
     }
 }

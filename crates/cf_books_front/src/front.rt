@@ -15,9 +15,7 @@ use std::alloc::{AllocError, Global};
 #[derive(Clone, Copy)]
 pub enum FrontRefused {
     /// It has fewer entries, this many.
-    Fewer {
-        entries: u64,
-    },
+    Fewer { entries: u64 },
     /// Nothing of it is whole.
     Nothing(OpenRefused),
 }
