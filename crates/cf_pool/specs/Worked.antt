@@ -2,7 +2,6 @@
 -- by the checker.
 use Rattle.std.specs.Prelude.{◌≡◌, ℕ, ℤ, pos, negsuc, List, [], ◌∷◌, ◌++◌, None, codes}
 use Rattle.cf_base.specs.Shares.{AreShares}
-use Rattle.cf_base.specs.declared.calendar.Day.{Day}
 use Rattle.cf_base.specs.declared.calendar.Month.{Month}
 use Rattle.cf_chart.specs.Plan.{Plan}
 use Rattle.cf_chart.specs.declared.rows.Fund.{Fund}
