@@ -3,3 +3,4 @@ pub mod Kept
 pub mod Marks
 pub mod Texts
 pub mod Standing
+pub mod Worked

@@ -4,10 +4,12 @@
 mod billed;
 mod bills;
 mod eligible;
+mod laws;
 mod marks;
 mod standing;
 mod text;
 
 pub use bills::claims;
+pub use laws::worked_grants;
 pub use standing::{ClaimState, GrantVoucher, grant_vouchers, vouchers_of_grant};
 pub use text::claim_text;

@@ -79,10 +79,14 @@ pub data FollowEnds {F : Type 0} (o : Office F) (chart : List ℕ) (start after 
   behind : StopsBehind o chart start after left left' how → FollowEnds o chart start after left left' how
 
 -- the entry of the record at which the disk failed, where it did
-abbrev pub failed_stop : {F : Type 0} {o : Office F} {now : F} {place at : ℕ} {bytes : List ℕ} {left : Option (List ℕ)} {after : F} {how : FollowEnd} → Stops o now place at bytes left after how → Option Entry
+abbrev pub failed_stop : {F : Type 0} {o : Office F} {now : F} {place at : ℕ} {bytes : List ℕ}
+    {left : Option (List ℕ)} {after : F} {how : FollowEnd}
+    → Stops o now place at bytes left after how → Option Entry
 failed_stop (Stops.failed e is ends fails) = Some e
 failed_stop _ = None
 
-abbrev pub failed_in : {F : Type 0} {o : Office F} {chart : List ℕ} {start after : F} {left left' : Option (List ℕ)} {how : FollowEnd} → FollowEnds o chart start after left left' how → Option Entry
+abbrev pub failed_in : {F : Type 0} {o : Office F} {chart : List ℕ} {start after : F}
+    {left left' : Option (List ℕ)} {how : FollowEnd}
+    → FollowEnds o chart start after left left' how → Option Entry
 failed_in (FollowEnds.front is same) = None
 failed_in (FollowEnds.behind b) = failed_stop b.stops

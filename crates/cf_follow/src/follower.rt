@@ -31,8 +31,8 @@ pub trait Follower {
     /// How often its disk has failed.
     ghost faults: { Self → ℕ };
 
-    /// What holds of it and of what it was earlier, as what a crash left since then, where since then its disk failed at this
-    /// entry, or at none.
+    /// What holds of it and of what it was earlier, as what a crash left since then, where since
+    /// then its disk failed at this entry, or at none.
     ghost since: { Self → Self → Option EntryOf → Type 0 };
 
     /// Its entries, at most 1,500,000.
@@ -49,5 +49,6 @@ pub trait Follower {
 
     ghost since_same: { (f : Self) → since f f None };
 
-    ghost since_more: { (a b c : Self) (failed : Option EntryOf) → since a b None → since b c failed → since a c failed };
+    ghost since_more: { (a b c : Self) (failed : Option EntryOf) → since a b None → since b c failed
+        → since a c failed };
 }

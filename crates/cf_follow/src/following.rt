@@ -149,7 +149,8 @@ pub fn follow<I: Source, F: Follower>(
     ensures still { F.history follower.new ≡ F.history follower.old → result ≢ FollowEnd.DiskFault → follower.new ≡ follower.old }
 
     // Where the disk failed, it was at the entry of the last record that was taken.
-    ensures since { (ends : FollowEnds (office F.history F.refusal F.faults F.since) chart.now follower.old follower.new (I.left input.old) (I.left input.new) result)
+    ensures since { (ends : FollowEnds (office F.history F.refusal F.faults F.since) chart.now
+        follower.old follower.new (I.left input.old) (I.left input.new) result)
         → F.since follower.old follower.new (failed_in ends) }
     ensures cause { IsReadCause (I.faults input.old) (I.faults input.new) result }
     ensures disk { result ≡ FollowEnd.DiskFault → Rose (F.faults follower.old) (F.faults follower.new) }

@@ -25,23 +25,29 @@ RecoversToFrontOf plan least history image =
 -- The history has the earlier one in front, and an entry in doubt is that at which the disk failed
 -- since then. The disk wasn't touched, or at each moment since then a crash left what recovers to
 -- a front, no shorter than the earlier history, of the history with that entry behind it.
-pub record IsSince {D : Type 0} (device : Device D) (a b : DurableBook D) (failed : Option Entry) : Type 0 where
+pub record IsSince {D : Type 0} (device : Device D) (a b : DurableBook D) (failed : Option Entry)
+    : Type 0 where
   pub plan : b.plan ≡ a.plan
   pub more : List Entry
   pub grows : b.entries ≡ a.entries ++ more
   pub doubt : IfSome b.doubt (λ e. failed ≡ Some e)
-  pub any_moment : IsTrue device.tells → (b.disk ≡ a.disk) ⊎ AtEachMoment device.moment device.was_image a.disk b.disk
+  pub any_moment : IsTrue device.tells → (b.disk ≡ a.disk)
+      ⊎ AtEachMoment device.moment device.was_image a.disk b.disk
       (RecoversToFrontOf a.plan (length a.entries) (with_failed b.entries failed))
 
 -- the same by any number of such steps, or by none, where nothing was in doubt
-pub data IsReached {D : Type 0} (device : Device D) : DurableBook D → DurableBook D → Option Entry → Type 0 where
+pub data IsReached {D : Type 0} (device : Device D) : DurableBook D → DurableBook D → Option Entry
+    → Type 0 where
   here : (a : DurableBook D) → IsReached device a a None
-  more : (a b c : DurableBook D) (failed : Option Entry) → IsReached device a b None → (b.doubt ≡ None → IsSince device b c failed) → IsReached device a c failed
+  more : (a b c : DurableBook D) (failed : Option Entry) → IsReached device a b None
+      → (b.doubt ≡ None → IsSince device b c failed) → IsReached device a c failed
 
 -- what is reached from there is reached
-pub reached_on : {D : Type 0} (device : Device D) (a b c : DurableBook D) (failed : Option Entry) → IsReached device a b None → IsReached device b c failed → IsReached device a c failed
+pub reached_on : {D : Type 0} (device : Device D) (a b c : DurableBook D) (failed : Option Entry)
+    → IsReached device a b None → IsReached device b c failed → IsReached device a c failed
 reached_on device a b _ _ first (IsReached.here _) = first
-reached_on device a b _ _ first (IsReached.more _ m c failed second step) = IsReached.more a m c failed (reached_on device a b m None first second) step
+reached_on device a b _ _ first (IsReached.more _ m c failed second step) =
+    IsReached.more a m c failed (reached_on device a b m None first second) step
 
 -- a book as an office that follows: it refuses what opening its journal would refuse
 abbrev pub book_office : {D : Type 0} → Device D → Office (DurableBook D)

@@ -38,9 +38,10 @@ pub record Continues {D : Type 0} (book : DurableBook D) (whole : List Entry) : 
 -- A book of this chart followed the stream to this last one, whose history is the first one, or that with the stream's
 -- entries of later places, as far as the end says. Where the stream was shipped from a history that continues the first one,
 -- the last one is a front of that too, no entry was found to differ, and none was refused. Whatever a crash leaves of the
--- disk then recovers to the last history, or to it and the entry in doubt, and that is sound too. At each moment of the run
--- it recovers to a front of the last history that has the first one, or to the last history and one entry: that of the
--- stream's record at which the disk failed. So is the entry in doubt.
+-- disk then recovers to the last history, or to it and the entry in doubt, and that is sound too.
+-- At each moment of the run it recovers to a front of the last history that has the first one, or
+-- to the last history and one entry: that of the stream's record at which the disk failed. So is
+-- the entry in doubt.
 pub record Copied {D : Type 0} (device : Device D) (chart : List ℕ) (start last : DurableBook D) (new : D) (left left' : Option (List ℕ)) (how : FollowEnd) : Type 0 where
   pub ends : FollowEnds (book_office device) chart start last left left' how
   pub copies : (whole : List Entry) → Continues start whole → IsShipped chart whole left → IsCopy (book_office device) whole last how
@@ -52,7 +53,8 @@ pub record Copied {D : Type 0} (device : Device D) (chart : List ℕ) (start las
   pub closed : ClosedYearsStay last.plan last.entries
   pub articulates : AllArticulate last.plan last.entries
   pub images : IsTrue device.tells → (image : List ℕ) → device.is_image new image → RecoversNear last.plan last.entries (λ e. last.doubt ≡ Some e) image
-  pub doubt_sound : IfSome last.doubt (λ e. IsSoundState (record { plan = last.plan; entries = last.entries ++ e ∷ [] }))
+  pub doubt_sound : IfSome last.doubt (λ e.
+      IsSoundState (record { plan = last.plan; entries = last.entries ++ e ∷ [] }))
 
 -- the journal was opened, and its book followed the stream
 pub record Followed {D : Type 0} (device : Device D) (old new : D) (left left' : Option (List ℕ)) (how : FollowEnd) : Type 0 where

@@ -27,8 +27,9 @@ pub record IsOpened {D : Type 0} (device : Device D) (old : D) (chart : List ℕ
   pub unwritten : IsUnwritten device old book.disk
   pub quiet : device.faults book.disk ≡ device.faults old
 
--- The stream of the chart and the history that the disk's content recovers to went to the output, or a front of it. That
--- history is sound, no entry of it posts to a closed fiscal year, and its statements articulate.
+-- The stream of the chart and the history that the disk's content recovers to went to the output,
+-- or a front of it. That history is sound, no entry of it posts to a closed fiscal year, and its
+-- statements articulate.
 pub record Shipped {D : Type 0} (device : Device D) (from : ℕ) (old new : D) (held held' : Option (List ℕ)) (how : ShipEnd) : Type 0 where
   pub chart : List ℕ
   pub book : DurableBook D

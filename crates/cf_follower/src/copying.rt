@@ -62,7 +62,8 @@ impl<D: Disk + Drop> Follower for Copying<D> {
 
     ghost faults = { λ b. D.faults b.disk };
 
-    ghost since = { λ a b failed. IsReached (device D.tells D.content D.is_image D.moment D.was_image D.faults) a b failed };
+    ghost since = { λ a b failed.
+        IsReached (device D.tells D.content D.is_image D.moment D.was_image D.faults) a b failed };
 
     fn entries(&self) -> &[Entry] {
         self.book.entries()
@@ -77,5 +78,6 @@ impl<D: Disk + Drop> Follower for Copying<D> {
 
     ghost since_same = { λ b. IsReached.here b };
 
-    ghost since_more = { λ a b c failed. reached_on (device D.tells D.content D.is_image D.moment D.was_image D.faults) a b c failed };
+    ghost since_more = { λ a b c failed.
+        reached_on (device D.tells D.content D.is_image D.moment D.was_image D.faults) a b c failed };
 }

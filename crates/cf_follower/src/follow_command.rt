@@ -47,7 +47,8 @@ fn followed_bytes(alloc: Global, count: u64) -> Result<Vec<u8>, AllocError>
     Ok(text)
 }
 
-/// Has a book of this chart, with nothing in doubt, follow the stream, and gives its disk back, with how many entries there are then.
+/// Has a book of this chart, with nothing in doubt, follow the stream, and gives its disk back,
+/// with how many entries there are then.
 fn keep_copy<I: Source, D: Disk + Drop>(
     alloc: Global,
     book: Book<D>,

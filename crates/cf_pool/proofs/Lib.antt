@@ -7,3 +7,4 @@ pub mod ReadBack
 pub mod Received
 pub mod Swapped
 pub mod Tables
+pub mod Worked

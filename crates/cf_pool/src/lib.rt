@@ -2,10 +2,12 @@
 #![tactic(auto)]
 
 mod days;
+mod laws;
 mod pool;
 mod refused;
 mod weights;
 
 pub use days::{CashMove, day_sums};
+pub use laws::worked_pool;
 pub use pool::pool_lines;
 pub use refused::PoolRefused;
