@@ -45,12 +45,17 @@ abbrev pub whole_bytes : Option ℕ → List ℕ → List ℕ
 whole_bytes None bytes = bytes
 whole_bytes (Some at) bytes = before at bytes
 
--- ---- answers, where want of memory is free
+-- ---- answers, where want of memory is free. A disk in memory fails for that alone, so its fault is
+-- no answer.
+
+abbrev pub refusal_in_memory : OpenRefused → OpenRefused
+refusal_in_memory Disk = NoMemory
+refusal_in_memory why = why
 
 abbrev pub ReadsFrames : Result (Vec ℕ Global × Vec Entry Global) OpenRefused → Result (List ℕ × List Entry) OpenRefused → Type 0
 ReadsFrames (Ok x) frames = frames ≡ Ok (x.0.items, x.1.items)
 ReadsFrames (Err NoMemory) frames = ⊤
-ReadsFrames (Err Disk) frames = ⊤
+ReadsFrames (Err Disk) frames = ⊥
 ReadsFrames (Err e) frames = frames ≡ Err e
 
 abbrev pub parts : Whole → Parts
@@ -62,5 +67,5 @@ LiesWhole w bytes = Lies w.chart.items w.entries.items (whole_bytes w.damage byt
 abbrev pub ReadsWhole : Result Whole OpenRefused → Result Parts OpenRefused → Type 0
 ReadsWhole (Ok w) x = x ≡ Ok (parts w)
 ReadsWhole (Err NoMemory) x = ⊤
-ReadsWhole (Err Disk) x = ⊤
+ReadsWhole (Err Disk) x = ⊥
 ReadsWhole (Err e) x = x ≡ Err e

@@ -22,6 +22,17 @@ pub struct Whole {
     pub damage: Option<u64>,
 }
 
+/// Why a journal in memory isn't read. A disk in memory fails for want of memory alone.
+fn refusal_in_memory(why: OpenRefused) -> OpenRefused
+    ensures { result ≡ spec.refusal_in_memory why }
+{
+    match why {
+        OpenRefused::NotFounded { len, byte } => OpenRefused::NotFounded { len, byte },
+        OpenRefused::Damaged { offset } => OpenRefused::Damaged { offset },
+        OpenRefused::Disk | OpenRefused::NoMemory => OpenRefused::NoMemory,
+    }
+}
+
 /// The chart and the entries that a journal's bytes are.
 pub fn read_frames(alloc: Global, bytes: Vec<u8>) -> Result<(Vec<u8>, Vec<Entry>), OpenRefused>
     ensures answer { ReadsFrames result (frames bytes.items) }
@@ -29,8 +40,10 @@ pub fn read_frames(alloc: Global, bytes: Vec<u8>) -> Result<(Vec<u8>, Vec<Entry>
     ensures lies { IfOk result (λ x. Lies x.0.items x.1.items bytes.items) }
 {
     let mut disk = MemDisk::new(alloc, bytes)?;
-    let Opened { bytes, entries, .. } = open(alloc, &mut disk)?;
-    Ok((bytes, entries))
+    match open(alloc, &mut disk) {
+        Ok(Opened { bytes, entries, .. }) => Ok((bytes, entries)),
+        Err(why) => Err(refusal_in_memory(why)),
+    }
 }
 
 /// The bytes before a place, with a closed gate there.
@@ -56,9 +69,10 @@ fn read_before(alloc: Global, at: u64, bytes: &[u8]) -> Result<Whole, OpenRefuse
             entries,
             damage: Some(at),
         }),
-        Err(OpenRefused::NoMemory) => Err(OpenRefused::NoMemory),
-        Err(OpenRefused::Disk) => Err(OpenRefused::Disk),
-        Err(_) => Err(OpenRefused::Damaged { offset: at }),
+        Err(OpenRefused::Disk | OpenRefused::NoMemory) => Err(OpenRefused::NoMemory),
+        Err(OpenRefused::NotFounded { len: _, byte: _ } | OpenRefused::Damaged { offset: _ }) => {
+            Err(OpenRefused::Damaged { offset: at })
+        }
     }
 }
 
