@@ -18,14 +18,9 @@ pub posted_push : (plan : Plan) (h : List Entry) (e : Entry) → all_posted plan
 posted_push plan h e = posted_after_push plan no_registers 1 h e
 
 -- the same under the chart and over the entries of an office
-pub watched_on : (was now : Plan → List Posted → Type 0) (plan chart : Plan) (office yielded : List Entry) (e : Entry) → plan ≡ chart → office ≡ yielded
-    → ((seen : List Posted) → was plan seen → now plan (seen ++ next_posted plan office e ∷ [])) → was chart (all_posted chart yielded)
-    → now chart (all_posted chart (yielded ++ e ∷ []))
-watched_on was now plan chart office yielded e p o sees so_far =
-    subst (now chart) (sym (posted_push chart yielded e))
-    (subst (λ (x : Posted). now chart (all_posted chart yielded ++ x ∷ [])) (λ i. next_posted (p i) (o i) e)
-    (subst (λ (c : Plan). now c (all_posted chart yielded ++ next_posted plan office e ∷ [])) p
-    (sees (all_posted chart yielded) (subst (λ (c : Plan). was c (all_posted chart yielded)) (sym p) so_far))))
+pub seen_on : (seen : Plan → List Posted → Type 0) (plan chart : Plan) (office yielded : List Entry) → plan ≡ chart → office ≡ yielded → seen chart (all_posted chart yielded) → seen plan (all_posted plan office)
+seen_on seen plan chart office yielded p o so_far =
+    subst (λ (x : Plan). seen x (all_posted x office)) (sym p) (subst (λ (h : List Entry). seen chart (all_posted chart h)) (sym o) so_far)
 
 pub all_taken : (all yielded rest : List Entry) → all ≡ yielded ++ rest → rest ≡ [] → all ≡ yielded
 all_taken all yielded rest is none = is ∙ ap (λ (x : List Entry). yielded ++ x) none ∙ append-nil yielded

@@ -1,30 +1,39 @@
 //! Who watches a journal being opened.
 
 ghost use Rattle.std.specs.Prelude.{⊤, ◌++◌, ◌∷◌, [], List, OnOk};
-ghost use Rattle.cf_book.specs.Watching.{Posted};
+ghost use Rattle.cf_book.specs.Watching.{Posted, IsNext, all_posted, shown_as};
+ghost use Rattle.cf_calls.specs.declared.entry.Entry.{Entry};
 ghost use Rattle.cf_chart.specs.Plan.{Plan};
 
+use cf_budget::LineChange;
 use cf_calls::Entry;
 use cf_chart::Chart;
 use cf_ledger::Post;
+use cf_registers::Registers;
 use std::alloc::AllocError;
 
-/// One who is shown the entries of a journal and what they post on both bases, entry by entry, while it is opened.
+/// One who is shown the entries of a journal, entry by entry, while it is opened: each with the registers before it,
+/// what it changes of line numbers, and what it posts on both bases.
 pub trait Watch {
-    /// What was seen under a chart: each entry with its posts, oldest first.
+    /// What was seen under a chart: each entry with the registers before it and its posts, oldest first.
     ghost has_seen: { Self → Plan → List Posted → Type 0 };
 
-    /// Sees the next entry at its place, from 1, with its posts on the fund basis and on the government-wide one.
+    /// Sees the next entry of a legal history at its place, from 1: the registers before it, its changes of line
+    /// numbers (one a line and year), and its posts on the fund basis and on the government-wide one.
     fn see(
         &mut self,
         chart: &Chart,
         place: u64,
         entry: &Entry,
+        before: &Registers,
+        changes: &[LineChange],
         fund: &[Post],
         gov: &[Post],
     ) -> Result<(), AllocError>
-        ensures { (seen : List Posted) → has_seen self.old chart.now seen
-            → OnOk result (has_seen self.new chart.now (seen ++ record { place = place; entry = entry.now; fund = fund.now; gov = gov.now } ∷ [])) };
+        ensures { (history : List Entry) → has_seen self.old chart.now (all_posted chart.now history)
+            → IsNext chart.now history (shown_as place entry.now before.now.registers fund.now gov.now) changes.now
+            → OnOk result (has_seen self.new chart.now
+            (all_posted chart.now history ++ shown_as place entry.now before.now.registers fund.now gov.now ∷ [])) };
 }
 
 /// Nobody watches.
@@ -39,6 +48,8 @@ impl Watch for Unwatched {
         _chart: &Chart,
         _place: u64,
         _entry: &Entry,
+        _before: &Registers,
+        _changes: &[LineChange],
         _fund: &[Post],
         _gov: &[Post],
     ) -> Result<(), AllocError> {

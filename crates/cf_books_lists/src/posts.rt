@@ -16,11 +16,13 @@ use crate::texts::{digits, drawn_digits, put_money};
 use cf_base::day_text;
 use cf_book::{Book, NotOpened, Watch, open_watched};
 use cf_books_words::PostFilter;
+use cf_budget::LineChange;
 use cf_call_text::call_word;
 use cf_calls::{Basis, Entry};
 use cf_chart::Chart;
 use cf_disk::Disk;
 use cf_ledger::Post;
+use cf_registers::Registers;
 use itoa::Buffer;
 use std::alloc::{AllocError, Global};
 
@@ -76,6 +78,8 @@ impl Watch for Gathered {
         _chart: &Chart,
         place: u64,
         _entry: &Entry,
+        _before: &Registers,
+        _changes: &[LineChange],
         fund: &[Post],
         gov: &[Post],
     ) -> Result<(), AllocError> {

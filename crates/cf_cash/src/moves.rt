@@ -7,12 +7,14 @@ ghost use Rattle.cf_pool.specs.Balances.{sizes};
 
 use cf_base::Day;
 use cf_book::{Book, NotOpened, Watch, open_watched};
+use cf_budget::LineChange;
 use cf_calls::Entry;
 use cf_chart::Chart;
 use cf_disk::Disk;
 use cf_ledger::Post;
 use cf_pool::CashMove;
 use cf_post::accounts::CASH;
+use cf_registers::Registers;
 use std::alloc::{AllocError, Global};
 
 /// The movements of cash that were seen.
@@ -29,6 +31,8 @@ impl Watch for Gathered {
         _chart: &Chart,
         _place: u64,
         entry: &Entry,
+        _before: &Registers,
+        _changes: &[LineChange],
         fund: &[Post],
         _gov: &[Post],
     ) -> Result<(), AllocError> {
