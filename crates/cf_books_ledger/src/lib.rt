@@ -1,0 +1,6 @@
+//! The ledger.
+#![tactic(auto)]
+
+mod gather;
+
+pub use gather::open_with_ledger;
