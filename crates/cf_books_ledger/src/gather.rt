@@ -37,20 +37,31 @@ impl Watch for Gathered {
     ) -> Result<(), AllocError> {
         // A chart says what the rules of an entry rest on.
         whole(chart);
-        put_entry(self.alloc, &mut self.rows, chart, before, place, entry, fund)
+        put_entry(
+            self.alloc,
+            &mut self.rows,
+            chart,
+            before,
+            place,
+            entry,
+            fund,
+        )
     }
 }
 
-/// Opens the book of the journal on a disk, as `cf_book::open` does, with the rows of its entries, oldest first: they add up to
-/// the numbers of each control line and fiscal year, and to the revenue of each source.
+/// Opens the book of the journal on a disk, as `cf_book::open` does, with the rows of its entries,
+/// oldest first: they add up to the numbers of each control line and fiscal year, and to the
+/// revenue of each source.
 pub fn open_with_ledger<D: Disk + Drop>(
     alloc: Global,
     disk: D,
 ) -> Result<(Book<D>, Vec<LedgerRow>), NotOpened<D>>
-    ensures ok { IfOk result (λ x. OpensBook D.tells D.content D.is_image D.moment D.was_image D.faults disk x.0) }
+    ensures ok { IfOk result
+        (λ x. OpensBook D.tells D.content D.is_image D.moment D.was_image D.faults disk x.0) }
     ensures rows { IfOk result (λ x. x.1.items ≡ history_rows x.0.plan x.0.entries) }
     ensures sums { IfOk result (λ x. AddUp x.0.plan x.0.entries x.1.items) }
-    ensures err { IfErr result (λ e. OpensNone D.tells D.content D.is_image D.moment D.was_image D.faults disk e.disk e.why) }
+    ensures err { IfErr result
+        (λ e. OpensNone D.tells D.content D.is_image D.moment D.was_image D.faults disk e.disk e.why) }
 {
     let mut gathered = Gathered {
         alloc,

@@ -1,4 +1,5 @@
--- The rows of what the council moves (GASB Codification 1700: the annual budget is adopted, and amended).
+-- The rows of what the council moves (GASB Codification 1700: the annual budget is adopted, and
+-- amended).
 use Rattle.std.specs.Prelude.{ℕ, List, [], ◌∷◌, map, pos, ◌-ℤ◌}
 use Rattle.cf_calls.specs.declared.acts.LineTransfer.{LineTransfer}
 use Rattle.cf_calls.specs.declared.items.LineAmount.{LineAmount}

@@ -68,7 +68,8 @@ document_rows plan s place drawn on (Voucher v) = voucher_rows plan s place draw
 document_rows plan s place drawn on (VoidVoucher n) = void_rows plan s place n
 document_rows plan s place drawn on _ = []
 
--- a debt payment, by its bond and its own number: its principal and its interest, in the year in which it is due
+-- a debt payment, by its bond and its own number: its principal and its interest, in the year in
+-- which it is due
 abbrev pub payment_rows : Plan → List Bond → ℕ → ℕ → DebtPayment → List LedgerRow
 payment_rows plan bonds place number d =
     same_rows plan (origin place d.bond number) (map spending_move (bonds_spendings plan d (filter (λ b. b.number == d.bond) bonds)))
@@ -127,7 +128,8 @@ received_rows place bill posts = flat_map (post_rows place bill) posts
 
 -- ---- each entry
 
--- what an entry at a place moves of control lines and, by its posts on the fund basis, of revenue sources
+-- what an entry at a place moves of control lines and, by its posts on the fund basis, of revenue
+-- sources
 abbrev pub entry_rows : Plan → Registers → ℕ → Entry → List Post → List LedgerRow
 entry_rows plan s place e fund =
     kept (act_rows plan s place e.drawn e.change.on e.change.act)

@@ -1,4 +1,5 @@
--- The rows of a whole history: each entry's over the registers before it and by its posts on the fund basis.
+-- The rows of a whole history: each entry's over the registers before it and by its posts on the
+-- fund basis.
 use Rattle.std.specs.Prelude.{◌≡◌, ℕ, ◌+◌, ◌≤◌, ◌<◌, ◌==◌, ◌&&◌, List, [], ◌∷◌, ◌++◌, pos, ◌-ℤ◌}
 use Rattle.cf_calls.specs.declared.entry.Entry.{Entry}
 use Rattle.cf_calls.specs.declared.read.Basis.TheVariants.{Fund as FundBasis}
@@ -21,7 +22,8 @@ rows_after plan s place (e ∷ later) =
 abbrev pub history_rows : Plan → List Entry → List LedgerRow
 history_rows plan history = rows_after plan no_registers 1 history
 
--- the rows add up to the numbers of each line and fiscal year: to what is appropriated, encumbered, held and expended
+-- the rows add up to the numbers of each line and fiscal year: to what is appropriated, encumbered,
+-- held and expended
 pub record AddUp (plan : Plan) (history : List Entry) (rows : List LedgerRow) : Type 0 where
   pub appropriated : (line year : ℕ) → line_sum (λ a. a.appropriated) line year rows ≡ numbers.appropriated plan line year history
   pub ordered : (line year : ℕ) → line_sum (λ a. a.ordered) line year rows ≡ pos (numbers.encumbered plan line year history)

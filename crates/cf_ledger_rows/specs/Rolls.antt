@@ -1,4 +1,5 @@
--- What the roll of a fiscal year moves, document by document (GFOA Blue Book: encumbrances that are open at a year's end).
+-- What the roll of a fiscal year moves, document by document (GFOA Blue Book: encumbrances that are
+-- open at a year's end).
 use Rattle.std.specs.Prelude.{◌≡◌, ◌≢◌, ℕ, ◌+◌, if◌then◌else◌, ◌==◌, List, [], ◌∷◌, ◌++◌, Option, Some, None, map, flat_map, ◌&&◌, ℤ, pos, ◌-ℤ◌}
 use Rattle.std.specs.List.{AllByRecursion, filter, range_with_len}
 use Rattle.cf_chart.specs.Plan.{Plan, fund_at}
@@ -37,7 +38,8 @@ carries_amount amount = record nothing { appropriated = amount; ordered = amount
 abbrev pub carried_row : Plan → Origin → OrderItem → LedgerRow
 carried_row plan of i = on_account plan of i.account (i.year + 1) (carries_amount (pos (open_of i)))
 
--- an item whose year is rolled: it leaves the year, and goes on in the year after where its fund carries and it has a line there
+-- an item whose year is rolled: it leaves the year, and goes on in the year after where its fund
+-- carries and it has a line there
 abbrev pub roll_item : Plan → ℕ → Origin → OrderItem → List LedgerRow
 roll_item plan year of i =
     if i.year == year

@@ -1,5 +1,5 @@
--- The rows of a ledger: what is moved of control lines (GASB Codification 1700: the legal level of budgetary control) and of
--- revenue sources.
+-- The rows of a ledger: what is moved of control lines (GASB Codification 1700: the legal level of
+-- budgetary control) and of revenue sources.
 use Rattle.std.specs.Prelude.{ℕ, ◌+◌, Bool, not, if◌then◌else◌, ◌==◌, ◌&&◌, ◌||◌, List, [], ◌∷◌, ◌++◌, Option, Some, None, ℤ, pos, ◌+ℤ◌}
 use Rattle.std.specs.List.{filter}
 use Rattle.std.specs.Ordering.{int_eq}

@@ -40,7 +40,8 @@ pub fn put_change(
     by: i128,
 ) -> Result<(), AllocError>
     ensures { OnOk result (out.new.items
-        ≡ out.old.items ++ kept (line_row chart.now (origin place 0 0) line year (appropriates by) ∷ [])) }
+        ≡ out.old.items ++ kept
+        (line_row chart.now (origin place 0 0) line year (appropriates by) ∷ [])) }
 {
     let row = on_line(chart, of_entry(place), line, year, appropriation(by));
     put(out, row)

@@ -82,7 +82,8 @@ fn put_move(
     of: Origin,
     moved: Option<LineMove>,
 ) -> Result<(), AllocError>
-    ensures { OnOk result (out.new.items ≡ out.old.items ++ kept (spec.rows_if chart.now of moved)) }
+    ensures { OnOk result
+        (out.new.items ≡ out.old.items ++ kept (spec.rows_if chart.now of moved)) }
 {
     match moved {
         Some(moved) => put(out, on_move(chart, of, &moved)),
@@ -90,7 +91,8 @@ fn put_move(
     }
 }
 
-/// Adds rows of what an act that the rules allow moves of a document's items, which are numbered from 1.
+/// Adds rows of what an act that the rules allow moves of a document's items, which are numbered
+/// from 1.
 pub fn put_items(
     out: &mut Vec<LedgerRow>,
     chart: &Chart,
@@ -103,8 +105,10 @@ pub fn put_items(
     requires day { is_day on ≡ true }
     requires form { IsActInForm on act.now }
     requires allowed { IsAllowed chart.now orders.now.documents on act.now }
-    ensures { OnOk result (out.new.items ≡ out.old.items ++ kept (item_rows chart.now place document 1
-        (document_moves chart.now orders.now.documents (document_number orders.now.documents act.now) on act.now))) }
+    ensures { OnOk result
+        (out.new.items ≡ out.old.items ++ kept (item_rows chart.now place document 1
+        (document_moves chart.now orders.now.documents
+        (document_number orders.now.documents act.now) on act.now))) }
 {
     let count = orders.moves(act) as u32;
     for nth in 0..count {
@@ -131,7 +135,8 @@ pub fn put_same(
     requires form { IsActInForm on act.now }
     requires allowed { IsAllowed chart.now orders.now.documents on act.now }
     ensures { OnOk result (out.new.items ≡ out.old.items ++ kept (same_rows chart.now of
-        (document_moves chart.now orders.now.documents (document_number orders.now.documents act.now) on act.now))) }
+        (document_moves chart.now orders.now.documents
+        (document_number orders.now.documents act.now) on act.now))) }
 {
     for nth in 0..orders.moves(act) {
         put_move(out, chart, of, orders.move_at(chart, on, act, nth))?;
@@ -185,7 +190,8 @@ fn with_both(a: &LineMove, b: &LineMove) -> LineMove
     }
 }
 
-/// Adds the row of what two moves come to where they are of one line and fiscal year, or a row for each.
+/// Adds the row of what two moves come to where they are of one line and fiscal year, or a row for
+/// each.
 fn put_joined(
     out: &mut Vec<LedgerRow>,
     chart: &Chart,
@@ -195,7 +201,8 @@ fn put_joined(
 ) -> Result<(), AllocError>
     requires first { IsSmall a.now }
     requires second { IsSmall b.now }
-    ensures { OnOk result (out.new.items ≡ out.old.items ++ kept (spec.joined_lines chart.now of a.now b.now)) }
+    ensures { OnOk result
+        (out.new.items ≡ out.old.items ++ kept (spec.joined_lines chart.now of a.now b.now)) }
 {
     if same_place(chart, a, b) {
         return put(out, on_move(chart, of, &with_both(a, b)));
@@ -223,7 +230,8 @@ fn put_pair(
     }
 }
 
-/// Adds rows of an act on a voucher of so many items that the rules allow: of each item what it spends and what it liquidates.
+/// Adds rows of an act on a voucher of so many items that the rules allow: of each item what it
+/// spends and what it liquidates.
 pub fn put_paired(
     out: &mut Vec<LedgerRow>,
     chart: &Chart,
@@ -239,9 +247,11 @@ pub fn put_paired(
     requires form { IsActInForm on act.now }
     requires allowed { IsAllowed chart.now orders.now.documents on act.now }
     ensures { (ms ns : List Move)
-        → document_moves chart.now orders.now.documents (document_number orders.now.documents act.now) on act.now ≡ ms ++ ns
+        → document_moves chart.now orders.now.documents
+        (document_number orders.now.documents act.now) on act.now ≡ ms ++ ns
         → length ms ≡ count → length ns ≡ count
-        → OnOk result (out.new.items ≡ out.old.items ++ kept (paired_rows chart.now place document 1 ms ns)) }
+        → OnOk result (out.new.items ≡ out.old.items
+        ++ kept (paired_rows chart.now place document 1 ms ns)) }
 {
     for nth in 0..count {
         let of = Origin {

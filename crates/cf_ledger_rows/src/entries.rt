@@ -40,13 +40,12 @@ fn put_taken(
     requires day { is_day on ≡ true }
     requires allowed { IsAllowed chart.now orders.now.documents on (act.Order order.now) }
     ensures { OnOk result (out.new.items ≡ out.old.items
-        ++ kept (spec.taken_rows chart.now place order.now.requisition orders.now.documents.holds)) }
+        ++ kept
+        (spec.taken_rows chart.now place order.now.requisition orders.now.documents.holds)) }
 {
     match order.requisition {
         None => Ok(()),
-        Some(taken) => {
-            put_items(out, chart, orders, on, &Act::Withdraw(taken), place, taken)
-        }
+        Some(taken) => { put_items(out, chart, orders, on, &Act::Withdraw(taken), place, taken) }
     }
 }
 
@@ -65,7 +64,8 @@ fn put_order(
     requires few { length order.now.items ≤ 32 }
     requires allowed { IsAllowed chart.now orders.now.documents on (act.Order order.now) }
     ensures { OnOk result (out.new.items
-        ≡ out.old.items ++ kept (order_entry_rows chart.now orders.now.documents place number year order.now)) }
+        ≡ out.old.items ++ kept
+        (order_entry_rows chart.now orders.now.documents place number year order.now)) }
 {
     put_taken(out, chart, orders, on, order, place)?;
     put_ordered(out, chart, place, number, year, order.items.as_slice())
@@ -85,13 +85,21 @@ fn put_document(
     requires form { IsActInForm on act.now }
     requires allowed { IsAllowed chart.now orders.now.documents on act.now }
     ensures { OnOk result (out.new.items
-        ≡ out.old.items ++ kept (document_rows chart.now orders.now.documents place drawn on act.now)) }
+        ≡ out.old.items ++ kept
+        (document_rows chart.now orders.now.documents place drawn on act.now)) }
 {
     let year = document_year(chart, on, act);
     let number = drawn.number;
     match act {
         Act::Requisition(requisition) => {
-            put_held(out, chart, place, number, year, requisition.items.as_slice())
+            put_held(
+                out,
+                chart,
+                place,
+                number,
+                year,
+                requisition.items.as_slice(),
+            )
         }
         Act::Withdraw(named) => put_items(out, chart, orders, on, act, place, *named),
         Act::Order(order) => put_order(out, chart, orders, on, year, order, place, number),
@@ -139,10 +147,12 @@ fn put_act(
     place: u64,
     entry: &Entry,
 ) -> Result<(), AllocError>
-    requires cleared { IsCleared chart.now before.now.registers entry.now.change.on entry.now.change.act }
+    requires cleared { IsCleared chart.now before.now.registers
+        entry.now.change.on entry.now.change.act }
     requires released { AreReleased before.now.registers.documents.holds }
     ensures { OnOk result (out.new.items ≡ out.old.items
-        ++ kept (spec.act_rows chart.now before.now.registers place entry.now.drawn entry.now.change.on entry.now.change.act)) }
+        ++ kept (spec.act_rows chart.now before.now.registers place entry.now.drawn
+        entry.now.change.on entry.now.change.act)) }
 {
     let (on, act, drawn) = (entry.change.on, &entry.change.act, entry.drawn);
     match act {
@@ -150,7 +160,14 @@ fn put_act(
             put_adopted(out, chart, place, adoption.year, adoption.lines.as_slice())
         }
         Act::Amend(change) => {
-            put_change(out, chart, place, change.line, change.year, i128::from(change.by))
+            put_change(
+                out,
+                chart,
+                place,
+                change.line,
+                change.year,
+                i128::from(change.by),
+            )
         }
         Act::Transfer(transfer) => put_transfer(out, chart, place, transfer),
         Act::PayDue(payment) => {
@@ -158,7 +175,14 @@ fn put_act(
         }
         Act::Leave(leave) => put_leave(out, chart, place, year_of_day(chart, on), leave),
         Act::Lease(lease) => {
-            put_lease(out, chart, place, drawn.second, year_of_day(chart, on), lease)
+            put_lease(
+                out,
+                chart,
+                place,
+                drawn.second,
+                year_of_day(chart, on),
+                lease,
+            )
         }
         Act::Close(_) => {
             let year = rolled_year(chart, on, act);
@@ -182,7 +206,8 @@ fn put_act(
     }
 }
 
-/// Adds rows of what the entry at a place, from 1, moves of control lines and, by its posts on the fund basis, of revenue sources.
+/// Adds rows of what the entry at a place, from 1, moves of control lines and, by its posts on the
+/// fund basis, of revenue sources.
 pub fn put_entry(
     alloc: Global,
     out: &mut Vec<LedgerRow>,
@@ -192,11 +217,13 @@ pub fn put_entry(
     entry: &Entry,
     fund: &[Post],
 ) -> Result<(), AllocError>
-    requires cleared { IsCleared chart.now before.now.registers entry.now.change.on entry.now.change.act }
+    requires cleared { IsCleared chart.now before.now.registers
+        entry.now.change.on entry.now.change.act }
     requires released { AreReleased before.now.registers.documents.holds }
     requires small { All (λ p. unsigned_abs p.amount < 2 ^ 127) fund.now }
     ensures { OnOk result (out.new.items
-        ≡ out.old.items ++ spec.entry_rows chart.now before.now.registers place entry.now fund.now) }
+        ≡ out.old.items
+        ++ spec.entry_rows chart.now before.now.registers place entry.now fund.now) }
 {
     put_act(alloc, out, chart, before, place, entry)?;
     put_received(out, place, bill_by(entry.drawn, &entry.change.act), fund)

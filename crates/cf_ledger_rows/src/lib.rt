@@ -1,5 +1,5 @@
-//! What each entry moves, item by item: a row for each control line or revenue source that it moves, with the document and
-//! the item that the movement is of.
+//! What each entry moves, item by item: a row for each control line or revenue source that it
+//! moves, with the document and the item that the movement is of.
 #![tactic(auto)]
 
 mod council;

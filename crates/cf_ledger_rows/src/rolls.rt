@@ -28,7 +28,8 @@ fn put_in_year(
     year: u16,
     moved: Option<LineMove>,
 ) -> Result<(), AllocError>
-    ensures { OnOk result (out.new.items ≡ out.old.items ++ kept (spec.in_year chart.now of year moved)) }
+    ensures { OnOk result
+        (out.new.items ≡ out.old.items ++ kept (spec.in_year chart.now of year moved)) }
 {
     match moved {
         Some(moved) => {
@@ -58,7 +59,8 @@ fn put_released(
     requires form { IsActInForm on act.now }
     requires allowed { IsAllowed chart.now orders.now.documents on act.now }
     ensures { OnOk result (out.new.items
-        ≡ out.old.items ++ kept (requisition_rows chart.now place year orders.now.documents.holds number)) }
+        ≡ out.old.items ++ kept
+        (requisition_rows chart.now place year orders.now.documents.holds number)) }
 {
     let count = orders.moves(act) as u32;
     for nth in 0..count {
@@ -86,7 +88,8 @@ fn put_requisition(
     requires day { is_day on ≡ true }
     requires released { AreReleased orders.now.documents.holds }
     ensures { OnOk result (out.new.items
-        ≡ out.old.items ++ kept (requisition_rows chart.now place year orders.now.documents.holds number)) }
+        ≡ out.old.items ++ kept
+        (requisition_rows chart.now place year orders.now.documents.holds number)) }
 {
     let act = Act::Withdraw(number);
     match orders.check(chart, on, 0, &act) {
@@ -105,7 +108,8 @@ fn carried(amount: i128) -> Amounts
     by
 }
 
-/// Adds the row of what goes on in the year after, where the fund carries and there is a line for it.
+/// Adds the row of what goes on in the year after, where the fund carries and there is a line for
+/// it.
 fn put_carried(
     out: &mut Vec<LedgerRow>,
     chart: &Chart,
@@ -114,7 +118,8 @@ fn put_carried(
 ) -> Result<(), AllocError>
     requires small { IsSmall moved.now }
     requires year { moved.now.year ≤ last_fiscal_year }
-    ensures { OnOk result (out.new.items ≡ out.old.items ++ kept (spec.carried_line chart.now of moved.now)) }
+    ensures { OnOk result
+        (out.new.items ≡ out.old.items ++ kept (spec.carried_line chart.now of moved.now)) }
 {
     let (account, next) = (moved.account, moved.year + 1);
     if carries(chart, account.fund) && has_line(chart, account, next) {
@@ -134,7 +139,8 @@ fn put_rolled(
 ) -> Result<(), AllocError>
     requires small { IsSmall moved.now }
     requires year { moved.now.year ≤ last_fiscal_year }
-    ensures { OnOk result (out.new.items ≡ out.old.items ++ kept (spec.rolled_line chart.now of moved.now)) }
+    ensures { OnOk result
+        (out.new.items ≡ out.old.items ++ kept (spec.rolled_line chart.now of moved.now)) }
 {
     put(out, on_move(chart, of, moved))?;
     put_carried(out, chart, of, moved)
@@ -150,7 +156,8 @@ fn put_rolled_if(
 ) -> Result<(), AllocError>
     requires small { IfSome moved IsSmall }
     requires year { year ≤ last_fiscal_year }
-    ensures { OnOk result (out.new.items ≡ out.old.items ++ kept (spec.rolled_if chart.now of year moved)) }
+    ensures { OnOk result
+        (out.new.items ≡ out.old.items ++ kept (spec.rolled_if chart.now of year moved)) }
 {
     match moved {
         Some(moved) => {
@@ -181,7 +188,8 @@ fn put_live(
     requires form { IsActInForm on act.now }
     requires allowed { IsAllowed chart.now orders.now.documents on act.now }
     ensures { OnOk result (out.new.items
-        ≡ out.old.items ++ kept (order_rows chart.now place year orders.now.documents.items number)) }
+        ≡ out.old.items ++ kept
+        (order_rows chart.now place year orders.now.documents.items number)) }
 {
     let count = orders.moves(act) as u32;
     for nth in 0..count {
@@ -209,7 +217,8 @@ fn put_order(
     requires day { is_day on ≡ true }
     requires year { year ≤ last_fiscal_year }
     ensures { OnOk result (out.new.items
-        ≡ out.old.items ++ kept (order_rows chart.now place year orders.now.documents.items number)) }
+        ≡ out.old.items ++ kept
+        (order_rows chart.now place year orders.now.documents.items number)) }
 {
     let act = Act::CancelOrder(number);
     match orders.check(chart, on, 0, &act) {
@@ -254,7 +263,8 @@ fn put_requisitions(
     requires day { is_day on ≡ true }
     requires released { AreReleased orders.now.documents.holds }
     ensures { OnOk result (out.new.items ≡ out.old.items
-        ++ kept (flat_map (requisition_rows chart.now place year orders.now.documents.holds) (range_with_len 1 orders.now.documents.requisitions))) }
+        ++ kept (flat_map (requisition_rows chart.now place year orders.now.documents.holds)
+        (range_with_len 1 orders.now.documents.requisitions))) }
 {
     for before in 0..requisitions(alloc, orders) {
         put_requisition(out, chart, orders, on, year, place, before + 1)?;
@@ -275,7 +285,8 @@ fn put_orders(
     requires day { is_day on ≡ true }
     requires year { year ≤ last_fiscal_year }
     ensures { OnOk result (out.new.items ≡ out.old.items
-        ++ kept (flat_map (order_rows chart.now place year orders.now.documents.items) (range_with_len 1 orders.now.documents.orders))) }
+        ++ kept (flat_map (order_rows chart.now place year orders.now.documents.items)
+        (range_with_len 1 orders.now.documents.orders))) }
 {
     for before in 0..orders_drawn(alloc, orders) {
         put_order(out, chart, orders, on, year, place, before + 1)?;

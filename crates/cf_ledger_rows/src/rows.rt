@@ -31,8 +31,8 @@ pub const NOTHING: Amounts = Amounts {
     received: 0,
 };
 
-/// What a row is of: the entry at a place, from 1, a document by its number, and an item of it, from 1. Each number is 0
-/// where there is none.
+/// What a row is of: the entry at a place, from 1, a document by its number, and an item of it,
+/// from 1. Each number is 0 where there is none.
 #[derive(Clone, Copy)]
 pub struct Origin {
     pub place: u64,
@@ -60,11 +60,7 @@ pub struct LedgerRow {
 fn changes(by: &Amounts) -> bool
     ensures { result ≡ spec.changes by.now }
 {
-    by.appropriated != 0
-        || by.ordered != 0
-        || by.held != 0
-        || by.spent != 0
-        || by.received != 0
+    by.appropriated != 0 || by.ordered != 0 || by.held != 0 || by.spent != 0 || by.received != 0
 }
 
 /// Adds a row, but for one that changes nothing.
@@ -111,7 +107,8 @@ pub fn on_account(
 
 /// The row of what an item of a document moves.
 pub fn on_move(chart: &Chart, of: Origin, moved: &LineMove) -> LedgerRow
-    ensures { result ≡ spec.on_account chart.now of moved.now.account moved.now.year (spec.amounts_of moved.now.held moved.now.encumbered moved.now.expended) }
+    ensures { result ≡ spec.on_account chart.now of moved.now.account moved.now.year
+        (spec.amounts_of moved.now.held moved.now.encumbered moved.now.expended) }
 {
     let mut by = NOTHING;
     by.held = moved.held;

@@ -22,14 +22,16 @@ fn put_spent(
     year: u16,
 ) -> Result<(), AllocError>
     ensures { OnOk result (out.new.items ≡ out.old.items
-        ++ kept (on_move chart.now of (spending_move (record { account = account; year = year })) ∷ [])) }
+        ++ kept (on_move chart.now of (spending_move (record { account = account; year = year }))
+        ∷ [])) }
 {
     let mut by = NOTHING;
     by.spent = i128::from(account.amount);
     put(out, on_account(chart, of, account, year, by))
 }
 
-/// Adds the rows of a debt payment: its principal and its interest, in the fiscal year in which it is due.
+/// Adds the rows of a debt payment: its principal and its interest, in the fiscal year in which it
+/// is due.
 pub fn put_payment(
     out: &mut Vec<LedgerRow>,
     chart: &Chart,

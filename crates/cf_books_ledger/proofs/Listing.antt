@@ -1,0 +1,25 @@
+-- The parties of one entry more.
+use Rattle.std.proofs.Common.{◌≡◌, ℕ, ◌+◌, ◌<◌, List, [], ◌∷◌, ◌++◌, length, take, get_or, flat_map, sym, ap, ◌∙◌, append-nil}
+use Rattle.std.proofs.lemmas.Grind.{flat_map-append}
+use Rattle.std.proofs.lemmas.List.{take_more}
+use Rattle.cf_calls.specs.declared.acts.Act.{Act}
+use Rattle.cf_calls.specs.declared.entry.Entry.{Entry}
+use Rattle.cf_books_ledger.specs.Parties.{PartyLists, bill_party, bond_party, order_party, parties_of, voucher_party, with_act}
+
+one_more : (party : Act → List ℕ) (before : List Entry) (e : Entry) → flat_map (λ e. party e.change.act) before ++ party e.change.act ≡ flat_map (λ e. party e.change.act) (before ++ e ∷ [])
+one_more party before e =
+    ap (λ t. flat_map (λ e. party e.change.act) before ++ t) (sym (append-nil (party e.change.act))) ∙ sym (flat_map-append (λ e. party e.change.act) before (e ∷ []))
+
+pub parties_push : (before : List Entry) (e : Entry) → with_act (parties_of before) e.change.act ≡ parties_of (before ++ e ∷ [])
+parties_push before e = λ i. record {
+  orders = one_more order_party before e i;
+  vouchers = one_more voucher_party before e i;
+  bills = one_more bill_party before e i;
+  bonds = one_more bond_party before e i;
+}
+
+pub parties_more : (entries : List Entry) (k : ℕ) (e : Entry) (old new : PartyLists) → k < length entries → get_or entries k e ≡ e → new ≡ with_act old e.change.act → old ≡ parties_of (take k entries) →
+    new ≡ parties_of (take (k + 1) entries)
+parties_more entries k e old new l at added so_far =
+    added ∙ ap (λ (p : PartyLists). with_act p e.change.act) so_far ∙ parties_push (take k entries) e
+    ∙ ap parties_of (ap (λ (x : Entry). take k entries ++ x ∷ []) (sym at) ∙ sym (take_more entries k e l))
