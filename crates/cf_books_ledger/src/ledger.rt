@@ -8,7 +8,7 @@ ghost use Rattle.cf_books_lists.specs.Rows.{added};
 ghost use Rattle.cf_books_ledger.specs.Ledger as spec;
 
 use crate::filter::{LedgerFilter, wanted};
-use crate::parties::{Parties, parties, party_of};
+use crate::parties::{Parties, all_parties, party_of};
 use cf_base::{day_text, money_text};
 use cf_books_lists::{Layout, Rows, decimal_text, drawn_text};
 use cf_call_text::call_word;
@@ -316,7 +316,7 @@ pub fn ledger_text(
 ) -> Result<Vec<u8>, AllocError>
     ensures { IfOk result (λ v. v.items ≡ spec.text_of layout.csv filter.now entries.now rows.now) }
 {
-    let parties = parties(layout.alloc, entries)?;
+    let parties = all_parties(layout.alloc, entries)?;
     let mut sheet = Sheet {
         out: Rows::new(layout),
         totals: Totals {
