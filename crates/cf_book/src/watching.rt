@@ -30,6 +30,8 @@ pub trait Watch {
         fund: &[Post],
         gov: &[Post],
     ) -> Result<(), AllocError>
+        requires { (history : List Entry)
+            × IsNext chart.now history (shown_as place entry.now before.now.registers fund.now gov.now) changes.now }
         ensures { (history : List Entry) → has_seen self.old chart.now (all_posted chart.now history)
             → IsNext chart.now history (shown_as place entry.now before.now.registers fund.now gov.now) changes.now
             → OnOk result (has_seen self.new chart.now

@@ -1,3 +1,4 @@
 pub mod Parties
 pub mod PartiesView
 pub mod Ledger
+pub mod Seen

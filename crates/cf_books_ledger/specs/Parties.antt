@@ -65,9 +65,9 @@ party_by p _ r = 0
 
 -- the lists with what an act enters
 abbrev pub with_act : PartyLists → Act → PartyLists
-with_act p a = record {
-  orders = p.orders ++ order_party a;
-  vouchers = p.vouchers ++ voucher_party a;
-  bills = p.bills ++ bill_party a;
-  bonds = p.bonds ++ bond_party a;
-}
+with_act p (Order o) = record p { orders = p.orders ++ o.vendor ∷ [] }
+with_act p (Voucher v) = record p { vouchers = p.vouchers ++ v.vendor ∷ [] }
+with_act p (Bill b) = record p { bills = p.bills ++ b.payer ∷ [] }
+with_act p (Issue i) = record p { bonds = p.bonds ++ 0 ∷ [] }
+with_act p (Lease l) = record p { bonds = p.bonds ++ l.vendor ∷ [] }
+with_act p _ = p

@@ -1,6 +1,6 @@
 //! The other parties of documents.
 
-ghost use Rattle.std.specs.Prelude.{◌≡◌, ◌++◌, List, IfOk, OnOk};
+ghost use Rattle.std.specs.Prelude.{◌≡◌, ◌++◌, ◌∷◌, [], IfOk, OnOk};
 ghost use Rattle.cf_books_ledger.specs.Parties as spec;
 ghost use Rattle.cf_books_ledger.specs.Parties.{parties_of};
 
@@ -29,16 +29,24 @@ impl Model for Parties {
     ghost view = { party_lists };
 }
 
+/// Adds a party at the end.
+fn push(list: &mut Vec<u32>, party: u32) -> Result<(), AllocError>
+    ensures { OnOk result (list.new.items ≡ list.old.items ++ party ∷ []) }
+{
+    list.push(party)?;
+    Ok(())
+}
+
 /// Adds the party of what an act enters.
 fn put_party(parties: &mut Parties, act: &Act) -> Result<(), AllocError>
     ensures { OnOk result (parties.new ≡ spec.with_act parties.old act.now) }
 {
     match act {
-        Act::Order(order) => parties.orders.push(order.vendor)?,
-        Act::Voucher(voucher) => parties.vouchers.push(voucher.vendor)?,
-        Act::Bill(bill) => parties.bills.push(bill.payer)?,
-        Act::Issue(_) => parties.bonds.push(0)?,
-        Act::Lease(lease) => parties.bonds.push(lease.vendor)?,
+        Act::Order(order) => push(&mut parties.orders, order.vendor),
+        Act::Voucher(voucher) => push(&mut parties.vouchers, voucher.vendor),
+        Act::Bill(bill) => push(&mut parties.bills, bill.payer),
+        Act::Issue(_) => push(&mut parties.bonds, 0),
+        Act::Lease(lease) => push(&mut parties.bonds, lease.vendor),
         Act::Adopt(_)
         | Act::Amend(_)
         | Act::Transfer(_)
@@ -55,9 +63,8 @@ fn put_party(parties: &mut Parties, act: &Act) -> Result<(), AllocError>
         | Act::PayDue(_)
         | Act::Leave(_)
         | Act::Interfund(_)
-        | Act::Close(_) => {}
+        | Act::Close(_) => Ok(()),
     }
-    Ok(())
 }
 
 /// The parties of the documents of a history.
