@@ -36,6 +36,8 @@ use Rattle.cf_books.specs.declared.answers.Answer.{Answer}
 use Rattle.cf_books.specs.declared.status.Status.{Status}
 use Rattle.cf_books.specs.declared.status.Status.TheVariants as status
 use Rattle.cf_books.specs.Calls.{call_line, calls_text}
+use Rattle.cf_books_ledger.specs.Ledger.{text_of as ledger_of}
+use Rattle.cf_ledger_rows.specs.History.{history_rows}
 use Rattle.cf_books_lists.specs.Balances.{balances_of}
 use Rattle.cf_books_lists.specs.Open.{open_text}
 use Rattle.cf_books_lists.specs.Posts.{posts_of}
@@ -144,6 +146,7 @@ office_text (Balances year None false csv) bytes s = balances_of csv year s.plan
 office_text (Balances year None true csv) bytes s = year_text csv year s.plan s.entries
 office_text (Paid year csv) bytes s = paid_text csv year s.entries
 office_text (Open csv) bytes s = open_text csv s.plan s.entries
+office_text (Ledger filter csv) bytes s = ledger_of csv filter s.entries (history_rows s.plan s.entries)
 office_text (Statement year kind None csv) bytes s = statement_text csv year kind s.plan s.entries
 office_text _ bytes s = journal_text s.entries ++ room_text bytes s.entries
 
@@ -214,7 +217,7 @@ said key (Posts filter through csv) bytes = posts_said filter through csv bytes
 said key (Balances year through alone csv) bytes = balances_said year through alone csv bytes
 said key (Open csv) bytes = office_said (Open csv) bytes (recovered bytes)
 said key (Statement year kind through csv) bytes = statement_through_said year kind through csv bytes
-said key (Ledger filter csv) bytes = nothing status.BadWords
+said key (Ledger filter csv) bytes = office_said (Ledger filter csv) bytes (recovered bytes)
 said key (Documents filter csv) bytes = nothing status.BadWords
 said key (Month month csv) bytes = nothing status.BadWords
 said key (Paid year csv) bytes = office_said (Paid year csv) bytes (recovered bytes)

@@ -15,6 +15,7 @@ ghost use Rattle.cf_books_front.specs.Whole.{parts, whole_of};
 use crate::calls::put_calls;
 use crate::fault_rows::fault_id;
 use crate::grants::{claims_answer, grants_answer};
+use crate::ledger::ledger_answer;
 use crate::lines::lines_text;
 use crate::listing::list_text;
 use crate::lists::{balances_answer, open_answer, paid_answer, posts_answer, statement_answer};
@@ -211,7 +212,8 @@ fn command_answer(
             csv,
         } => statement_answer(Layout { alloc, csv }, year, kind, through, bytes),
         Command::Paid { year, csv } => paid_answer(Layout { alloc, csv }, year, bytes),
-        Command::Ledger { .. } | Command::Documents { .. } | Command::Month { .. } => {
+        Command::Ledger { filter, csv } => ledger_answer(Layout { alloc, csv }, filter, bytes),
+        Command::Documents { .. } | Command::Month { .. } => {
             Ok(nothing(alloc, Status::BadWords))
         }
         Command::CheckGrants

@@ -6,6 +6,7 @@ mod answers;
 mod calls;
 mod fault_rows;
 mod grants;
+mod ledger;
 mod lines;
 mod listing;
 mod lists;

@@ -24,7 +24,7 @@ use cf_words::ReportKind;
 use std::alloc::{AllocError, Global};
 
 /// An answer of this text.
-fn done(out: Vec<u8>) -> Answer
+pub(crate) fn done(out: Vec<u8>) -> Answer
     ensures { spec.view result ≡ record { out = out.items; status = Status.Done } }
 {
     Answer {

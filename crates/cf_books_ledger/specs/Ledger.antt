@@ -9,7 +9,7 @@ use Rattle.cf_call_text.specs.CallText.{call_word}
 use Rattle.cf_calls.specs.declared.entry.Entry.{Entry}
 use Rattle.cf_model.specs.Calendar.{is_before}
 use Rattle.cf_ledger_rows.specs.declared.rows.LedgerRow.{LedgerRow}
-use Rattle.cf_books_ledger.specs.declared.filter.LedgerFilter.{LedgerFilter}
+use Rattle.cf_books_words.specs.declared.words.LedgerFilter.{LedgerFilter}
 use Rattle.cf_books_ledger.specs.declared.ledger.Totals.{Totals}
 use Rattle.cf_books_ledger.specs.Parties.{PartyLists, parties_of, party_by}
 

@@ -6,22 +6,10 @@ ghost use Rattle.cf_books_ledger.specs.Ledger as spec;
 
 use crate::parties::{Parties, party_of};
 use cf_base::Day;
+use cf_books_words::LedgerFilter;
 use cf_calls::Entry;
 use cf_ledger_rows::LedgerRow;
 use cf_rows::is_before;
-
-#[derive(Clone, Copy)]
-pub struct LedgerFilter {
-    pub fund: Option<u16>,
-    pub dept: Option<u16>,
-    pub object: Option<u16>,
-    pub line: Option<u16>,
-    pub source: Option<u16>,
-    pub vendor: Option<u32>,
-    pub year: Option<u16>,
-    pub from: Option<Day>,
-    pub through: Option<Day>,
-}
 
 /// Whether this id or year is asked for: each is, where none is named.
 fn is_asked(asked: Option<u16>, id: u16) -> bool

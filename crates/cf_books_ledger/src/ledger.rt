@@ -7,7 +7,7 @@ ghost use Rattle.cf_books_lists.specs.Records.{drawn_text as drawn, head_text, r
 ghost use Rattle.cf_books_lists.specs.Rows.{added};
 ghost use Rattle.cf_books_ledger.specs.Ledger as spec;
 
-use crate::filter::{LedgerFilter, wanted};
+use crate::filter::wanted;
 use crate::parties::{Parties, all_parties, party_of};
 use cf_base::{day_text, money_text};
 use cf_books_lists::{Layout, Rows, decimal_text, drawn_text};

@@ -7,6 +7,5 @@ mod gather;
 mod ledger;
 mod parties;
 
-pub use filter::LedgerFilter;
 pub use gather::open_with_ledger;
 pub use ledger::{Totals, ledger_text};
