@@ -11,6 +11,7 @@ use crate::filter::wanted;
 use crate::parties::{Parties, all_parties, party_of};
 use cf_base::{day_text, money_text};
 use cf_books_lists::{Layout, Rows, decimal_text, drawn_text};
+use cf_books_words::LedgerFilter;
 use cf_call_text::call_word;
 use cf_calls::Entry;
 use cf_ledger_rows::{Amounts, LedgerRow};
