@@ -18,7 +18,7 @@ use crate::grants::{claims_answer, grants_answer};
 use crate::ledger::ledger_answer;
 use crate::lines::lines_text;
 use crate::listing::list_text;
-use crate::lists::{balances_answer, open_answer, paid_answer, posts_answer, statement_answer};
+use crate::lists::{balances_answer, open_answer, posts_answer, statement_answer};
 use crate::office::office_answer;
 use crate::status::Status;
 use crate::summary::put_chart;
@@ -211,9 +211,8 @@ fn command_answer(
             through,
             csv,
         } => statement_answer(Layout { alloc, csv }, year, kind, through, bytes),
-        Command::Paid { year, csv } => paid_answer(Layout { alloc, csv }, year, bytes),
         Command::Ledger { filter, csv } => ledger_answer(Layout { alloc, csv }, filter, bytes),
-        Command::Documents { .. } | Command::Month { .. } => {
+        Command::Documents { .. } | Command::Month { .. } | Command::Paid { .. } => {
             Ok(nothing(alloc, Status::BadWords))
         }
         Command::CheckGrants
@@ -278,8 +277,8 @@ pub fn answer_of(
     bytes: &[u8],
     journal: &[u8],
 ) -> Result<Answer, AllocError>
-    ensures answer { Answers result (spec.said_with (asks request) bytes.now journal.now) }
-    ensures all { IfOk result (λ a. (n : ℕ) → request.entries ≡ Some n → IsToday n (option_map (λ k. k.now) request.key) request.command bytes.now (spec.view a)) }
+    ensures answer { Answers result (spec.said_with (asks request.entry) bytes.now journal.now) }
+    ensures all { IfOk result (λ a. (n : ℕ) → request.entry.entries ≡ Some n → IsToday n (option_map (λ k. k.now) request.entry.key) request.entry.command bytes.now (spec.view a)) }
 {
     match request.command {
         Command::CheckGrants => grants_answer(alloc, bytes, journal),

@@ -46,9 +46,12 @@ pub fn ledger_answer(
 {
     let copy = Vec::from_slice(layout.alloc, bytes)?;
     match open_ledger(layout.alloc, copy) {
-        Ok((book, rows)) => Ok(done(
-            ledger_text(layout, &filter, book.entries(), rows.as_slice())?,
-        )),
+        Ok((book, rows)) => Ok(done(ledger_text(
+            layout,
+            &filter,
+            book.entries(),
+            rows.as_slice(),
+        )?)),
         Err(why) => refused_answer(layout.alloc, bytes, why),
     }
 }

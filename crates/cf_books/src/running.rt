@@ -51,12 +51,12 @@ pub fn run<S: Source, J: Source, K: Sink>(
     journal: &mut J,
     out: &mut K,
 ) -> Status
-    ensures ends { Ends (asks request) (S.left source.old) (J.left journal.old) (K.held out.old) (K.held out.new) result }
+    ensures ends { Ends (asks request.entry) (S.left source.old) (J.left journal.old) (K.held out.old) (K.held out.new) result }
     ensures read { result ≡ Status.ReadFault → Rose (S.faults source.old) (S.faults source.new) ⊎ Rose (J.faults journal.old) (J.faults journal.new) }
     ensures write { result ≡ Status.WriteFault → Rose (K.faults out.old) (K.faults out.new) }
     ensures input_quiet { result ≢ Status.ReadFault → (S.faults source.new ≡ S.faults source.old) × (J.faults journal.new ≡ J.faults journal.old) }
     ensures out_quiet { result ≢ Status.WriteFault → K.faults out.new ≡ K.faults out.old }
-    ensures unread { spec.reads_journal request.command ≡ false → journal.new ≡ journal.old }
+    ensures unread { spec.reads_journal request.entry.command ≡ false → journal.new ≡ journal.old }
 {
     let bytes = match read_all(alloc, source, usize::MAX) {
         Ok(bytes) => bytes,
