@@ -1,17 +1,15 @@
 //! The rows of documents.
 
-ghost use Rattle.std.specs.Prelude.{◌≡◌, None, Option as AnOption, List as AList, ℕ, option_map, IfOk, OnOk};
+ghost use Rattle.std.specs.Prelude.{◌≡◌, option_map, string_bytes, IfOk, OnOk};
 ghost use Rattle.std.specs.List.{AllByRecursion};
 ghost use Rattle.std.specs.Option.{option_copied};
+ghost use Rattle.cf_base.specs.Amounts.{money_of};
 ghost use Rattle.cf_books_documents.specs.Dated.{IsDated};
-ghost use Rattle.cf_books_documents.specs.Documents.{documents_by};
 ghost use Rattle.cf_books_documents.specs.KnownIn.{known_in};
 ghost use Rattle.cf_books_documents.specs.Once.{EachOnce};
 ghost use Rattle.cf_books_lists.specs.Records.{head_text, record_text};
 ghost use Rattle.cf_books_lists.specs.Rows.{added};
 ghost use Rattle.cf_books_documents.specs.Text as spec;
-ghost use Rattle.cf_books_documents.specs.Told.{told_of as told_by};
-ghost use Rattle.cf_model.specs.Registers.{registers_of};
 
 use crate::documents::{Office, add_documents};
 use crate::event::Event;
@@ -38,6 +36,20 @@ fn line_of(chart: &Chart, facts: &Facts) -> Option<u16>
             .map(|line| line.number),
         _ => None,
     }
+}
+
+/// The amount of a document.
+fn amount_text(alloc: Global, facts: &Facts) -> Result<String, AllocError>
+    ensures { IfOk result (λ t. string_bytes t ≡ money_of facts.now.amount) }
+{
+    money_text(alloc, facts.amount)
+}
+
+/// What is open of a document.
+fn left_text(alloc: Global, facts: &Facts) -> Result<String, AllocError>
+    ensures { IfOk result (λ t. string_bytes t ≡ money_of facts.now.left) }
+{
+    money_text(alloc, facts.left)
 }
 
 /// Writes the record of a document that an entry entered, which a payment paid, and to which entries did this.
@@ -67,8 +79,8 @@ fn put_row(
     let line = option_text(alloc, line_of(chart, facts))?;
     let source = option_text(alloc, facts.source)?;
     let year = option_text(alloc, facts.year)?;
-    let amount = money_text(alloc, facts.amount)?;
-    let left = money_text(alloc, facts.left)?;
+    let amount = amount_text(alloc, facts)?;
+    let left = left_text(alloc, facts)?;
     let state = Vec::from_slice(alloc, state_word(facts.state).as_bytes())?;
     let paid = paid_text(alloc, payment)?;
     let run = Vec::from_slice(alloc, run_text(payment).as_bytes())?;
