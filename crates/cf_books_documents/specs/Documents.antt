@@ -35,8 +35,17 @@ use Rattle.cf_books_documents.specs.declared.words.DocumentKind.TheVariants as k
 -- a document of a number that stands so
 abbrev pub facts_of : DocumentKind → ℕ → ℕ → Account → Option ℕ → Standing → Facts
 facts_of kind number party account source now = record {
-  kind = kind; number = number; item = 0; party = party; account = account; source = source; first = None;
-  year = now.year; amount = now.amount; left = now.left; state = now.state;
+  kind = kind;
+  number = number;
+  item = 0;
+  party = party;
+  account = account;
+  source = source;
+  first = None;
+  year = now.year;
+  amount = now.amount;
+  left = now.left;
+  state = now.state;
 }
 
 abbrev pub year_of : Plan → Entry → ℕ
@@ -50,8 +59,17 @@ requisition plan s e r =
 -- an order's item at a place, from 0
 abbrev pub item_with : Entry → ℕ → ℕ → ℕ → AccountItem → Standing → Facts
 item_with e vendor first nth a now = record {
-  kind = kind.Order; number = e.drawn.number; item = nth + 1; party = vendor; account = alone a; source = None; first = Some first;
-  year = now.year; amount = now.amount; left = now.left; state = now.state;
+  kind = kind.Order;
+  number = e.drawn.number;
+  item = nth + 1;
+  party = vendor;
+  account = alone a;
+  source = None;
+  first = Some first;
+  year = now.year;
+  amount = now.amount;
+  left = now.left;
+  state = now.state;
 }
 
 abbrev pub item_of : Entry → ℕ → ℕ → ℕ → AccountItem → Option Shown → Facts

@@ -55,9 +55,7 @@ fn part_of(part: Part, account: AccountItem) -> u16
 fn all_have<T: Accounted>(items: &[T], part: Part, id: u16) -> bool
     ensures { result ≡ list_all (λ i. spec.part_of part (T.account i) == id) items.now }
 {
-    items
-        .iter()
-        .all(|item| part_of(part, item.account()) == id)
+    items.iter().all(|item| part_of(part, item.account()) == id)
 }
 
 /// The part that the accounts of all items have, where they have one.

@@ -13,7 +13,10 @@ use crate::standing::{
     unseen, voucher_now,
 };
 use crate::words::DocumentKind;
-use cf_calls::acts::{AssetAct, BondIssue, FundMove, FundMoveKind, NewBill, NewLease, NewOrder, NewRequisition, NewVoucher};
+use cf_calls::acts::{
+    AssetAct, BondIssue, FundMove, FundMoveKind, NewBill, NewLease, NewOrder, NewRequisition,
+    NewVoucher,
+};
 use cf_calls::items::{AccountItem, VoucherItem};
 use cf_calls::{Act, Entry, Read, Shown};
 use cf_chart::Chart;
@@ -77,9 +80,7 @@ fn add_requisition(
     let look = Read::Requisition {
         requisition: number,
     };
-    let shown = office
-        .registers
-        .look(office.alloc, office.chart, &look)?;
+    let shown = office.registers.look(office.alloc, office.chart, &look)?;
     let items = requisition.items.as_slice();
     let now = requisition_now(shown.as_ref(), total(items));
     let account = common(items);
@@ -154,9 +155,7 @@ fn add_order(
     let look = Read::Order {
         order: entry.drawn.number,
     };
-    let shown = office
-        .registers
-        .look(office.alloc, office.chart, &look)?;
+    let shown = office.registers.look(office.alloc, office.chart, &look)?;
     let first = year_of(office.chart, entry);
     let items = order.items.as_slice();
     add_items(out, entry, order.vendor, first, items, shown.as_ref())
@@ -174,9 +173,7 @@ fn add_voucher(
 {
     let number = entry.drawn.number;
     let look = Read::Voucher { voucher: number };
-    let shown = office
-        .registers
-        .look(office.alloc, office.chart, &look)?;
+    let shown = office.registers.look(office.alloc, office.chart, &look)?;
     let now = voucher_now(shown.as_ref());
     let account = common(voucher.items.as_slice());
     out.push(facts_of(
@@ -202,9 +199,7 @@ fn add_bill(
 {
     let number = entry.drawn.number;
     let look = Read::Bill { bill: number };
-    let shown = office
-        .registers
-        .look(office.alloc, office.chart, &look)?;
+    let shown = office.registers.look(office.alloc, office.chart, &look)?;
     let now = bill_now(shown.as_ref(), bill.amount);
     out.push(facts_of(
         DocumentKind::Bill,
@@ -231,9 +226,7 @@ fn asset_standing(
         return Ok(unseen(i128::from(amount)));
     };
     let look = Read::Asset { asset };
-    let shown = office
-        .registers
-        .look(office.alloc, office.chart, &look)?;
+    let shown = office.registers.look(office.alloc, office.chart, &look)?;
     Ok(asset_now(shown.as_ref(), year, amount))
 }
 
@@ -251,14 +244,7 @@ fn add_asset(
         office.now.registers.now.registers number year account amount party ∷ []) }
 {
     let now = asset_standing(office, number, year, amount)?;
-    out.push(facts_of(
-        DocumentKind::Asset,
-        number,
-        party,
-        account,
-        None,
-        now,
-    ))?;
+    out.push(facts_of(DocumentKind::Asset, number, party, account, None, now))?;
     Ok(())
 }
 
@@ -278,7 +264,15 @@ fn add_bought(
     for item in items {
         let account = item.account;
         if is_capital(office.chart, account.object) {
-            add_asset(out, office, number, year, alone(account), account.amount, vendor)?;
+            add_asset(
+                out,
+                office,
+                number,
+                year,
+                alone(account),
+                account.amount,
+                vendor,
+            )?;
             number += 1;
         }
     }
@@ -324,7 +318,15 @@ fn add_leased(
 {
     let account = lease.account;
     let number = u64::from(number);
-    add_asset(out, office, number, year, alone(account), account.amount, lease.vendor)
+    add_asset(
+        out,
+        office,
+        number,
+        year,
+        alone(account),
+        account.amount,
+        lease.vendor,
+    )
 }
 
 /// Adds a bond or a lease.
@@ -342,9 +344,7 @@ fn add_debt(
         office.now.registers.now.registers kind number year account amount party ∷ []) }
 {
     let look = Read::Bond { bond: number };
-    let shown = office
-        .registers
-        .look(office.alloc, office.chart, &look)?;
+    let shown = office.registers.look(office.alloc, office.chart, &look)?;
     let now = debt_now(shown.as_ref(), year, amount);
     out.push(facts_of(kind, u64::from(number), party, account, None, now))?;
     Ok(())
@@ -362,7 +362,16 @@ fn add_bond(
         office.now.registers.now.registers number year bond.now ∷ []) }
 {
     let account = of_fund(bond.fund);
-    add_debt(out, office, DocumentKind::Bond, number, year, account, bond.amount, 0)
+    add_debt(
+        out,
+        office,
+        DocumentKind::Bond,
+        number,
+        year,
+        account,
+        bond.amount,
+        0,
+    )
 }
 
 /// Adds a lease.
@@ -378,7 +387,16 @@ fn add_lease(
 {
     let account = alone(lease.account);
     let amount = lease.account.amount;
-    add_debt(out, office, DocumentKind::Lease, number, year, account, amount, lease.vendor)
+    add_debt(
+        out,
+        office,
+        DocumentKind::Lease,
+        number,
+        year,
+        account,
+        amount,
+        lease.vendor,
+    )
 }
 
 /// Adds the loan of the entry at a place.

@@ -78,14 +78,7 @@ pub fn numbered_of(alloc: Global, chart: &Chart, entries: &[Entry]) -> Result<Nu
     for entry in entries {
         place += 1;
         put_entry(
-            alloc,
-            &mut lists,
-            chart,
-            &vouchers,
-            &lent,
-            entries,
-            place,
-            entry,
+            alloc, &mut lists, chart, &vouchers, &lent, entries, place, entry,
         )?;
         note_loan(&mut lent, &entry.change.act, place)?;
     }

@@ -5,8 +5,8 @@ ghost use Rattle.std.specs.Option.{option_copied};
 ghost use Rattle.cf_books_documents.specs.Standing as spec;
 
 use crate::facts::State;
-use cf_calls::shown::{AssetState, ItemState, OrderItemShown, RequisitionState, VoucherState};
 use cf_calls::Shown;
+use cf_calls::shown::{AssetState, ItemState, OrderItemShown, RequisitionState, VoucherState};
 
 /// How a document stands. Amounts are in cents.
 #[derive(Clone, Copy)]
@@ -86,11 +86,13 @@ pub fn requisition_now(shown: Option<&Shown>, amount: i128) -> Standing
     ensures { result ≡ spec.requisition_now (option_copied shown.entry) amount }
 {
     match shown {
-        Some(Shown::Requisition {
-            items: _,
-            state,
-            year,
-        }) => {
+        Some(
+            Shown::Requisition {
+                items: _,
+                state,
+                year,
+            },
+        ) => {
             let state = requisition_state(*state);
             Standing {
                 state: Some(state),
@@ -133,11 +135,13 @@ pub fn voucher_now(shown: Option<&Shown>) -> Standing
     ensures { result ≡ spec.voucher_now (option_copied shown.entry) }
 {
     match shown {
-        Some(Shown::Voucher {
-            amount,
-            state,
-            year,
-        }) => {
+        Some(
+            Shown::Voucher {
+                amount,
+                state,
+                year,
+            },
+        ) => {
             let state = voucher_state(*state);
             let amount = i128::from(*amount);
             Standing {
@@ -166,11 +170,13 @@ pub fn bill_now(shown: Option<&Shown>, amount: u64) -> Standing
     ensures { result ≡ spec.bill_now (option_copied shown.entry) amount }
 {
     match shown {
-        Some(Shown::Bill {
-            left,
-            levy_year,
-            source: _,
-        }) => Standing {
+        Some(
+            Shown::Bill {
+                left,
+                levy_year,
+                source: _,
+            },
+        ) => Standing {
             state: Some(bill_state(*left)),
             year: Some(*levy_year),
             amount: i128::from(amount),
@@ -185,11 +191,13 @@ pub fn asset_now(shown: Option<&Shown>, year: u16, amount: u64) -> Standing
     ensures { result ≡ spec.asset_now (option_copied shown.entry) year amount }
 {
     match shown {
-        Some(Shown::Asset {
-            cost,
-            depreciation,
-            state,
-        }) => {
+        Some(
+            Shown::Asset {
+                cost,
+                depreciation,
+                state,
+            },
+        ) => {
             let state = asset_state(*state);
             let worth = cost.saturating_sub(*depreciation);
             Standing {
@@ -208,11 +216,13 @@ pub fn debt_now(shown: Option<&Shown>, year: u16, amount: u64) -> Standing
     ensures { result ≡ spec.debt_now (option_copied shown.entry) year amount }
 {
     match shown {
-        Some(Shown::Bond {
-            accrued: _,
-            next,
-            outstanding,
-        }) => Standing {
+        Some(
+            Shown::Bond {
+                accrued: _,
+                next,
+                outstanding,
+            },
+        ) => Standing {
             state: Some(if next.is_some() {
                 State::Open
             } else {
@@ -232,7 +242,11 @@ pub fn loan_now(year: u16, amount: u64, owed: u64) -> Standing
 {
     let left = amount.min(owed);
     Standing {
-        state: Some(if left == 0 { State::Repaid } else { State::Open }),
+        state: Some(if left == 0 {
+            State::Repaid
+        } else {
+            State::Open
+        }),
         year: Some(year),
         amount: i128::from(amount),
         left: i128::from(left),

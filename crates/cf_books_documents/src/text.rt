@@ -205,24 +205,8 @@ fn put_head(out: &mut Rows) -> Result<(), AllocError>
     ensures { OnOk result (out.new ≡ added out.old (head_text out.old.csv spec.head)) }
 {
     let names: [&[u8]; 19] = [
-        b"kind",
-        b"number",
-        b"item",
-        b"day",
-        b"desk",
-        b"key",
-        b"party",
-        b"fund",
-        b"dept",
-        b"object",
-        b"line",
-        b"source",
-        b"year",
-        b"amount",
-        b"left",
-        b"state",
-        b"paid",
-        b"run",
+        b"kind", b"number", b"item", b"day", b"desk", b"key", b"party", b"fund", b"dept",
+        b"object", b"line", b"source", b"year", b"amount", b"left", b"state", b"paid", b"run",
         b"entries",
     ];
     out.put_names(names.as_slice())

@@ -17,7 +17,7 @@ loop-entry-init c =
       place = refl;
       events = λ n.
           let none : list_in (get nat_cmp c.new-lists.result n) ++ numbered n (events_from plan (voucher_in entries) none_lent 1 entries)
-              ≡ numbered n (events_from plan (voucher_in entries) none_lent 1 entries) = first_of (search rules, grind (arith, common_steps)) in
+          ≡ numbered n (events_from plan (voucher_in entries) none_lent 1 entries) = first_of (search rules, grind (arith, common_steps)) in
           ap (λ (t : Pairs ℕ). list_in (get nat_cmp c.new-lists.result n) ++ numbered n (events_from plan (voucher_in entries) (amount_at t) 1 entries)) c.new-lent.ensures.empty
           ∙ none;
     }
