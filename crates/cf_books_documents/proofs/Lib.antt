@@ -1,0 +1,8 @@
+pub mod Dating
+pub mod Adding
+pub mod Agreed
+pub mod Each
+pub mod Entering
+pub mod Folding
+pub mod Indexing
+pub mod Within

@@ -1,0 +1,14 @@
+pub mod Accounts
+pub mod Dated
+pub mod Documents
+pub mod Events
+pub mod Facts
+pub mod Indexed
+pub mod KnownIn
+pub mod Once
+pub mod Rolls
+pub mod Standing
+pub mod Text
+pub mod Texts
+pub mod Told
+pub mod Wanted
