@@ -19,8 +19,8 @@ use Rattle.cf_books_documents.specs.Accounts as accounts
 use Rattle.cf_books_documents.specs.Documents.{asset, bought, documents_by, gift, items_from, loan}
 use Rattle.cf_books_documents.specs.Once.{EachOnce, Number, assets_drawn, documents_from, drawn_by, drawn_from, gift_drawn, items_drawn, loan_drawn, number_of}
 use Rattle.cf_books_documents.specs.declared.facts.Facts.{Facts}
-use Rattle.cf_books_documents.specs.declared.words.DocumentKind.{DocumentKind}
-use Rattle.cf_books_documents.specs.declared.words.DocumentKind.TheVariants as kind
+use Rattle.cf_books_words.specs.declared.words.DocumentKind.{DocumentKind}
+use Rattle.cf_books_words.specs.declared.words.DocumentKind.TheVariants as kind
 
 of_items : (e : Entry) (vendor first : ℕ) (shown : Option Shown) (nth : ℕ) (items : List AccountItem)
     → map number_of (items_from e vendor first shown nth items) ≡ items_drawn e.drawn.number nth items

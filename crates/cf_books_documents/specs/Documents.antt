@@ -29,8 +29,8 @@ use Rattle.cf_books_documents.specs.Standing.{asset_now, bill_now, debt_now, ite
 use Rattle.cf_books_documents.specs.declared.facts.Account.{Account}
 use Rattle.cf_books_documents.specs.declared.facts.Facts.{Facts}
 use Rattle.cf_books_documents.specs.declared.standing.Standing.{Standing}
-use Rattle.cf_books_documents.specs.declared.words.DocumentKind.{DocumentKind}
-use Rattle.cf_books_documents.specs.declared.words.DocumentKind.TheVariants as kind
+use Rattle.cf_books_words.specs.declared.words.DocumentKind.{DocumentKind}
+use Rattle.cf_books_words.specs.declared.words.DocumentKind.TheVariants as kind
 
 -- a document of a number that stands so
 abbrev pub facts_of : DocumentKind → ℕ → ℕ → Account → Option ℕ → Standing → Facts

@@ -4,8 +4,8 @@ use Rattle.cf_books_documents.specs.declared.event.Subject.{Subject}
 use Rattle.cf_books_documents.specs.declared.event.Subject.TheVariants as subject
 use Rattle.cf_books_documents.specs.declared.facts.State.{State}
 use Rattle.cf_books_documents.specs.declared.facts.State.TheVariants as state
-use Rattle.cf_books_documents.specs.declared.words.DocumentKind.{DocumentKind}
-use Rattle.cf_books_documents.specs.declared.words.DocumentKind.TheVariants as kind
+use Rattle.cf_books_words.specs.declared.words.DocumentKind.{DocumentKind}
+use Rattle.cf_books_words.specs.declared.words.DocumentKind.TheVariants as kind
 
 abbrev pub is_lapsed : Option State → Bool
 is_lapsed (Some state.Lapsed) = true

@@ -15,8 +15,8 @@ use Rattle.cf_model.specs.Charted.{is_capital}
 use Rattle.cf_model.specs.Registers.{Registers, registers_of}
 use Rattle.cf_books_documents.specs.Documents.{documents_by}
 use Rattle.cf_books_documents.specs.declared.facts.Facts.{Facts}
-use Rattle.cf_books_documents.specs.declared.words.DocumentKind.{DocumentKind}
-use Rattle.cf_books_documents.specs.declared.words.DocumentKind.TheVariants as kind
+use Rattle.cf_books_words.specs.declared.words.DocumentKind.{DocumentKind}
+use Rattle.cf_books_words.specs.declared.words.DocumentKind.TheVariants as kind
 
 -- a number of a kind, with the item of an order, or 0
 pub record Number : Type 0 where

@@ -16,9 +16,9 @@ use Rattle.cf_books_documents.specs.Wanted.{is_wanted, payment_of}
 use Rattle.cf_books_documents.specs.declared.event.Event.{Event}
 use Rattle.cf_books_documents.specs.declared.facts.Account.{Account}
 use Rattle.cf_books_documents.specs.declared.facts.Facts.{Facts}
-use Rattle.cf_books_documents.specs.declared.words.DocumentFilter.{DocumentFilter}
-use Rattle.cf_books_documents.specs.declared.words.DocumentKind.{DocumentKind}
-use Rattle.cf_books_documents.specs.declared.words.DocumentKind.TheVariants as kind
+use Rattle.cf_books_words.specs.declared.words.DocumentFilter.{DocumentFilter}
+use Rattle.cf_books_words.specs.declared.words.DocumentKind.{DocumentKind}
+use Rattle.cf_books_words.specs.declared.words.DocumentKind.TheVariants as kind
 
 -- the names of the columns
 abbrev pub head : List (List ℕ)

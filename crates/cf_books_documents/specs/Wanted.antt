@@ -8,8 +8,8 @@ use Rattle.cf_books_documents.specs.Facts.{is_kind}
 use Rattle.cf_books_documents.specs.Texts.{run_text}
 use Rattle.cf_books_documents.specs.declared.event.Event.{Event}
 use Rattle.cf_books_documents.specs.declared.facts.Facts.{Facts}
-use Rattle.cf_books_documents.specs.declared.words.DocumentFilter.{DocumentFilter}
-use Rattle.cf_books_documents.specs.declared.words.DocumentKind.{DocumentKind}
+use Rattle.cf_books_words.specs.declared.words.DocumentFilter.{DocumentFilter}
+use Rattle.cf_books_words.specs.declared.words.DocumentKind.{DocumentKind}
 
 -- the last payment or collection among what entries did
 abbrev pub payment_after : ℕ → Event → ℕ

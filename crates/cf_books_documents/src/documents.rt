@@ -12,7 +12,7 @@ use crate::standing::{
     Standing, asset_now, bill_now, debt_now, item_now, item_shown, loan_now, requisition_now,
     unseen, voucher_now,
 };
-use crate::words::DocumentKind;
+use cf_books_words::DocumentKind;
 use cf_calls::acts::{
     AssetAct, BondIssue, FundMove, FundMoveKind, NewBill, NewLease, NewOrder, NewRequisition,
     NewVoucher,

@@ -4,7 +4,7 @@ ghost use Rattle.std.specs.Prelude.{◌≡◌};
 ghost use Rattle.cf_books_documents.specs.Facts as spec;
 
 use crate::event::Subject;
-use crate::words::DocumentKind;
+use cf_books_words::DocumentKind;
 
 /// How a document stands.
 #[derive(Clone, Copy)]

@@ -16,7 +16,5 @@ mod texts;
 mod told;
 mod vouchers;
 mod wanted;
-mod words;
 
 pub use text::documents_text;
-pub use words::{DocumentFilter, DocumentKind};

@@ -17,7 +17,7 @@ use crate::facts::{Facts, kind_word, state_word};
 use crate::texts::{events_text, option_text, paid_text, run_text};
 use crate::told::{Told, told_of};
 use crate::wanted::{is_wanted, payment_of};
-use crate::words::{DocumentFilter, DocumentKind};
+use cf_books_words::{DocumentFilter, DocumentKind};
 use cf_base::{day_text, money_text};
 use cf_books_lists::{Layout, Rows, decimal_text, drawn_text};
 use cf_calls::Entry;

@@ -7,7 +7,7 @@ ghost use Rattle.cf_books_documents.specs.Wanted as spec;
 use crate::event::{Event, is_payment};
 use crate::facts::{Facts, is_kind};
 use crate::texts::run_text;
-use crate::words::{DocumentFilter, DocumentKind};
+use cf_books_words::{DocumentFilter, DocumentKind};
 use cf_calls::Entry;
 
 /// The place of the last payment or collection among what entries did, 0 where there is none.
