@@ -13,6 +13,7 @@ use Rattle.cf_books_front.specs.declared.front.FrontRefused.{FrontRefused}
 use Rattle.cf_books_front.specs.declared.front.FrontRefused.TheVariants.{Fewer, Nothing}
 use Rattle.cf_books_words.specs.Words.{Asked}
 use Rattle.cf_books_words.specs.declared.words.Command.{Command}
+use Rattle.cf_books_words.specs.declared.words.DocumentFilter.{DocumentFilter}
 use Rattle.cf_books_words.specs.declared.words.Command.TheVariants as asked
 use Rattle.cf_chart.specs.Plan.{Plan}
 use Rattle.cf_chart.specs.Reading.{chart_of}
@@ -32,7 +33,7 @@ use Rattle.cf_model.specs.State.{OfficeState}
 use Rattle.cf_words.specs.declared.words.ReportKind.{ReportKind}
 use Rattle.cf_books.specs.declared.status.Status.{Status}
 use Rattle.cf_books.specs.declared.status.Status.TheVariants.{Done, BadWords, ChartRefused, GrantsRefused, ReadFault, WriteFault, NotFounded, Damaged, NoMemory, Cut, NoSuchDay, DayRefused, EntriesRefused, Unknown}
-use Rattle.cf_books.specs.Answers.{AreLeft, Ends, Gave, IsBeside, Said, answered, chart_lines_said, chart_said, document_said, end_of, entry_at, grants_said, lines_in, lines_said, nothing, office_said, over_office, refusal_of, refused_entry, refused_in, refused_said, rows_said, said, said_at, said_by, said_first, said_with, statement_said, text_of, under_chart, vouchers_said, whole_said}
+use Rattle.cf_books.specs.Answers.{AreLeft, Ends, Gave, IsBeside, Said, answered, chart_lines_said, chart_said, document_said, documents_said, end_of, entry_at, grants_said, lines_in, lines_said, nothing, office_said, over_office, refusal_of, refused_entry, refused_in, refused_said, rows_said, said, said_at, said_by, said_first, said_with, statement_said, text_of, under_chart, vouchers_said, whole_said}
 
 -- bytes that are fewer than could have been taken were read to the end
 whole : (most : ℕ) (left left' : Option (List ℕ)) (bytes : List ℕ) → IsRead most left left' bytes → length bytes < most → IsAtEnd left'
@@ -148,6 +149,10 @@ claims_fit : (id : ℕ) (csv : Bool) (bytes journal : List ℕ) (r : Result Offi
 claims_fit id csv bytes journal (Ok s) = rows_fit csv bytes (vouchers_of_grant s.plan s.entries bytes id)
 claims_fit id csv bytes journal (Err e) = refused_fit journal e
 
+documents_fit : (filter : DocumentFilter) (key : Option (List ℕ)) (csv : Bool) (bytes : List ℕ) (r : Result OfficeState BookRefused) → IsFit (documents_said filter key csv bytes r)
+documents_fit filter key csv bytes (Ok s) = tt
+documents_fit filter key csv bytes (Err e) = refused_fit bytes e
+
 fit : (key : Option (List ℕ)) (command : Command) (bytes : List ℕ) → IsFit (said key command bytes)
 fit key asked.CheckChart bytes = chart_fit bytes (chart_of bytes)
 fit key asked.CheckGrants bytes = whole_fit asked.CheckGrants (length bytes) (whole_of bytes)
@@ -166,7 +171,7 @@ fit key (asked.Open csv) bytes = office_fit (asked.Open csv) bytes (recovered by
 fit key (asked.Statement year kind None csv) bytes = statement_fit year kind csv bytes
 fit key (asked.Statement year kind (Some day) csv) bytes = tt
 fit key (asked.Ledger filter csv) bytes = office_fit (asked.Ledger filter csv) bytes (recovered bytes)
-fit key (asked.Documents filter csv) bytes = tt
+fit key (asked.Documents filter csv) bytes = documents_fit filter key csv bytes (recovered bytes)
 fit key (asked.Month month csv) bytes = tt
 fit key (asked.Paid year csv) bytes = tt
 

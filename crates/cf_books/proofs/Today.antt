@@ -93,7 +93,7 @@ module _ (a b : List ℕ) (x : List ℕ × List Entry) (first : frames a ≡ Ok 
       same_statement (nat_le 1971 year && nat_le year last_year) (office_said (asked.Statement year kind None csv) a (recovered a)) (office_said (asked.Statement year kind None csv) b (recovered b)) (nothing BadWords) (same_book _ _ (λ s. refl))
   same_said key (asked.Statement year kind (Some day) csv) is = refl
   same_said key (asked.Ledger filter csv) is = same_book _ _ (λ s. refl)
-  same_said key (asked.Documents filter csv) is = refl
+  same_said key (asked.Documents filter csv) is = same_book _ _ (λ s. refl)
   same_said key (asked.Month month csv) is = refl
   same_said key (asked.Paid year csv) is = refl
 

@@ -27,6 +27,7 @@ use Rattle.cf_model.specs.State.{OfficeState}
 use Rattle.cf_words.specs.declared.words.ReportKind.{ReportKind}
 use Rattle.cf_books_words.specs.Words.{Asked}
 use Rattle.cf_books_words.specs.declared.words.Command.{Command}
+use Rattle.cf_books_words.specs.declared.words.DocumentFilter.{DocumentFilter}
 use Rattle.cf_books_words.specs.declared.words.PostFilter.{PostFilter}
 use Rattle.cf_books_words.specs.declared.words.Command.TheVariants.{CheckChart, CheckGrants, Check, Claims, List as Listing, Calls, Chart, Lines, Posts, Balances, Open, Statement, Ledger, Documents, Month, Paid}
 use Rattle.cf_books_grants.specs.Documents.{document_text}
@@ -36,6 +37,7 @@ use Rattle.cf_books.specs.declared.answers.Answer.{Answer}
 use Rattle.cf_books.specs.declared.status.Status.{Status}
 use Rattle.cf_books.specs.declared.status.Status.TheVariants as status
 use Rattle.cf_books.specs.Calls.{call_line, calls_text}
+use Rattle.cf_books_documents.specs.Text.{text as documents_of}
 use Rattle.cf_books_ledger.specs.Ledger.{text_of as ledger_of}
 use Rattle.cf_ledger_rows.specs.History.{history_rows}
 use Rattle.cf_books_lists.specs.Balances.{balances_of}
@@ -157,6 +159,13 @@ office_told command bytes s = record { out = office_text command bytes s; status
 abbrev pub office_said : Command → List ℕ → Result OfficeState BookRefused → Said
 office_said command bytes x = over_office (office_told command bytes) bytes x
 
+-- the documents that are wanted
+abbrev pub documents_told : DocumentFilter → Option (List ℕ) → Bool → OfficeState → Said
+documents_told filter key csv s = record { out = documents_of csv filter key s.plan s.entries; status = status.Done }
+
+abbrev pub documents_said : DocumentFilter → Option (List ℕ) → Bool → List ℕ → Result OfficeState BookRefused → Said
+documents_said filter key csv bytes x = over_office (documents_told filter key csv) bytes x
+
 -- a statement is of a fiscal year from 1971 to 2199: words with another are refused
 abbrev pub statement_said : ℕ → ReportKind → Bool → List ℕ → Said
 statement_said year kind csv bytes =
@@ -214,7 +223,7 @@ said key (Balances year through alone csv) bytes = balances_said year through al
 said key (Open csv) bytes = office_said (Open csv) bytes (recovered bytes)
 said key (Statement year kind through csv) bytes = statement_through_said year kind through csv bytes
 said key (Ledger filter csv) bytes = office_said (Ledger filter csv) bytes (recovered bytes)
-said key (Documents filter csv) bytes = nothing status.BadWords
+said key (Documents filter csv) bytes = documents_said filter key csv bytes (recovered bytes)
 said key (Month month csv) bytes = nothing status.BadWords
 said key (Paid year csv) bytes = nothing status.BadWords
 said key command bytes = whole_said command (length bytes) (whole_of bytes)

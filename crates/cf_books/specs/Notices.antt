@@ -44,6 +44,9 @@ damage_text (Some e) = codes "entry " ++ (decimal e.place ++ refusal_text e.numb
 abbrev pub at_text : ℕ → List ℕ
 at_text offset = codes "damaged at " ++ (decimal offset ++ codes ": ")
 
+abbrev pub asked_text : ℕ → List ℕ
+asked_text asked = codes "entries refused: " ++ (decimal asked ++ codes " asked, the journal has ")
+
 -- ---- what is said of each end
 
 abbrev pub code_of : Status → ℕ
@@ -75,7 +78,7 @@ status_text NoMemory = codes "no memory"
 status_text (Cut offset lost) = at_text offset ++ (codes "what stands before is given, and " ++ (decimal lost ++ codes " bytes are lost"))
 status_text NoSuchDay = codes "no such day"
 status_text (DayRefused first) = codes "day refused: the first fiscal year begins " ++ day_text first
-status_text (EntriesRefused asked entries) = codes "entries refused: " ++ (decimal asked ++ (codes " asked, the journal has " ++ decimal entries))
+status_text (EntriesRefused asked entries) = asked_text asked ++ decimal entries
 status_text (Unknown t number) = codes "unknown " ++ (table_word t ++ 32 ∷ decimal number)
 
 abbrev pub line_of : List ℕ → List ℕ

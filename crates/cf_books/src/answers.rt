@@ -13,6 +13,7 @@ ghost use Rattle.cf_books_words.specs.declared.words.Command.{Command as Asking}
 ghost use Rattle.cf_books_front.specs.Whole.{parts, whole_of};
 
 use crate::calls::put_calls;
+use crate::documents::documents_answer;
 use crate::fault_rows::fault_id;
 use crate::grants::{claims_answer, grants_answer};
 use crate::ledger::ledger_answer;
@@ -212,9 +213,10 @@ fn command_answer(
             csv,
         } => statement_answer(Layout { alloc, csv }, year, kind, through, bytes),
         Command::Ledger { filter, csv } => ledger_answer(Layout { alloc, csv }, filter, bytes),
-        Command::Documents { .. } | Command::Month { .. } | Command::Paid { .. } => {
-            Ok(nothing(alloc, Status::BadWords))
+        Command::Documents { filter, csv } => {
+            documents_answer(Layout { alloc, csv }, filter, key, bytes)
         }
+        Command::Month { .. } | Command::Paid { .. } => Ok(nothing(alloc, Status::BadWords)),
         Command::CheckGrants
         | Command::Claims { .. }
         | Command::List { .. }

@@ -4,6 +4,7 @@
 
 mod answers;
 mod calls;
+mod documents;
 mod fault_rows;
 mod grants;
 mod ledger;
