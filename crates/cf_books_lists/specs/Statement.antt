@@ -164,6 +164,9 @@ rows_text csv plan kind lines section place [] = []
 rows_text csv plan kind lines section place (r ∷ rows) =
     row_text csv plan kind section (line_at lines place) r ++ rows_text csv plan kind lines (section_below section r) (place + 1) rows
 
+-- the names of the columns, and rows
+abbrev pub text_of : Bool → ℕ → ReportKind → Plan → List Row → List ℕ
+text_of csv year kind plan rows = head_text csv (head_of kind) ++ rows_text csv plan kind (row_lines plan year kind) [] 0 rows
+
 abbrev pub statement_text : Bool → ℕ → ReportKind → Plan → List Entry → List ℕ
-statement_text csv year kind plan history =
-    head_text csv (head_of kind) ++ rows_text csv plan kind (row_lines plan year kind) [] 0 (rows_of plan history year kind)
+statement_text csv year kind plan history = text_of csv year kind plan (rows_of plan history year kind)

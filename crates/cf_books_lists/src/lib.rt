@@ -19,5 +19,5 @@ pub use names::{basis_word, department_name, fund_name};
 pub use open::open_text;
 pub use posts::{PlacedPost, open_with_posts, posts_text};
 pub use rows::{Layout, Rows};
-pub use statement::statement_text;
+pub use statement::{statement_text, text_of_rows};
 pub use texts::{decimal_text, drawn_text, put_between, put_text};

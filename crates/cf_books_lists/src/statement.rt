@@ -426,6 +426,23 @@ fn put_activities_head(out: &mut Rows) -> Result<(), AllocError>
     out.put_names(names.as_slice())
 }
 
+/// Rows of a statement of a fiscal year as records below the names of the columns.
+pub fn text_of_rows(
+    layout: Layout,
+    chart: &Chart,
+    year: u16,
+    kind: ReportKind,
+    rows: &[Row],
+) -> Result<Vec<u8>, AllocError>
+    ensures { IfOk result (λ v. v.items ≡ spec.text_of layout.csv year kind chart.now rows.now) }
+{
+    let lines = row_lines(layout.alloc, chart, year, kind)?;
+    let mut out = Rows::new(layout);
+    put_head(&mut out, kind)?;
+    put_rows(layout.alloc, &mut out, chart, kind, lines.as_slice(), rows)?;
+    out.into_text()
+}
+
 /// A statement of a book as records below the names of the columns.
 fn records_text<D: Disk + Drop>(
     layout: Layout,
@@ -437,18 +454,7 @@ fn records_text<D: Disk + Drop>(
     ensures { IfOk result (λ v. v.items ≡ spec.statement_text layout.csv year kind book.now.plan book.now.entries) }
 {
     let rows = rows_of(layout.alloc, book, year, kind)?;
-    let lines = row_lines(layout.alloc, book.chart(), year, kind)?;
-    let mut out = Rows::new(layout);
-    put_head(&mut out, kind)?;
-    put_rows(
-        layout.alloc,
-        &mut out,
-        book.chart(),
-        kind,
-        lines.as_slice(),
-        rows.as_slice(),
-    )?;
-    out.into_text()
+    text_of_rows(layout, book.chart(), year, kind, rows.as_slice())
 }
 
 /// A statement of a fiscal year from 1971 to 2199: its rows, which are those that `report` prints, as records. Each has the
