@@ -24,15 +24,26 @@ use Rattle.cf_books.specs.declared.status.Status.TheVariants.{BadWords}
 abbrev parts_with : List ℕ × List Entry → Option ℕ → Parts
 parts_with x damage = record { chart = x.0; entries = x.1; damage = damage }
 
+abbrev framed : Parts → List ℕ × List Entry
+framed p = (p.chart, p.entries)
+
+damaged_part : (at : ℕ) (r : Result (List ℕ × List Entry) OpenRefused) (p : Parts) → parts_or (Some at) (Damaged at) r ≡ Ok p → p.damage ≡ None → ⊥
+damaged_part at (Ok x) p is none =
+    let same : parts_with x (Some at) ≡ p = cc is in
+    let some : Some at ≡ None = ap (λ (q : Parts). q.damage) same ∙ none in
+    absurd (cc some)
+damaged_part at (Err e) p is none = absurd (cc is)
+
 -- where nothing is damaged, what is whole is what the frames are
-undamaged : (bytes : List ℕ) (r : Result (List ℕ × List Entry) OpenRefused) (p : Parts) → or_before bytes r ≡ Ok p → p.damage ≡ None → r ≡ Ok (p.chart, p.entries)
-undamaged bytes (Ok x) p is none = let same : parts_with x None ≡ p = cc is in ap (λ (q : Parts). Ok (q.chart, q.entries)) same
-undamaged bytes (Err (Damaged at)) p is none = damaged (frames (before at bytes)) is
-  where
-    damaged : (r : Result (List ℕ × List Entry) OpenRefused) → parts_or (Some at) (Damaged at) r ≡ Ok p → Err (Damaged at) ≡ Ok (p.chart, p.entries)
-    damaged (Ok x) is = let same : parts_with x (Some at) ≡ p = cc is in let some : Some at ≡ None = ap (λ (q : Parts). q.damage) same ∙ none in absurd (cc some)
-    damaged (Err e) is = absurd (cc is)
-undamaged bytes (Err e) p is none = absurd (cc is)
+undamaged : (bytes : List ℕ) (r : Result (List ℕ × List Entry) OpenRefused) (p : Parts) → or_before bytes r ≡ Ok p → p.damage ≡ None → r ≡ Ok (framed p)
+undamaged bytes (Ok x) p is none =
+    let same : parts_with x None ≡ p = cc is in
+    let whole : List ℕ × List Entry → Result (List ℕ × List Entry) OpenRefused = λ y. Ok y in
+    ap whole (ap framed same)
+undamaged bytes (Err (Damaged at)) p is none = absurd (damaged_part at (frames (before at bytes)) p is none)
+undamaged bytes (Err (NotFounded len byte)) p is none = absurd (cc is)
+undamaged bytes (Err Disk) p is none = absurd (cc is)
+undamaged bytes (Err NoMemory) p is none = absurd (cc is)
 
 -- ---- bytes with the same frames, all of them whole
 
@@ -103,7 +114,7 @@ module _ (a b : List ℕ) (x : List ℕ × List Entry) (first : frames a ≡ Ok 
 pub front_today : (n : ℕ) (key : Option (List ℕ)) (command : Command) (bytes made : List ℕ) → HasAll n bytes made → IsToday n key command bytes (said key command made)
 front_today n key command bytes made has p whole none count is =
     let second = undamaged bytes (frames bytes) p whole none in
-    same_said made bytes (p.chart, p.entries) (has p whole none count ∙ second) second key command is
+    same_said made bytes (framed p) (has p whole none count ∙ second) second key command is
 
 -- a journal that is whole has a front with all of its entries
 pub has_front : (n : ℕ) (bytes : List ℕ) (why : FrontRefused) → front_in n bytes ≡ Err why → (p : Parts) → whole_of bytes ≡ Ok p → length p.entries ≡ n → ⊥
