@@ -1,6 +1,5 @@
 -- Each entry of a legal history is in form.
-use Rattle.std.proofs.Common.{ℕ, List, [], ◌∷◌, ◌++◌}
-use Rattle.std.specs.List.{All}
+use Rattle.std.proofs.Common.{List, [], ◌∷◌, ◌++◌}
 use Rattle.std.proofs.lemmas.List.Elements.{All-cons, All-nil}
 use Rattle.cf_calls.specs.Form.{IsChangeInForm}
 use Rattle.cf_calls.specs.declared.entry.Entry.{Entry}

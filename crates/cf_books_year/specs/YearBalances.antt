@@ -52,7 +52,7 @@ opening_name GovBasis = codes "Opening net position"
 
 abbrev pub opening_row : Plan → Basis → ℕ → ℤ → List (List ℕ)
 opening_row plan basis fund amount =
-    basis_word basis ∷ decimal fund ∷ fund_name (fund_at plan fund) ∷ codes "300000" ∷ opening_name basis ∷ money_of amount ∷ []
+    basis_word basis ∷ decimal fund ∷ fund_name (fund_at plan fund) ∷ decimal 300000 ∷ opening_name basis ∷ money_of amount ∷ []
 
 -- an amount of zero is left out
 abbrev pub opening_text : Bool → Plan → Basis → ℕ → ℤ → List ℕ

@@ -132,14 +132,17 @@ fn put_opening(
 ) -> Result<(), AllocError>
     ensures { OnOk result (out.new ≡ added out.old (record_text out.old.csv (spec.opening_row chart.now basis fund amount))) }
 {
+    let word = Vec::from_slice(alloc, basis_word(basis).as_bytes())?;
     let id = decimal_text(alloc, fund as u64)?;
+    let code = decimal_text(alloc, 300_000)?;
+    let name = Vec::from_slice(alloc, opening_name(basis).as_bytes())?;
     let text = money_text(alloc, amount)?;
-    let fields: [&[u8]; 6] = [
-        basis_word(basis).as_bytes(),
+    let fields = [
+        word.as_slice(),
         id.as_slice(),
         fund_name(chart.fund(fund)).as_bytes(),
-        b"300000",
-        opening_name(basis).as_bytes(),
+        code.as_slice(),
+        name.as_slice(),
         text.as_str().as_bytes(),
     ];
     out.put(fields.as_slice())

@@ -50,12 +50,13 @@ fn put_paid(alloc: Global, out: &mut Rows, entries: &[Entry], paid: &Paid) -> Re
     ensures { OnOk result (out.new ≡ added out.old (record_text out.old.csv (spec.paid_row entries.now paid.now))) }
 {
     let vendor = decimal_text(alloc, paid.vendor as u64)?;
+    let word = Vec::from_slice(alloc, kind_word(paid.kind).as_bytes())?;
     let number = decimal_text(alloc, paid.number as u64)?;
     let day = day_at(alloc, entries, paid.by)?;
     let amount = money_text(alloc, paid.amount)?;
     let fields = [
         vendor.as_slice(),
-        kind_word(paid.kind).as_bytes(),
+        word.as_slice(),
         number.as_slice(),
         key_at(entries, paid.at).as_bytes(),
         day.as_slice(),

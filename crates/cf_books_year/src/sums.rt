@@ -1,6 +1,6 @@
 //! The balances of a fiscal year alone, and what it begins with.
 
-ghost use Rattle.std.specs.Prelude.{◌≡◌, ◌≤◌, ◌<◌, ◌*◌, ◌^◌, length, unsigned_abs};
+ghost use Rattle.std.specs.Prelude.{◌≡◌, ◌≤◌, ◌<◌, ◌+◌, ◌*◌, ◌^◌, ◌+ℤ◌, length, unsigned_abs};
 ghost use Rattle.cf_model.specs.Postings.{balance_of};
 ghost use Rattle.cf_books_year.specs.YearBalances as spec;
 
@@ -48,17 +48,32 @@ fn kept_balance(rest: &Rest, basis: Basis, year: u16, fund: u16, account: u32) -
     }
 }
 
+/// A sum of balances, in cents.
+#[derive(Clone, Copy)]
+struct Sum {
+    cents: i128,
+}
+
+/// Adds the balance of an account through a fiscal year, where it goes on.
+fn add_kept(sum: &mut Sum, rest: &Rest, basis: Basis, year: u16, fund: u16, account: u32)
+    requires { unsigned_abs sum.old.cents ≤ 2 ^ 104 * 1024 }
+    ensures value { sum.new.cents ≡ sum.old.cents +ℤ spec.kept_balance basis rest.now.plan year fund rest.now.entries account }
+    ensures small { unsigned_abs sum.new.cents ≤ unsigned_abs sum.old.cents + 2 ^ 104 }
+{
+    sum.cents += kept_balance(rest, basis, year, fund, account);
+}
+
 /// What the accounts that go on come to through a fiscal year.
 fn kept(rest: &Rest, basis: Basis, year: u16, fund: u16, accounts: &[u32]) -> i128
     requires { length accounts.now ≤ 1024 }
     ensures value { result ≡ spec.kept basis rest.now.plan year fund rest.now.entries accounts.now }
     ensures small { unsigned_abs result ≤ 2 ^ 104 * 1024 }
 {
-    let mut sum = 0;
+    let mut sum = Sum { cents: 0 };
     for account in accounts {
-        sum += kept_balance(rest, basis, year, fund, *account);
+        add_kept(&mut sum, rest, basis, year, fund, *account);
     }
-    sum
+    sum.cents
 }
 
 /// What a fiscal year begins with, a credit below zero: the fund balance of a fund, or the net position.

@@ -1,5 +1,9 @@
-use Rattle.std.proofs.Common.{◌≡◌, ◌∙◌, ◌++◌, ap, Bool, ℕ, List}
+use Rattle.std.proofs.Common.{rules, ◌≡◌, ◌∙◌, ◌++◌, ap, Bool, ℕ, ℤ, List}
+use Rattle.std.proofs.lemmas.Int.{to_z-of_z}
 use Rattle.std.proofs.lemmas.Result.{on_ok_weaker}
+use mir.Val.{SFits, of_z, to_z}
+use mir.Syntax.{w128}
+use Rattle.cf_chart.specs.Plan.{Plan}
 use Rattle.cf_books_lists.specs.Rows.{added}
 use Rattle.cf_books_lists.proofs.Adding.{added_two}
 use Rattle.cf_books_year.specs.YearBalances.{changed_text, kept_text, opening, opening_text}
@@ -17,7 +21,12 @@ returns c =
     let first = c.put_kept.new.out in
     let second = c.put_opening_unless_zero.new.out in
     let third = c.put_changed.new.out in
-    let opened : second ≡ added first (opens first.csv) = c.in_ok-put_opening_unless_zero.ensures in
+    let fits : SFits w128 c.opening-amount.result = search rules in
+    let is : to_z w128 (of_z w128 c.opening-amount.result) ≡ amount = to_z-of_z w128 c.opening-amount.result fits ∙ c.opening-amount.ensures in
+    let opened : second ≡ added first (opens first.csv) =
+    c.in_ok-put_opening_unless_zero.ensures
+    ∙ ap (λ (n : ℤ). added first (opening_text first.csv c.chart.result.now c.args.basis c.args.fund n)) is
+    ∙ ap (λ (p : Plan). added first (opening_text first.csv p c.args.basis c.args.fund amount)) c.chart.ensures.value in
     on_ok_weaker c.put_changed.result
     (λ put.
     added_two kept (λ csv. opens csv ++ changed csv) c.args.out.now first third c.in_ok-put_kept.ensures
