@@ -32,7 +32,7 @@ use Rattle.cf_journal.specs.declared.refused.OpenRefused.TheVariants as open_ref
 use Rattle.cf_model.specs.State.{OfficeState}
 use Rattle.cf_words.specs.declared.words.ReportKind.{ReportKind}
 use Rattle.cf_books.specs.declared.status.Status.{Status}
-use Rattle.cf_books.specs.declared.status.Status.TheVariants.{Done, BadWords, ChartRefused, GrantsRefused, ReadFault, WriteFault, NotFounded, Damaged, NoMemory, Cut, NoSuchDay, DayRefused, EntriesRefused, Unknown}
+use Rattle.cf_books.specs.declared.status.Status.TheVariants.{Done, BadWords, ChartRefused, GrantsRefused, ReadFault, WriteFault, NotFounded, Damaged, NoMemory, Cut, NoSuchDay, EntriesRefused}
 use Rattle.cf_books.specs.Answers.{AreLeft, Ends, Gave, IsBeside, Said, answered, chart_lines_said, chart_said, document_said, documents_said, end_of, entry_at, grants_said, lines_in, lines_said, nothing, office_said, over_office, refusal_of, refused_entry, refused_in, refused_said, rows_said, said, said_at, said_by, said_first, said_with, statement_said, text_of, under_chart, vouchers_said, whole_said}
 
 -- bytes that are fewer than could have been taken were read to the end
@@ -165,7 +165,7 @@ fit key (asked.Claims grant csv) bytes = whole_fit (asked.Claims grant csv) (len
 fit key (asked.Posts filter None csv) bytes = office_fit (asked.Posts filter None csv) bytes (recovered bytes)
 fit key (asked.Posts filter (Some day) csv) bytes = tt
 fit key (asked.Balances year None false csv) bytes = office_fit (asked.Balances year None false csv) bytes (recovered bytes)
-fit key (asked.Balances year None true csv) bytes = tt
+fit key (asked.Balances year None true csv) bytes = office_fit (asked.Balances year None true csv) bytes (recovered bytes)
 fit key (asked.Balances year (Some day) alone csv) bytes = tt
 fit key (asked.Open csv) bytes = office_fit (asked.Open csv) bytes (recovered bytes)
 fit key (asked.Statement year kind None csv) bytes = statement_fit year kind csv bytes
@@ -173,7 +173,7 @@ fit key (asked.Statement year kind (Some day) csv) bytes = tt
 fit key (asked.Ledger filter csv) bytes = office_fit (asked.Ledger filter csv) bytes (recovered bytes)
 fit key (asked.Documents filter csv) bytes = documents_fit filter key csv bytes (recovered bytes)
 fit key (asked.Month month csv) bytes = tt
-fit key (asked.Paid year csv) bytes = tt
+fit key (asked.Paid year csv) bytes = office_fit (asked.Paid year csv) bytes (recovered bytes)
 
 first_fit : (n : ℕ) (key : Option (List ℕ)) (command : Command) (r : Result (List ℕ) FrontRefused) → IsFit (said_first n key command r)
 first_fit n key command (Ok bytes) = fit key command bytes
@@ -224,6 +224,4 @@ gave_ends a left beside held held' (Damaged at entry) g = g
 gave_ends a left beside held held' NoMemory g = subst (Appends held held') (subst (Fits (answered g.inputs).out) g.is (fit_with a g.inputs.bytes g.inputs.journal)) g.put
 gave_ends a left beside held held' (Cut at lost) g = g
 gave_ends a left beside held held' NoSuchDay g = g
-gave_ends a left beside held held' (DayRefused first) g = g
 gave_ends a left beside held held' (EntriesRefused n entries) g = g
-gave_ends a left beside held held' (Unknown table number) g = g

@@ -97,7 +97,7 @@ module _ (a b : List ℕ) (x : List ℕ × List Entry) (first : frames a ≡ Ok 
   same_said key (asked.Posts filter None csv) is = same_book _ _ (λ s. refl)
   same_said key (asked.Posts filter (Some day) csv) is = refl
   same_said key (asked.Balances year None false csv) is = same_book _ _ (λ s. refl)
-  same_said key (asked.Balances year None true csv) is = refl
+  same_said key (asked.Balances year None true csv) is = same_book _ _ (λ s. refl)
   same_said key (asked.Balances year (Some day) alone csv) is = refl
   same_said key (asked.Open csv) is = same_book _ _ (λ s. refl)
   same_said key (asked.Statement year kind None csv) is =
@@ -106,7 +106,7 @@ module _ (a b : List ℕ) (x : List ℕ × List Entry) (first : frames a ≡ Ok 
   same_said key (asked.Ledger filter csv) is = same_book _ _ (λ s. refl)
   same_said key (asked.Documents filter csv) is = same_book _ _ (λ s. refl)
   same_said key (asked.Month month csv) is = refl
-  same_said key (asked.Paid year csv) is = refl
+  same_said key (asked.Paid year csv) is = same_book _ _ (λ s. refl)
 
 -- ---- the front of all entries
 

@@ -44,6 +44,8 @@ use Rattle.cf_books_lists.specs.Balances.{balances_of}
 use Rattle.cf_books_lists.specs.Open.{open_text}
 use Rattle.cf_books_lists.specs.Posts.{posts_of}
 use Rattle.cf_books_lists.specs.Statement.{statement_text}
+use Rattle.cf_books_year.specs.YearBalances.{year_text}
+use Rattle.cf_books_year.specs.Paid.{paid_text}
 use Rattle.cf_books.specs.FaultRows.{fault_id}
 use Rattle.cf_books.specs.Lines.{lines_text}
 use Rattle.cf_books.specs.Listing.{list_text}
@@ -143,6 +145,8 @@ refused_said bytes NoMemory = nothing status.NoMemory
 abbrev pub office_text : Command → List ℕ → OfficeState → List ℕ
 office_text (Posts filter None csv) bytes s = posts_of csv filter s.plan s.entries
 office_text (Balances year None false csv) bytes s = balances_of csv year s.plan s.entries
+office_text (Balances year None true csv) bytes s = year_text csv year s.plan s.entries
+office_text (Paid year csv) bytes s = paid_text csv year s.entries
 office_text (Open csv) bytes s = open_text csv s.plan s.entries
 office_text (Ledger filter csv) bytes s = ledger_of csv filter s.entries (history_rows s.plan s.entries)
 office_text (Statement year kind None csv) bytes s = statement_text csv year kind s.plan s.entries
@@ -207,7 +211,7 @@ posts_said filter (Some day) csv bytes = nothing status.BadWords
 
 abbrev pub balances_said : ℕ → Option Day → Bool → Bool → List ℕ → Said
 balances_said year None false csv bytes = office_said (Balances year None false csv) bytes (recovered bytes)
-balances_said year None true csv bytes = nothing status.BadWords
+balances_said year None true csv bytes = office_said (Balances year None true csv) bytes (recovered bytes)
 balances_said year (Some day) alone csv bytes = nothing status.BadWords
 
 abbrev pub statement_through_said : ℕ → ReportKind → Option Day → Bool → List ℕ → Said
@@ -225,7 +229,7 @@ said key (Statement year kind through csv) bytes = statement_through_said year k
 said key (Ledger filter csv) bytes = office_said (Ledger filter csv) bytes (recovered bytes)
 said key (Documents filter csv) bytes = documents_said filter key csv bytes (recovered bytes)
 said key (Month month csv) bytes = nothing status.BadWords
-said key (Paid year csv) bytes = nothing status.BadWords
+said key (Paid year csv) bytes = office_said (Paid year csv) bytes (recovered bytes)
 said key command bytes = whole_said command (length bytes) (whole_of bytes)
 
 -- ---- the first entries of a history

@@ -1,6 +1,5 @@
 -- The exit code of the program, and what it says on standard error.
 use Rattle.std.specs.Prelude.{ℕ, zero, suc, ◌+◌, List, [], ◌∷◌, ◌++◌, slice_index_or, codes, decimal, Option, Some, None}
-use Rattle.cf_base.specs.Calendar.{day_text}
 use Rattle.cf_chart.specs.Faults.{table_word, word_of}
 use Rattle.cf_chart.specs.declared.fault.ChartFault.{ChartFault}
 use Rattle.cf_chart.specs.declared.fault.ChartFault.TheVariants as fault
@@ -10,7 +9,7 @@ use Rattle.cf_books_grants.specs.FaultIds.{id_text}
 use Rattle.cf_books_grants.specs.Faults.{fault_text as grant_fault_text}
 use Rattle.cf_books.specs.declared.status.RefusedEntry.{RefusedEntry}
 use Rattle.cf_books.specs.declared.status.Status.{Status}
-use Rattle.cf_books.specs.declared.status.Status.TheVariants.{Done, BadWords, ChartRefused, GrantsRefused, ReadFault, WriteFault, NotFounded, Damaged, NoMemory, Cut, NoSuchDay, DayRefused, EntriesRefused, Unknown}
+use Rattle.cf_books.specs.declared.status.Status.TheVariants.{Done, BadWords, ChartRefused, GrantsRefused, ReadFault, WriteFault, NotFounded, Damaged, NoMemory, Cut, NoSuchDay, EntriesRefused}
 
 -- ---- a chart's fault, in the words of `docs/CHART.md`
 
@@ -61,9 +60,7 @@ code_of NoMemory = 12
 code_of (Cut offset lost) = 13
 code_of (GrantsRefused f id) = 19
 code_of NoSuchDay = 20
-code_of (DayRefused first) = 21
 code_of (EntriesRefused asked entries) = 22
-code_of (Unknown t number) = 23
 
 abbrev pub status_text : Status → List ℕ
 status_text Done = []
@@ -77,9 +74,7 @@ status_text (Damaged offset entry) = at_text offset ++ damage_text entry
 status_text NoMemory = codes "no memory"
 status_text (Cut offset lost) = at_text offset ++ (codes "what stands before is given, and " ++ (decimal lost ++ codes " bytes are lost"))
 status_text NoSuchDay = codes "no such day"
-status_text (DayRefused first) = codes "day refused: the first fiscal year begins " ++ day_text first
 status_text (EntriesRefused asked entries) = asked_text asked ++ decimal entries
-status_text (Unknown t number) = codes "unknown " ++ (table_word t ++ 32 ∷ decimal number)
 
 abbrev pub line_of : List ℕ → List ℕ
 line_of text = codes "books: " ++ (text ++ 10 ∷ [])

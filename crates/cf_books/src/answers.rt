@@ -19,7 +19,7 @@ use crate::grants::{claims_answer, grants_answer};
 use crate::ledger::ledger_answer;
 use crate::lines::lines_text;
 use crate::listing::list_text;
-use crate::lists::{balances_answer, open_answer, posts_answer, statement_answer};
+use crate::lists::{balances_answer, open_answer, paid_answer, posts_answer, statement_answer};
 use crate::office::office_answer;
 use crate::status::Status;
 use crate::summary::put_chart;
@@ -216,7 +216,8 @@ fn command_answer(
         Command::Documents { filter, csv } => {
             documents_answer(Layout { alloc, csv }, filter, key, bytes)
         }
-        Command::Month { .. } | Command::Paid { .. } => Ok(nothing(alloc, Status::BadWords)),
+        Command::Paid { year, csv } => paid_answer(Layout { alloc, csv }, year, bytes),
+        Command::Month { .. } => Ok(nothing(alloc, Status::BadWords)),
         Command::CheckGrants
         | Command::Claims { .. }
         | Command::List { .. }

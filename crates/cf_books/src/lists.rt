@@ -1,13 +1,13 @@
 //! The lists of a journal whose entries the office takes again: posts, balances, what is open, and statements.
 
-ghost use Rattle.std.specs.Prelude.{◌≡◌, false, IfOk, None};
+ghost use Rattle.std.specs.Prelude.{◌≡◌, false, true, IfOk, None};
 ghost use Rattle.cf_book.specs.Recovery.{recovered};
 ghost use Rattle.cf_book.specs.Watching.{all_posted};
 ghost use Rattle.cf_calls.specs.Form.{IsYear};
 ghost use Rattle.cf_books.specs.Answers as spec;
 ghost use Rattle.cf_books.specs.Answers.{Answers, OpensWith};
 ghost use Rattle.cf_books_lists.specs.Posts.{placed_in};
-ghost use Rattle.cf_books_words.specs.declared.words.Command.TheVariants.{Balances, Open, Posts, Statement};
+ghost use Rattle.cf_books_words.specs.declared.words.Command.TheVariants.{Balances, Open, Paid, Posts, Statement};
 
 use crate::answers::{Answer, nothing};
 use crate::office::{open_book, refused_answer};
@@ -18,6 +18,7 @@ use cf_books_lists::{
     Layout, PlacedPost, balances_text, open_text, open_with_posts, posts_text, statement_text,
 };
 use cf_books_words::PostFilter;
+use cf_books_year::{paid_text, year_balances_text};
 use cf_disk::MemDisk;
 use cf_words::ReportKind;
 use std::alloc::{AllocError, Global};
@@ -89,6 +90,20 @@ fn all_balances(layout: Layout, year: u16, bytes: &[u8]) -> Result<Answer, Alloc
     }
 }
 
+/// The trial balance of a fiscal year alone, or why the journal has none.
+fn year_balances(layout: Layout, year: u16, bytes: &[u8]) -> Result<Answer, AllocError>
+    ensures { Answers result (spec.office_said (Balances year None true layout.csv) bytes.now (recovered bytes.now)) }
+{
+    let copy = Vec::from_slice(layout.alloc, bytes)?;
+    match open_book(layout.alloc, copy) {
+        Ok(book) => {
+            let (_, archive) = book.into_parts();
+            Ok(done(year_balances_text(layout, archive.rest(), year)?))
+        }
+        Err(why) => refused_answer(layout.alloc, bytes, why),
+    }
+}
+
 /// The balances of a fiscal year, through it or alone, or why the journal has none.
 pub fn balances_answer(
     layout: Layout,
@@ -101,7 +116,22 @@ pub fn balances_answer(
 {
     match (through, alone) {
         (None, false) => all_balances(layout, year, bytes),
-        (None, true) | (Some(_), _) => Ok(nothing(layout.alloc, Status::BadWords)),
+        (None, true) => year_balances(layout, year, bytes),
+        (Some(_), _) => Ok(nothing(layout.alloc, Status::BadWords)),
+    }
+}
+
+/// What each vendor was paid in a calendar year, or why the journal has none.
+pub fn paid_answer(layout: Layout, year: u16, bytes: &[u8]) -> Result<Answer, AllocError>
+    ensures { Answers result (spec.office_said (Paid year layout.csv) bytes.now (recovered bytes.now)) }
+{
+    let copy = Vec::from_slice(layout.alloc, bytes)?;
+    match open_book(layout.alloc, copy) {
+        Ok(book) => {
+            let (_, archive) = book.into_parts();
+            Ok(done(paid_text(layout, archive.rest(), year)?))
+        }
+        Err(why) => refused_answer(layout.alloc, bytes, why),
     }
 }
 

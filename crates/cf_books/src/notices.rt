@@ -5,7 +5,6 @@ ghost use Rattle.cf_chart.specs.Faults.{word_of};
 ghost use Rattle.cf_books.specs.Notices as spec;
 
 use crate::status::{RefusedEntry, Status};
-use cf_base::{Day, day_text};
 use cf_books_grants::put_id;
 use cf_books_lists::{put_between, put_text};
 use cf_calls::refusal_name;
@@ -101,24 +100,6 @@ fn put_entries(out: &mut Vec<u8>, asked: u64, entries: u64) -> Result<(), AllocE
     put_number(out, entries)
 }
 
-/// Appends that a day lies before the first fiscal year, which begins with this one.
-fn put_first_day(out: &mut Vec<u8>, first: Day) -> Result<(), AllocError>
-    ensures { OnOk result (out.new.items ≡ out.old.items ++ spec.status_text (Status.DayRefused first)) }
-{
-    put_text(out, "day refused: the first fiscal year begins ")?;
-    out.extend_from_slice(&day_text(first))
-}
-
-/// Appends what a chart hasn't.
-fn put_unknown(out: &mut Vec<u8>, table: TableName, number: u16) -> Result<(), AllocError>
-    ensures { OnOk result (out.new.items ≡ out.old.items ++ spec.status_text (Status.Unknown table number)) }
-{
-    put_text(out, "unknown ")?;
-    out.extend_from_slice(table.word().as_bytes())?;
-    out.push(b' ')?;
-    put_number(out, u64::from(number))
-}
-
 /// Appends what is said of how a run ended.
 fn put_status(out: &mut Vec<u8>, status: Status) -> Result<(), AllocError>
     ensures { OnOk result (out.new.items ≡ out.old.items ++ spec.status_text status) }
@@ -151,9 +132,7 @@ fn put_status(out: &mut Vec<u8>, status: Status) -> Result<(), AllocError>
             )
         }
         Status::NoSuchDay => out.extend_from_slice(b"no such day"),
-        Status::DayRefused { first } => put_first_day(out, first),
         Status::EntriesRefused { asked, entries } => put_entries(out, asked, entries),
-        Status::Unknown { table, number } => put_unknown(out, table, number),
     }
 }
 

@@ -3,8 +3,7 @@
 ghost use Rattle.std.specs.Prelude.{◌≡◌};
 ghost use Rattle.cf_books.specs.Notices.{code_of};
 
-use cf_base::Day;
-use cf_chart::{ChartFault, TableName};
+use cf_chart::ChartFault;
 use cf_grants::GrantFault;
 
 /// An entry that the office refuses.
@@ -58,19 +57,10 @@ pub enum Status {
     },
     /// A day or a month of the words is none from 1971 to 2199.
     NoSuchDay,
-    /// A day or a month of the words lies before the chart's first fiscal year, which begins on this day.
-    DayRefused {
-        first: Day,
-    },
     /// So many of the first entries were asked for, and the journal has fewer.
     EntriesRefused {
         asked: u64,
         entries: u64,
-    },
-    /// The chart has no row of this number in the table.
-    Unknown {
-        table: TableName,
-        number: u16,
     },
 }
 
@@ -91,9 +81,7 @@ impl Status {
             Status::Cut { .. } => 13,
             Status::GrantsRefused { .. } => 19,
             Status::NoSuchDay => 20,
-            Status::DayRefused { .. } => 21,
             Status::EntriesRefused { .. } => 22,
-            Status::Unknown { .. } => 23,
         }
     }
 }
