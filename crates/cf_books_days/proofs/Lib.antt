@@ -1,0 +1,9 @@
+pub mod Pushed
+pub mod Whole
+pub mod Bounds
+pub mod Adopted
+pub mod Gathering
+pub mod LineSums
+pub mod Same
+pub mod SameText
+pub mod Keeping
