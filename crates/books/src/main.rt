@@ -13,15 +13,18 @@ books check-grants [FILE]   says what a document of grants has, or its first fau
 books check [FILE]          says what a journal has, or where it is damaged (FILE: fund.journal)
 books list [FILE]           prints a row an entry: place, day, desk, key, call, amount, numbers drawn
 books calls [FILE]          prints the entries as calls, which make the journal again
-books posts [FILE]          prints the posts of the entries (--year Y, --fund F, --account A)
+books posts [FILE]          prints the posts of the entries (--year Y, --fund F, --account A, --through DAY)
 books balances YEAR [FILE]  prints the balance of each account through a fiscal year, on both bases
+                            (--through DAY; or --alone: of the year alone, with what it began with)
 books open [FILE]           prints what is open, and what is closed
 books statement YEAR KIND [FILE]
-                            prints a statement with the names of funds and lines (KIND: as for cityfund report)
+                            prints a statement with the names of funds and lines (KIND: as for cityfund report;
+                            --through DAY: balance, operating, budget, position, activities)
 books ledger [FILE]         prints what each entry moved of control lines and sources (--fund F, --dept D,
                             --object O, --line L, --source S, --vendor V, --year Y, --from DAY, --through DAY)
 books documents [FILE]      prints each document that ever was, and what became of it (--kind KIND, --party P,
                             --key TEXT, --amount CENTS)
+books paid YEAR [FILE]      prints what each vendor was paid in a calendar year
 books chart [FILE]          prints the chart that a journal keeps
 books lines [FILE]          prints its control lines, or those of a chart, with numbers and names
 books claims GRANT [FILE]   prints a row a voucher of a grant: what is eligible, the share, whether it is claimed
@@ -30,8 +33,9 @@ books --help                prints this
 books --version             prints the version
 
 --entries N says all of a journal's first N entries: check, list, calls, lines, posts, balances, open, statement,
-ledger and documents have it.
-list, posts, balances, open, statement, ledger, documents and claims print records below a row of names with --csv.
+ledger, documents and paid have it.
+list, posts, balances, open, statement, ledger, documents, paid and claims print records below a row of names with
+--csv.
 Each command only reads. docs/BOOKS.md says how a run ends, and what to do then.
 ";
 

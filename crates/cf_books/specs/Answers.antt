@@ -25,6 +25,8 @@ use Rattle.cf_journal.specs.declared.refused.OpenRefused.{OpenRefused}
 use Rattle.cf_journal.specs.declared.refused.OpenRefused.TheVariants as open_refused
 use Rattle.cf_model.specs.State.{OfficeState}
 use Rattle.cf_words.specs.declared.words.ReportKind.{ReportKind}
+use Rattle.cf_words.specs.declared.words.ReportKind.TheVariants.{Look}
+use Rattle.cf_base.specs.declared.statement.Kind.TheVariants as kind
 use Rattle.cf_books_words.specs.Words.{Asked}
 use Rattle.cf_books_words.specs.declared.words.Command.{Command}
 use Rattle.cf_books_words.specs.declared.words.DocumentFilter.{DocumentFilter}
@@ -37,6 +39,11 @@ use Rattle.cf_books.specs.declared.answers.Answer.{Answer}
 use Rattle.cf_books.specs.declared.status.Status.{Status}
 use Rattle.cf_books.specs.declared.status.Status.TheVariants as status
 use Rattle.cf_books.specs.Calls.{call_line, calls_text}
+use Rattle.cf_books_days.specs.Balances.{balances_through}
+use Rattle.cf_books_days.specs.Posts.{posts_text_through}
+use Rattle.cf_books_days.specs.Statement.{through_text}
+use Rattle.cf_books_days.specs.declared.statement.DatedKind.{DatedKind}
+use Rattle.cf_books_days.specs.declared.statement.DatedKind.TheVariants as dated
 use Rattle.cf_books_documents.specs.Text.{text as documents_of}
 use Rattle.cf_books_ledger.specs.Ledger.{text_of as ledger_of}
 use Rattle.cf_ledger_rows.specs.History.{history_rows}
@@ -144,7 +151,9 @@ refused_said bytes NoMemory = nothing status.NoMemory
 -- the posts, the balances, what is open and the statements are those of the history that the bytes recover to
 abbrev pub office_text : Command → List ℕ → OfficeState → List ℕ
 office_text (Posts filter None csv) bytes s = posts_of csv filter s.plan s.entries
+office_text (Posts filter (Some day) csv) bytes s = posts_text_through csv filter day s.plan s.entries
 office_text (Balances year None false csv) bytes s = balances_of csv year s.plan s.entries
+office_text (Balances year (Some day) false csv) bytes s = balances_through csv day year s.plan s.entries
 office_text (Balances year None true csv) bytes s = year_text csv year s.plan s.entries
 office_text (Paid year csv) bytes s = paid_text csv year s.entries
 office_text (Open csv) bytes s = open_text csv s.plan s.entries
@@ -174,6 +183,24 @@ documents_said filter key csv bytes x = over_office (documents_told filter key c
 abbrev pub statement_said : ℕ → ReportKind → Bool → List ℕ → Said
 statement_said year kind csv bytes =
     if nat_le 1971 year && nat_le year last_year then office_said (Statement year kind None csv) bytes (recovered bytes)
+    else nothing status.BadWords
+
+-- the statements that are made of sums alone can be made of the entries through a day
+abbrev pub dated_kind : ReportKind → Option DatedKind
+dated_kind (Look kind.Balance) = Some dated.Balance
+dated_kind (Look kind.Operating) = Some dated.Operating
+dated_kind (Look kind.Budget) = Some dated.Budget
+dated_kind (Look kind.Position) = Some dated.Position
+dated_kind (Look kind.Activities) = Some dated.Activities
+dated_kind _ = None
+
+abbrev pub dated_told : Bool → Day → ℕ → DatedKind → OfficeState → Said
+dated_told csv day year k s = record { out = through_text csv day year k s.plan s.entries; status = status.Done }
+
+abbrev pub dated_said : ℕ → Option DatedKind → Day → Bool → List ℕ → Said
+dated_said year None day csv bytes = nothing status.BadWords
+dated_said year (Some k) day csv bytes =
+    if nat_le 1971 year && nat_le year last_year then over_office (dated_told csv day year k) bytes (recovered bytes)
     else nothing status.BadWords
 
 -- ---- a document of grants, under the chart or over the history of a journal
@@ -207,16 +234,17 @@ vouchers_said id csv bytes s = rows_said csv bytes (vouchers_of_grant s.plan s.e
 
 abbrev pub posts_said : PostFilter → Option Day → Bool → List ℕ → Said
 posts_said filter None csv bytes = office_said (Posts filter None csv) bytes (recovered bytes)
-posts_said filter (Some day) csv bytes = nothing status.BadWords
+posts_said filter (Some day) csv bytes = office_said (Posts filter (Some day) csv) bytes (recovered bytes)
 
 abbrev pub balances_said : ℕ → Option Day → Bool → Bool → List ℕ → Said
 balances_said year None false csv bytes = office_said (Balances year None false csv) bytes (recovered bytes)
 balances_said year None true csv bytes = office_said (Balances year None true csv) bytes (recovered bytes)
-balances_said year (Some day) alone csv bytes = nothing status.BadWords
+balances_said year (Some day) false csv bytes = office_said (Balances year (Some day) false csv) bytes (recovered bytes)
+balances_said year (Some day) true csv bytes = nothing status.BadWords
 
 abbrev pub statement_through_said : ℕ → ReportKind → Option Day → Bool → List ℕ → Said
 statement_through_said year kind None csv bytes = statement_said year kind csv bytes
-statement_through_said year kind (Some day) csv bytes = nothing status.BadWords
+statement_through_said year kind (Some day) csv bytes = dated_said year (dated_kind kind) day csv bytes
 
 abbrev pub said : Option (List ℕ) → Command → List ℕ → Said
 said key CheckChart bytes = chart_said bytes (chart_of bytes)

@@ -18,6 +18,7 @@ mod room;
 mod running;
 mod status;
 mod summary;
+mod through;
 
 pub use answers::{Answer, answer_of};
 pub use running::{run, tell};

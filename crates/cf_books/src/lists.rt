@@ -12,6 +12,7 @@ ghost use Rattle.cf_books_words.specs.declared.words.Command.TheVariants.{Balanc
 use crate::answers::{Answer, nothing};
 use crate::office::{open_book, refused_answer};
 use crate::status::Status;
+use crate::through::{balances_through, posts_through, statement_through};
 use cf_base::{Day, LAST_YEAR};
 use cf_book::{Book, BookRefused, NotOpened};
 use cf_books_lists::{
@@ -34,7 +35,7 @@ pub(crate) fn done(out: Vec<u8>) -> Answer
 }
 
 /// The book of a journal's bytes with the posts of its entries, or why they aren't those of an office.
-fn open_posts(
+pub(crate) fn open_posts(
     alloc: Global,
     bytes: Vec<u8>,
 ) -> Result<(Book<MemDisk>, Vec<PlacedPost>), BookRefused>
@@ -72,7 +73,7 @@ pub fn posts_answer(
 {
     match through {
         None => all_posts(layout, filter, bytes),
-        Some(_) => Ok(nothing(layout.alloc, Status::BadWords)),
+        Some(day) => posts_through(layout, filter, day, bytes),
     }
 }
 
@@ -117,7 +118,8 @@ pub fn balances_answer(
     match (through, alone) {
         (None, false) => all_balances(layout, year, bytes),
         (None, true) => year_balances(layout, year, bytes),
-        (Some(_), _) => Ok(nothing(layout.alloc, Status::BadWords)),
+        (Some(day), false) => balances_through(layout, year, day, bytes),
+        (Some(_), true) => Ok(nothing(layout.alloc, Status::BadWords)),
     }
 }
 
@@ -194,6 +196,6 @@ pub fn statement_answer(
 {
     match through {
         None => whole_statement(layout, year, kind, bytes),
-        Some(_) => Ok(nothing(layout.alloc, Status::BadWords)),
+        Some(day) => statement_through(layout, year, kind, day, bytes),
     }
 }
