@@ -6,6 +6,7 @@ ghost use Rattle.cf_book.specs.Watching.{all_posted};
 ghost use Rattle.cf_books.specs.Answers as spec;
 ghost use Rattle.cf_books.specs.Answers.{Answers, OpensWith};
 ghost use Rattle.cf_books_days.specs.Gathered.{IsOf};
+ghost use Rattle.cf_books_days.specs.Statement.{through_text};
 ghost use Rattle.cf_books_words.specs.declared.words.Command.TheVariants.{Balances, Posts};
 ghost use Rattle.cf_calls.specs.Form.{IsYear};
 
@@ -21,6 +22,7 @@ use cf_books_days::{
 use cf_books_lists::Layout;
 use cf_books_words::PostFilter;
 use cf_disk::MemDisk;
+use cf_office::Rest;
 use cf_words::ReportKind;
 use std::alloc::{AllocError, Global};
 
@@ -99,6 +101,23 @@ fn dated_kind(kind: ReportKind) -> Option<DatedKind>
     }
 }
 
+/// The text of a statement of a fiscal year, of the entries through a day.
+fn text_through(
+    layout: Layout,
+    rest: &Rest,
+    dated: &Dated,
+    day: Day,
+    year: u16,
+    kind: DatedKind,
+) -> Result<Vec<u8>, AllocError>
+    requires year { IsYear year }
+    requires dated { IsOf rest.now.plan (all_posted rest.now.plan rest.now.entries) dated.now }
+    ensures { IfOk result
+        (λ v. v.items ≡ through_text layout.csv day year kind rest.now.plan rest.now.entries) }
+{
+    statement_through_text(layout, rest, dated, day, year, kind)
+}
+
 /// A statement of a fiscal year from 1971 to 2199, of the entries through a day, or why the journal
 /// has none.
 fn statement_of_days(
@@ -116,7 +135,7 @@ fn statement_of_days(
     match open_days(layout.alloc, copy) {
         Ok((book, dated)) => {
             let (_, archive) = book.into_parts();
-            Ok(done(statement_through_text(layout, archive.rest(), &dated, day, year, kind)?))
+            Ok(done(text_through(layout, archive.rest(), &dated, day, year, kind)?))
         }
         Err(why) => refused_answer(layout.alloc, bytes, why),
     }

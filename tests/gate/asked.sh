@@ -1,0 +1,111 @@
+#!/bin/sh
+# Tries what `books` is asked: its lists of the first entries, through a day, of a calendar year, and by each filter, on the
+# journals of the examples, at ten places and ten days of each (lib/asked.py). The independent office makes each list of the talk's
+# calls alone, and writes the journals, too. Then that a row which is changed, lost or moved is seen; that a sheet takes no key for a
+# formula; and what is refused. BOOKS names another program than the one that rt built last.
+cd "$(dirname "$0")/../.." || exit 1
+top=$(pwd)
+. tests/lib/built.sh
+books=${BOOKS:-$(built books)}
+if [ ! -x "$books" ]; then
+    echo "there is no program books: run ./build" >&2
+    exit 1
+fi
+PYTHONDONTWRITEBYTECODE=1
+export PYTHONDONTWRITEBYTECODE
+[ -w /dev/shm ] && TMPDIR=/dev/shm && export TMPDIR
+scratch=$(mktemp -d) || exit 1
+trap 'rm -rf "$scratch"' EXIT
+. tests/lib/expect.sh
+tried=$books folder=$scratch
+
+# chart_of TALK: the chart of a talk of examples/.
+chart_of() {
+    case $1 in
+    examples/*/*) echo "$(dirname "$1")/chart.toml" ;;
+    *) echo examples/rivertown/chart.toml ;;
+    esac
+}
+
+# asked TALK [PLACES DAYS]: compares, and leaves the talk's journal in the scratch folder.
+asked() {
+    python3 tests/lib/asked.py "$books" "$scratch" "$(chart_of "$1")" "$@"
+}
+
+for talk in examples/*.jsonl examples/*/*.jsonl; do
+    [ -e "$(chart_of "$talk")" ] || continue
+    said=$(asked "$talk")
+    verdict "$said" $?
+done
+
+# ---- a row that is changed, lost or moved
+
+# changed SCRIPT WORDS..: where the list of these words goes through sed with this script, that is seen.
+changed() {
+    script=$1
+    shift
+    cat > "$scratch/changed" << PROGRAM
+#!/bin/sh
+case "\$*" in
+"$*") "$books" "\$@" | sed '$script' ;;
+*) exec "$books" "\$@" ;;
+esac
+PROGRAM
+    chmod +x "$scratch/changed"
+    (cd "$scratch" && "$books" "$@" > was && sed "$script" was > is && ! cmp -s was is)
+    verdict "$script changes $*" $?
+    said=$(books=$scratch/changed && asked "$talk" 4 4)
+    [ $? -eq 1 ] && [ "${said##*, }" = "1 differ" ]
+    verdict "$* with $script is seen: $said" $?
+}
+
+talk=examples/year-roll.jsonl
+asked "$talk" 1 1 > "$scratch/said"
+changed '5d' ledger --csv
+changed '4{h;d};5G' ledger --csv
+changed '3s/0\.00,/0.01,/' ledger --csv
+changed '3s/,[^,]*$/,/' documents --csv
+changed '6d' documents --csv
+changed '2s/lapsed/live/' documents --csv
+
+# ---- keys that a sheet would take for a formula
+
+cat > "$scratch/keys.jsonl" << 'CALLS'
+{"call":"adopt","desk":1,"key":"=1+2","on":"2025-07-01","fund":1,"year":2026,"lines":[{"line":0,"amount":100000}],"estimates":[]}
+{"call":"receive","desk":5,"key":"-x","on":"2025-07-02","source":2,"amount":50000}
+{"call":"voucher","desk":4,"key":"+1","on":"2025-07-02","vendor":0,"items":[{"fund":1,"dept":10,"object":510,"amount":100}]}
+{"call":"voucher","desk":4,"key":"-5.00","on":"2025-07-03","vendor":7,"items":[{"fund":1,"dept":10,"object":510,"amount":200}]}
+{"call":"voucher","desk":4,"key":"'=1","on":"2025-07-03","vendor":7,"items":[{"fund":1,"dept":10,"object":510,"amount":300}]}
+{"call":"pay","desk":5,"key":"@\"a\",b","on":"2025-07-04","vouchers":[1,3]}
+CALLS
+said=$(python3 tests/lib/asked.py "$books" "$scratch" examples/rivertown/chart.toml "$scratch/keys.jsonl")
+verdict "$said" $?
+[ "$(cd "$scratch" && "$books" paid 2025 --csv | sed -n '3p;4p')" = "0,voucher,1,'+1,2025-07-04,\"'@\"\"a\"\",b\",1.00
+7,total,,,,,3.00" ]
+verdict "keys with a quote before them" $?
+
+# ---- what is refused
+
+# refused STATUS TEXT WORDS..: the status, and what is said behind `books: `; TEXT may be its beginning.
+refused() {
+    wanted=$1 text=$2
+    shift 2
+    said=$(cd "$scratch" && "$books" "$@" 2>&1 > "$scratch/printed")
+    status=$?
+    [ "$status" -eq "$wanted" ] && [ "${said#"books: $text"}" != "$said" ] && [ ! -s "$scratch/printed" ]
+    verdict "$*: status $status: $said" $?
+}
+
+for words in "ledger --through" "ledger --from" "posts --through" "balances 2026 --through" "statement 2026 balance --through"; do
+    for day in 1970-12-31 2025-02-29 2025-7-01 2200-01-01 today; do
+        refused 20 "no such day" $words $day
+    done
+done
+for words in list calls check lines open documents "paid 2025" posts "balances 2026" "statement 2026 classes" ledger; do
+    refused 22 "entries refused: 7 asked, the journal has 6" $words --entries 7
+done
+for words in "open --through 2026-01-01" "documents --fund 1" "documents --kind cheque" "statement 2026 classes --through 2026-01-01" "ledger --kind bill" \
+    "paid 1970" "paid 2200" "list --through 2026-01-01" "chart --entries 1" "posts --alone"; do
+    refused 2 "bad words" $words
+done
+summary asked
