@@ -135,7 +135,8 @@ class DocumentFilter:
 
     def words(self):
         names = ("kind", "party", "key", "amount")
-        return [word for name in names if getattr(self, name) is not None for word in ("--" + name, str(getattr(self, name)))]
+        # So a text may begin with a minus.
+        return [f"--{name}={getattr(self, name)}" for name in names if getattr(self, name) is not None]
 
     def takes(self, row, run):
         return (
