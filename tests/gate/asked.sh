@@ -96,7 +96,7 @@ refused() {
     verdict "$*: status $status: $said" $?
 }
 
-for words in "ledger --through" "ledger --from" "posts --through" "balances 2026 --through" "statement 2026 balance --through"; do
+for words in "ledger --through" "ledger --from" "posts --through" "balances 2026 --through"; do
     for day in 1970-12-31 2025-02-29 2025-7-01 2200-01-01 today; do
         refused 20 "no such day" $words $day
     done
