@@ -141,7 +141,7 @@ rm -f "$scratch/fund.journal"
 for key in '=1+1' '+1' '-1+1' '@SUM(1)' '=1,2' '-' '-1.5' plain; do
     echo '{"call":"receive","desk":5,"key":"'"$key"'","on":"2025-07-05","source":1,"amount":100}'
 done > "$scratch/formulas.jsonl"
-(cd "$scratch" && "$program" found > /dev/null 2>&1 && "$program" desk < formulas.jsonl > replies && ! grep -v '"ok"' replies)
+(cd "$scratch" && "$program" found > /dev/null 2>&1 && "$program" desk < formulas.jsonl > formulas.replies && ! grep -v '"ok"' formulas.replies)
 verdict "keys that are formulas" $?
 python3 tests/lib/lists.py "$program" "$books" "$scratch" "$chart" "$scratch/formulas.jsonl"
 verdict "the lists of keys and a name that are formulas" $?
