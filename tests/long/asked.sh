@@ -1,6 +1,6 @@
 #!/bin/sh
-# What `books` says when it is asked, beside the independent office (lib/asked.py): of the year of a town (examples/town) each month of
-# its fiscal years, and the ledger of each line, source, vendor, fund and department; and all lists of random talks, 20 of 800 calls or
+# What `books` says when it is asked, beside the independent office (lib/asked.py): of the year of a town (examples/town) the
+# ledger of each line, source, vendor, fund and department; and all lists of random talks, 20 of 800 calls or
 # as many as the arguments say. BOOKS names another program than the one that rt built last.
 cd "$(dirname "$0")/../.." || exit 1
 top=$(pwd)
