@@ -5,27 +5,7 @@
 # formula; and what is refused. BOOKS names another program than the one that rt built last.
 cd "$(dirname "$0")/../.." || exit 1
 top=$(pwd)
-. tests/lib/built.sh
-books=${BOOKS:-$(built books)}
-if [ ! -x "$books" ]; then
-    echo "there is no program books: run ./build" >&2
-    exit 1
-fi
-PYTHONDONTWRITEBYTECODE=1
-export PYTHONDONTWRITEBYTECODE
-[ -w /dev/shm ] && TMPDIR=/dev/shm && export TMPDIR
-scratch=$(mktemp -d) || exit 1
-trap 'rm -rf "$scratch"' EXIT
-. tests/lib/expect.sh
-tried=$books folder=$scratch
-
-# chart_of TALK: the chart of a talk of examples/.
-chart_of() {
-    case $1 in
-    examples/*/*) echo "$(dirname "$1")/chart.toml" ;;
-    *) echo examples/rivertown/chart.toml ;;
-    esac
-}
+. tests/lib/listing.sh
 
 # asked TALK [PLACES DAYS]: compares, and leaves the talk's journal in the scratch folder.
 asked() {
@@ -42,18 +22,8 @@ done
 
 # changed SCRIPT WORDS..: where the list of these words goes through sed with this script, that is seen.
 changed() {
-    script=$1
+    filter "$@"
     shift
-    cat > "$scratch/changed" << PROGRAM
-#!/bin/sh
-case "\$*" in
-"$*") "$books" "\$@" | sed '$script' ;;
-*) exec "$books" "\$@" ;;
-esac
-PROGRAM
-    chmod +x "$scratch/changed"
-    (cd "$scratch" && "$books" "$@" > was && sed "$script" was > is && ! cmp -s was is)
-    verdict "$script changes $*" $?
     said=$(books=$scratch/changed && asked "$talk" 4 4)
     [ $? -eq 1 ] && [ "${said##*, }" = "1 differ" ]
     verdict "$* with $script is seen: $said" $?

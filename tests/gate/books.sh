@@ -6,16 +6,9 @@
 cd "$(dirname "$0")/../.." || exit 1
 top=$(pwd)
 . tests/lib/program.sh
-books=${BOOKS:-$(built books)}
-if [ ! -x "$books" ]; then
-    echo "there is no program books: run ./build" >&2
-    exit 1
-fi
-scratch=$(mktemp -d) || exit 1
-trap 'rm -rf "$scratch"' EXIT
+. tests/lib/listing.sh
 mkdir "$scratch/first" "$scratch/again"
-. tests/lib/expect.sh
-tried=$books folder=$scratch/first
+folder=$scratch/first
 
 # found FOLDER CHART: a newly founded journal.
 found() {
@@ -32,10 +25,7 @@ verdict "what books says of charts and journals" $?
 # ---- the calls of a journal make it again
 
 for talk in examples/*.jsonl examples/*/*.jsonl; do
-    case $talk in
-    examples/*/*) chart=$(dirname "$talk")/chart.toml ;;
-    *) chart=examples/rivertown/chart.toml ;;
-    esac
+    chart=$(chart_of "$talk")
     [ -e "$chart" ] || continue
     found first "$chart"
     (cd "$scratch/first" && "$program" desk < "$top/$talk" > /dev/null && "$books" calls > calls && "$books" chart > "$scratch/chart.toml")

@@ -7,25 +7,11 @@
 cd "$(dirname "$0")/../.." || exit 1
 top=$(pwd)
 . tests/lib/program.sh
-books=${BOOKS:-$(built books)}
-if [ ! -x "$books" ]; then
-    echo "there is no program books: run ./build" >&2
-    exit 1
-fi
-PYTHONDONTWRITEBYTECODE=1
-export PYTHONDONTWRITEBYTECODE
-[ -w /dev/shm ] && TMPDIR=/dev/shm && export TMPDIR # where syncs cost nothing
-scratch=$(mktemp -d) || exit 1
-trap 'rm -rf "$scratch"' EXIT
-. tests/lib/expect.sh
-tried=$books folder=$scratch
+. tests/lib/listing.sh
 
 # founded TALK: the journal of a talk of examples/, and `chart` names its chart.
 founded() {
-    case $1 in
-    examples/*/*) chart=$(dirname "$1")/chart.toml ;;
-    *) chart=examples/rivertown/chart.toml ;;
-    esac
+    chart=$(chart_of "$1")
     [ -e "$chart" ] || return 1
     rm -f "$scratch/fund.journal"
     cp "$chart" "$scratch/chart.toml"
@@ -44,18 +30,8 @@ done
 
 # changed SCRIPT WORDS..: where the list of these words goes through sed with this script, it is named as other than what it is to be.
 changed() {
-    script=$1
+    filter "$@"
     shift
-    cat > "$scratch/changed" << PROGRAM
-#!/bin/sh
-case "\$*" in
-"$*") "$books" "\$@" | sed '$script' ;;
-*) exec "$books" "\$@" ;;
-esac
-PROGRAM
-    chmod +x "$scratch/changed"
-    (cd "$scratch" && "$books" "$@" > was && sed "$script" was > is && ! cmp -s was is)
-    verdict "$script changes $*" $?
     said=$(python3 tests/lib/lists.py "$program" "$scratch/changed" "$scratch" "$chart" "$talk" 2>&1)
     status=$?
     [ "$status" -eq 1 ] && [ "${said#"$talk: "}" != "$said" ]
@@ -89,7 +65,8 @@ expect "what moved cash in the first day" 0 "4	2025-07-06	5	r1	receive		fund	202
 4	2025-07-06	5	r1	receive		gov	2026	0		100000	Cash	1000.00
 5	2025-07-06	5	p1	pay		fund	2026	1	General Fund	100000	Cash	-600.00
 5	2025-07-06	5	p1	pay		gov	2026	0		100000	Cash	-600.00" posts --account 100000
-expect "the balances of the first day" 0 "basis,fund,fund_name,account,account_name,balance
+# The first day is of the first year, so a year alone has the same balances.
+balances="basis,fund,fund_name,account,account_name,balance
 fund,1,General Fund,100000,Cash,400.00
 fund,1,General Fund,110000,Receivables,900.00
 fund,1,General Fund,200000,Vouchers payable,-400.00
@@ -100,19 +77,9 @@ gov,0,,100000,Cash,400.00
 gov,0,,110000,Receivables,900.00
 gov,0,,200000,Vouchers payable,-400.00
 gov,0,,400001,Property tax,-1900.00
-gov,0,,500002,Public works,1000.00" balances 2026 --csv
-expect "the balances of the first day's year alone" 0 "basis,fund,fund_name,account,account_name,balance
-fund,1,General Fund,100000,Cash,400.00
-fund,1,General Fund,110000,Receivables,900.00
-fund,1,General Fund,200000,Vouchers payable,-400.00
-fund,1,General Fund,290000,Unavailable revenue,-900.00
-fund,1,General Fund,400001,Property tax,-1000.00
-fund,1,General Fund,500002,Public works,1000.00
-gov,0,,100000,Cash,400.00
-gov,0,,110000,Receivables,900.00
-gov,0,,200000,Vouchers payable,-400.00
-gov,0,,400001,Property tax,-1900.00
-gov,0,,500002,Public works,1000.00" balances 2026 --alone --csv
+gov,0,,500002,Public works,1000.00"
+expect "the balances of the first day" 0 "$balances" balances 2026 --csv
+expect "the balances of the first day's year alone" 0 "$balances" balances 2026 --alone --csv
 expect "the balances of the year behind the first day's" 0 "basis,fund,fund_name,account,account_name,balance
 fund,1,General Fund,100000,Cash,400.00
 fund,1,General Fund,110000,Receivables,900.00

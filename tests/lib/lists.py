@@ -198,6 +198,14 @@ def cents(text):
     return int(text.replace(".", ""))
 
 
+def come_to_zero(what, rows):
+    """The balances of each fund sum to zero, on either basis."""
+    totals = Counter()
+    for basis, fund, _, _, _, balance in rows:
+        totals[basis, fund] += cents(balance)
+    same(what, nonzero(totals), {})
+
+
 class Lists:
     """The lists of the journal in a folder, and what they are to be."""
 
@@ -255,10 +263,7 @@ class Lists:
         head, *rows = self.records("balances", str(year))
         same("the columns of a trial balance", head, "basis fund fund_name account account_name balance".split())
         same(f"the balances of {year}", rows, guarded(balances_of(self.office, year)))
-        totals = Counter()
-        for basis, fund, _, _, _, balance in rows:
-            totals[basis, fund] += cents(balance)
-        same(f"the sums of {year}", nonzero(totals), {})
+        come_to_zero(f"the sums of {year}", rows)
         posted = Counter()
         for post in self.posts:
             posted[post["basis"], post["fund"], post["account"]] += cents(post["amount"]) if int(post["year"]) <= year else 0
@@ -273,10 +278,7 @@ class Lists:
         head, *rows = self.records("balances", str(year), "--alone")
         same("the columns of a year's trial balance", head, "basis fund fund_name account account_name balance".split())
         same(f"the balances of {year} alone", rows, guarded(year_balances_of(self.office, year)))
-        totals = Counter()
-        for basis, fund, _, _, _, balance in rows:
-            totals[basis, fund] += cents(balance)
-        same(f"the sums of {year} alone", nonzero(totals), {})
+        come_to_zero(f"the sums of {year} alone", rows)
 
     # ---- what was paid
 
