@@ -2,13 +2,14 @@
 
     python3 tests/gate/pages.py            says what isn't so, and ends with 1 where something isn't
     python3 tests/gate/pages.py --words    the words of each page, and of all, without docs/CLAUSES.md
-    python3 tests/gate/pages.py --runs     which pages share runs of nine words, tables and code aside
 
 It checks that
 - crates.txt has a crate below those that it uses, and names the libraries that files of the crate name, and
   no others; docs/ARCHITECTURE.md lists the same crates in the same groups and order;
 - each file and each name of the tables of docs/NEW-CALL.md is there, and its counts are right;
-- a page, a heading of a page, a script or a folder that a page names is there.
+- a page, a heading of a page, a script or a folder that a page names is there;
+- no two pages share a run of nine words, and no line is longer than 100 columns. Rows of tables, lines of
+  code and headings are left aside; of docs/CLAUSES.md every line counts.
 """
 import collections
 import functools
@@ -35,7 +36,7 @@ def files(*patterns):
 
 
 def pages():
-    return {path: read(path) for path in files("README.md", "docs/*.md")}
+    return {path: read(path) for path in files("README.md", "CHANGELOG.md", "docs/*.md")}
 
 
 # ---- crates.txt
@@ -208,34 +209,41 @@ def words(all_pages):
     print(f"{sum(made.values()) - made.get(MADE, 0):7} all but {MADE}")
 
 
-def runs(all_pages):
-    """How many runs of nine words each two pages share."""
+# ---- what stands twice, and long lines
+
+APART = re.compile(r"^(?:\||    |#|!\[).*$", re.M)
+
+
+def shared_faults(all_pages):
+    """The runs of nine words that two pages share, headings in quotes aside."""
     found = collections.defaultdict(set)
     for path, text in all_pages.items():
         if path == MADE:
             continue
-        prose = re.sub(r"^(?:\||    |```).*$", " \0 ", text, flags=re.M)
+        prose = re.sub(r'"[^"]*"', " \0 ", APART.sub(" \0 ", text))
         for part in prose.split("\0"):
             said = re.findall(r"[\w'-]+", part.lower())
             for place in range(len(said) - 8):
                 found[tuple(said[place:place + 9])].add(path)
-    shared = collections.Counter(tuple(sorted(paths)) for paths in found.values() if len(paths) > 1)
-    for paths, count in shared.most_common():
-        print(f"{count:5} {' '.join(paths)}")
-    if "--show" in sys.argv:
-        for run, paths in sorted(found.items(), key=lambda one: sorted(one[1])):
-            if len(paths) > 1:
-                print(" ".join(sorted(paths)), ":", " ".join(run))
+    for run, paths in found.items():
+        if len(paths) > 1:
+            yield f"{', '.join(sorted(paths))} have both: {' '.join(run)}"
+
+
+def line_faults(all_pages):
+    for path, text in all_pages.items():
+        shown = text if path == MADE else APART.sub("", text)
+        for number, line in enumerate(shown.split("\n"), 1):
+            if len(line) > 100:
+                yield f"{path}: line {number} has {len(line)} columns; python3 tests/lib/fill.py {path} fills its paragraphs"
 
 
 def main(said):
     all_pages = pages()
     if "--words" in said:
         return words(all_pages)
-    if "--runs" in said:
-        return runs(all_pages)
     lines = crates()
-    faults = [*crate_faults(lines), *call_faults(), *link_faults(all_pages)]
+    faults = [*crate_faults(lines), *call_faults(), *link_faults(all_pages), *shared_faults(all_pages), *line_faults(all_pages)]
     if listed() != [(name, group) for name, (group, _) in lines.items()]:
         faults.append("docs/ARCHITECTURE.md: its table hasn't the crates of crates.txt, in their groups and order")
     for fault in faults:

@@ -31,13 +31,14 @@ MADE = os.path.join(TOP, "docs", "CLAUSES.md")
 
 HEAD = """# Clauses and definitions
 
-`tests/gate/proved.py` makes this page of `docs/PROVED.md` and the sources. Don't edit it: change a source, run
-`python3 tests/gate/proved.py`, and read the sentences of `docs/PROVED.md` again whose headings it names.
+`tests/gate/proved.py` makes this page of `docs/PROVED.md` and the sources. Don't edit it: change a
+source, run `python3 tests/gate/proved.py`, and read the sentences of `docs/PROVED.md` again whose
+headings it names.
 
-A function or a definition is here where `docs/PROVED.md` names it, below the heading that names it first.
-`requires` is a condition that callers must meet, `ensures` a clause that holds when the function
-returns. `x.old` and `x.new` are an argument's value before and after the call, `x.now` is that of one that
-stays.
+A function or a definition is here where `docs/PROVED.md` names it, below the heading that names it
+first. `requires` is a condition that callers must meet, `ensures` a clause that holds when the
+function returns. `x.old` and `x.new` are an argument's value before and after the call, `x.now` is
+that of one that stays. A line of more than 100 columns goes on below, further in.
 """
 
 
@@ -252,11 +253,22 @@ def wrapped(text, behind=""):
     return textwrap.fill(" ".join(text.split()), 100, subsequent_indent=behind, break_long_words=False, break_on_hyphens=False)
 
 
+def broken(text):
+    """A definition with its lines of more than 100 columns broken at blanks; what goes on stands further in."""
+    made = []
+    for line in text.split("\n"):
+        inner = line[:len(line) - len(line.lstrip())]
+        behind = inner + ("-- " if line.lstrip().startswith("-- ") else "    ")
+        made.append(textwrap.fill(line.strip(), 100, initial_indent=inner, subsequent_indent=behind,
+                                  break_long_words=False, break_on_hyphens=False) if len(line) > 100 else line)
+    return "\n".join(made)
+
+
 def section(key):
     """What the page has of a function, a type or a definition."""
     if len(key) == 3:
         path, _, name = key
-        return f"### `{name}` of {path}\n\n```\n{definition(path, name)}\n```\n"
+        return f"### `{name}` of {path}\n\n```\n{broken(definition(path, name))}\n```\n"
     crate, name = key
     said, found = item(crate, name)
     shown = "\n".join(wrapped(text, "    ") for _, _, text in found)
