@@ -8,8 +8,8 @@ It checks that
   no others; docs/ARCHITECTURE.md lists the same crates in the same groups and order;
 - each file and each name of the tables of docs/NEW-CALL.md is there, and its counts are right;
 - a page, a heading of a page, a script or a folder that a page names is there;
-- no two pages share a run of nine words, and no line is longer than 100 columns. Rows of tables, lines of
-  code and headings are left aside; of docs/CLAUSES.md every line counts.
+- no two pages share a run of nine words, and no line is longer than 100 columns. Rows of tables,
+  lines of code and headings are left aside; of docs/CLAUSES.md every line counts.
 """
 import collections
 import functools
@@ -235,7 +235,7 @@ def line_faults(all_pages):
         shown = text if path == MADE else APART.sub("", text)
         for number, line in enumerate(shown.split("\n"), 1):
             if len(line) > 100:
-                yield f"{path}: line {number} has {len(line)} columns; python3 tests/lib/fill.py {path} fills its paragraphs"
+                yield f"{path}: line {number} has {len(line)} columns: run tests/lib/fill.py {path}"
 
 
 def main(said):
@@ -243,7 +243,8 @@ def main(said):
     if "--words" in said:
         return words(all_pages)
     lines = crates()
-    faults = [*crate_faults(lines), *call_faults(), *link_faults(all_pages), *shared_faults(all_pages), *line_faults(all_pages)]
+    faults = [*crate_faults(lines), *call_faults(), *link_faults(all_pages)]
+    faults += [*shared_faults(all_pages), *line_faults(all_pages)]
     if listed() != [(name, group) for name, (group, _) in lines.items()]:
         faults.append("docs/ARCHITECTURE.md: its table hasn't the crates of crates.txt, in their groups and order")
     for fault in faults:

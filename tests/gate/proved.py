@@ -254,13 +254,14 @@ def wrapped(text, behind=""):
 
 
 def broken(text):
-    """A definition with its lines of more than 100 columns broken at blanks; what goes on stands further in."""
+    """A definition with its lines of more than 100 columns broken at blanks, and further in below."""
     made = []
     for line in text.split("\n"):
         inner = line[:len(line) - len(line.lstrip())]
         behind = inner + ("-- " if line.lstrip().startswith("-- ") else "    ")
-        made.append(textwrap.fill(line.strip(), 100, initial_indent=inner, subsequent_indent=behind,
-                                  break_long_words=False, break_on_hyphens=False) if len(line) > 100 else line)
+        parts = textwrap.wrap(line.strip(), 100, initial_indent=inner, subsequent_indent=behind,
+                              break_long_words=False, break_on_hyphens=False)
+        made.extend(parts if len(line) > 100 else [line])
     return "\n".join(made)
 
 

@@ -1,4 +1,5 @@
-"""Fills the paragraphs and lists of pages to lines of at most 100 columns. Tables, code and headings stay.
+"""Fills the paragraphs and lists of pages to lines of at most 100 columns. Tables, code and headings
+stay as they are.
 
     python3 tests/lib/fill.py PAGE..
 """
@@ -14,8 +15,9 @@ def filled(block):
     """The lines of a paragraph or of an item of a list."""
     inner, mark, first = HEAD.match(block[0]).groups()
     text = " ".join([first, *block[1:]])
-    return textwrap.wrap(" ".join(text.split()), 100, initial_indent=inner + mark, subsequent_indent=inner + " " * len(mark),
-                         break_long_words=False, break_on_hyphens=False)
+    behind = inner + " " * len(mark)
+    return textwrap.wrap(" ".join(text.split()), 100, initial_indent=inner + mark,
+                         subsequent_indent=behind, break_long_words=False, break_on_hyphens=False)
 
 
 def stays(line, block):

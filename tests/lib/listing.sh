@@ -1,6 +1,6 @@
-# Read by the tests of what `books` lists, with `top` set. It sets `books` to the program that was built
-# last (BOOKS names another one, by its whole path) and `scratch` to a folder that goes when the script
-# ends, and ends the script where there is no program.
+# Read by the tests of what `books` lists, with `top` set. It sets `books` to the program that was
+# built last (BOOKS names another one, by its whole path) and `scratch` to a folder that goes when
+# the script ends. It ends the script where there is no program.
 . "$top/tests/lib/built.sh"
 books=${BOOKS:-$(built books)}
 if [ ! -x "$books" ]; then
@@ -23,8 +23,8 @@ chart_of() {
     esac
 }
 
-# filter SCRIPT WORDS..: makes $scratch/changed, which is `books` with the list of these words sent through
-# sed with this script, and tries that the script changes that list.
+# filter SCRIPT WORDS..: makes $scratch/changed, which is `books` with the list of these words sent
+# through sed with this script, and tries that the script changes that list.
 filter() {
     script=$1
     shift
