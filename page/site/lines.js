@@ -60,7 +60,7 @@ export class Lines {
         byId('line').showModal();
         const found = (await this.lists.ofLine(line, year).catch(() => [])).reverse().slice(0, MOST);
         const heads = ['Entry', 'Day', 'What', 'Key', 'Desk', 'Number', ['Amount', true]], rows = found.map(each => this.entry(each));
-        byId('line-table').replaceChildren(rows.length ? table('Documents of the line', heads, rows) : 'No entry names this line.',
+        byId('line-table').replaceChildren(rows.length ? table('Documents of the line', heads, rows, 'cards') : 'No entry names this line.',
             made('p', {className: 'hint'}, `The list has the entries up to ${this.lists.state.entries}; it is made anew each minute.`));
     }
 
