@@ -217,7 +217,7 @@ export class Enter {
         const found = this.lists.document(kind, number), asked = input.value, ofItems = kind === 'order' && this.context?.name === 'change_order';
         if (ofItems && found) this.orderItems(found, found.items.map((item, at) => `${at + 1}: ${this.chart.account(...item)}`));
         const said = await this.doors.look({call: kind, [kind]: Number(number)}).catch(() => null);
-        if (!said || input.value !== asked) return;
+        if (!said || input.value !== asked || !place.isConnected) return;
         const now = said.is ? this.states.say(kind, said.is) : this.words.of(said).text.replace(' Nothing was entered.', '');
         place.textContent = [found?.key, this.whose(kind, found)].filter(Boolean).join(', ') + (found ? ': ' : '') + now;
         if (kind === 'bill' && said.is?.left > 0 && byId('form').elements.amount) place.append(' ', this.allLeft(said.is.left));

@@ -1,8 +1,7 @@
-"""What a trial of the page by its users found: each has a case here. It stands last of those that enter something, since it closes a
-month."""
+"""What a trial of the page by its users found: each has a case here. It stands last of those that enter
+something, since it closes a month. The variable TRAPS names some of the cases alone."""
 import json
 import os
-import time
 
 import looking
 import words
@@ -20,21 +19,11 @@ def run(stand):
     with open(os.path.join(stand.journal, "vendors.csv"), "w", encoding="utf-8") as file:
         file.write(named(stand, 'vendor,name,address\n650,"Acme <b>& Sons</b>","12 Mill Road\nHarborview"\n651,Ü. Olsen,\n'))
     stand.make_lists()
-    names_in_forms(stand)
-    council(stand)
-    items(stand)
-    bills(stand)
-    debts(stand)
-    orders(stand)
-    assets(stand)
-    repeats(stand)
-    newly_entered(stand)
-    every_draft(stand)
-    classes(stand)
-    narrow(stand)
-    kept(stand)
-    years(stand)
-    closed(stand)
+    names = os.environ.get("TRAPS", "")
+    for part in (names_in_forms, council, items, bills, debts, orders, assets, repeats, newly_entered, every_draft, classes, old, narrow, kept,
+                 years, closed):
+        if not names or part.__name__ in names.split():
+            part(stand)
 
 
 def order_of(stand, key, vendor, *items):
@@ -287,6 +276,21 @@ def classes(stand):
     clerk.page.close()
 
 
+OLD = """(async chart => { const [{Words}, {Chart}, tables] = await Promise.all([import('/desk/words.js'), import('/desk/chart.js'),
+    fetch('/desk/tables.json').then(answer => answer.json())]);
+    return ['2026-07', '2026-05'].map(next => new Words(tables, new Chart(chart), {state: {next}}).of({no: {name: 'PeriodClosed', month: '2026-05'}}, 'voucher').todo);
+})(%s)"""
+
+
+def old(stand):
+    """An invoice of a closed year is told of its tick; one of an open year isn't."""
+    clerk = stand.desk(4)
+    told, other = clerk.page.do(OLD % json.dumps(words.chart_of("harborview")))
+    stand.holds("an invoice of a closed year", told.endswith("There it counts in fiscal year 2027, unless “Of the year before” is ticked."), told)
+    stand.holds("one of an open year", "Of the year before" not in other, other)
+    clerk.page.close()
+
+
 def narrow(stand):
     """On a phone nothing scrolls sideways: papers, statements, a line's documents, the forms of a budget and of a debt."""
     order = order_of(stand, "po-narrow", 650, (1, 13, 511, 5000))
@@ -339,19 +343,21 @@ FILL = """(() => { const some = localStorage.length; for (let n = 0; n < %d; n++
     localStorage.setItem('call treasury 5 2025-07-01T00:00:' + String(n).padStart(6, '0'), JSON.stringify(call)); }
     return some; })()"""
 COUNT = 8000
+# How often a page reads from what the browser keeps.
+READS = "window.reads = 0; { const real = Storage.prototype.getItem; Storage.prototype.getItem = function (id) { window.reads++; return real.call(this, id); }; } true"
 
 
 def kept(stand):
-    """With thousands of kept calls a call is sent at once, and it is said how full the browser is before it is."""
+    """With thousands of kept calls a call is sent without reading them, and it is said how full the browser is before it is."""
     clerk = stand.clerk("treasury")
     clerk.page.do(FILL % COUNT)
     clerk.page.go(stand.url + "/desk/?kept")
     clerk.begin()
     clerk.fill({"call": "receive", "key": "deposit-kept", "on": DAY, "source": 4, "amount": 100})
-    began = time.time()
+    clerk.page.do(READS)
     said = clerk.send()
-    took = time.time() - began
-    stand.holds(f"a call beside {COUNT} kept ones", "Taken" in said and took < 1.2, [took, said])
+    reads = clerk.page.do("window.reads")
+    stand.holds(f"a call beside {COUNT} kept ones reads none of them", "Taken" in said and reads < 100, [reads, said])
     clerk.view("sent", "/percent/.test(document.getElementById('sent-room').textContent)")
     said = clerk.text("sent-room")
     stand.holds("how full the browser is", "calls are kept" in said and int(said.split()[4]) > 20, said)
