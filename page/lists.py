@@ -1,7 +1,7 @@
 #!/usr/bin/env python3
 """Makes what the page can't ask of a door, of what `books` prints of a journal, which it only reads:
 
-    lists.py BOOKS JOURNAL FOLDER [VENDORS]
+    lists.py BOOKS JOURNAL FOLDER [VENDORS [SECONDS]]
 
     chart.json            the chart
     state.json            the entries, the last day, the closed months and years, the files that there
@@ -13,6 +13,8 @@
     YEAR-fund-ID.json     the ledger of a fiscal year and fund: joins.py says its columns
     kept.json             the statements and months that are kept (kept.py), each a file of its own
     vendors.json          the names of VENDORS, as vendors.py reads them, and what is wrong with it
+
+SECONDS, 45 where they aren't said, behind its start it begins no further statement.
 
 What is open, what a document is and what an entry moved `books` says; here columns are joined alone.
 A file is written beside and moved into its place, where its contents changed. Lists are made anew
@@ -32,7 +34,7 @@ from books import Books, Fault
 from joins import compact, Joins
 from kept import Calendar, Kept
 
-SECONDS = 45  # after so many no further statement is begun, since lists are made each minute
+SECONDS = 45  # since lists are made each minute
 SKIPS = 100  # of rows that can't be read, so many are said; all are counted
 TABLES = ("function", "fund", "department", "object", "source", "line", "desk")
 
@@ -136,17 +138,18 @@ def name_vendors(folder, path=None):
 
 
 def main():
-    if len(sys.argv) not in (4, 5):
+    if len(sys.argv) not in (4, 5, 6):
         sys.exit(__doc__)
     books, folder = Books(*sys.argv[1:3]), Folder(sys.argv[3])
-    name_vendors(folder, *sys.argv[4:])
+    seconds = int(sys.argv[5]) if len(sys.argv) == 6 else SECONDS
+    name_vendors(folder, *sys.argv[4:5])
     began = time.monotonic()
     now, done = stamp(books.journal), folder.value("stamp")
     if done == [now, True]:
         return
     chart, days, closed = lists_of(books, folder)
     # The stamp was taken before the journal was read: what was added meanwhile is found the next time.
-    is_whole = Kept(books, folder, chart, days, closed).make(began + SECONDS)
+    is_whole = Kept(books, folder, chart, days, closed).make(began + seconds)
     folder.write("stamp", compact([now, is_whole]))
     print(f"lists: {len(days)} entries")
 

@@ -53,8 +53,15 @@ export class Ledger {
     asked() {
         const value = id => byId(id).value.trim(), by = value('ledger-by');
         const entries = Math.min(Number(value('ledger-entries')) || Infinity, this.lists.state.entries || 0);
-        return {year: Number(value('ledger-year')), by, of: value(by === 'party' ? 'ledger-party' : 'ledger-of'), from: value('ledger-from'),
+        return {year: Number(value('ledger-year')), by, of: by === 'party' ? this.partyOf(value('ledger-party')) : value('ledger-of'), from: value('ledger-from'),
             through: value('ledger-through'), entries};
+    }
+
+    /** A vendor's or payer's number, as it is typed; of a name that of the first vendor that has it. */
+    partyOf(text) {
+        if (!text || /^\d{1,10}$/.test(text)) return text;
+        const found = [...this.vendors.rows].find(([, {name}]) => name.toLowerCase().includes(text.toLowerCase()));
+        return found ? String(found[0]) : '';
     }
 
     async show() {
@@ -62,7 +69,7 @@ export class Ledger {
         await this.lists.load().catch(() => {});
         const asked = this.asked(), {year, by, of, from, through, entries} = asked;
         this.found = undefined;
-        if (of === '') return place.replaceChildren(made('p', {}, by === 'party' ? 'Type the number of a vendor or payer.' : 'Choose one.'));
+        if (of === '') return place.replaceChildren(made('p', {}, by === 'party' ? 'Type the number of a vendor or payer, or a part of a vendor’s name.' : 'Choose one.'));
         place.replaceChildren('..');
         const fund = by === 'fund' ? of : by === 'line' ? this.chart.line[of].fund : undefined;
         const rows = await this.lists.ledger(year, fund).catch(fault => ({fault}));

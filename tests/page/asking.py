@@ -8,7 +8,7 @@ import shutil
 import subprocess
 import tempfile
 
-from looking import money
+from looking import money, ON_PAPER, SHEETS
 
 MOVED = ("appropriated", "ordered", "held", "spent")
 LOOK = {"appropriated": "appropriated", "ordered": "encumbered", "held": "held", "spent": "expended"}
@@ -16,7 +16,8 @@ ROWS = "[...document.querySelectorAll('{} tbody tr')].map(row => [...row.childre
 
 
 def run(stand):
-    stand.make_lists()
+    debt(stand)
+    stand.make_lists(60)
     clerk = stand.clerk("auditor")
     found(stand, clerk)
     entry(stand, clerk)
@@ -26,6 +27,14 @@ def run(stand):
     statements(stand, clerk)
     clerk.page.close()
     reopened(stand)
+
+
+def debt(stand):
+    """A bond whose first payment is made of lines 63 and 64."""
+    bond = stand.ask({"call": "issue", "desk": 5, "key": "bond-asking", "on": "2025-08-12", "fund": 4, "amount": 30000, "rate_bp": 425, "every": 1,
+                      "principals": [10000, 20000]})["ok"]["bond"]
+    stand.ask({"call": "collect", "desk": 5, "key": "collect-2-asking", "on": "2025-08-12", "bill": 2, "amount": 200000})
+    stand.ask({"call": "pay_due", "desk": 5, "key": "debt-asking-1", "on": "2025-09-12", "bond": bond, "fund": 5, "dept": 11, "principal": 811, "interest": 821})
 
 
 def books(stand, *words):
@@ -101,14 +110,14 @@ def line(stand, clerk):
             stand.holds("what an invoice frees of its order", any(row[2] == "Enter an invoice" and row[-3].startswith("-") for row in rows), rows[:4])
             stand.picture(clerk.page, "line")
         if number == 64:
-            stand.holds("a payment of a debt", any("Pay a bond" in row[2] and row[-1] for row in rows), rows)
+            stand.holds("a payment of a debt", any(row[2] == "Pay a bond or a lease: paid" and row[3] == "debt-asking-1" and row[-1] for row in rows), rows)
         clerk.page.do("document.getElementById('line').close()")
 
 
 def ledgers(stand, clerk):
     rows = books(stand, "ledger", "--year", "2026")
     vendor = next(row["party"] for row in rows if row["call"] == "voucher")
-    payer = next(row["party"] for row in rows if row["call"] == "collect")
+    payer = next((row["party"] for row in rows if row["call"] == "collect"), vendor)
     day = sorted(row["day"] for row in rows)[len(rows) // 2]
     for by, of, option in (("line", "44", "line"), ("department", "20", "dept"), ("party", vendor, "party"), ("party", payer, "party"), ("source", "7", "source"), ("fund", "2", "fund")):
         wanted = [row for row in rows if row[option] == of]
@@ -128,6 +137,7 @@ def ledgers(stand, clerk):
     shown = clerk.page.do(ROWS.format("#ledger-table"))
     stand.same("a ledger at an entry", [row[0] for row in shown[:-1]], [row["place"] for row in rows if row["fund"] == "1" and int(row["place"]) <= last][::-1])
     stand.picture(clerk.page, "ledger")
+    printed(stand, clerk, "ledger-table", f"#ledger/2026/fund/1///{last}", 20)
     sheets(stand, clerk, "ledger-csv", "2026-ledger-fund-1.csv", len(shown))
 
 
@@ -145,6 +155,23 @@ def sheets(stand, clerk, button, name, count):
     return sheet
 
 
+WIDER = "[...document.querySelectorAll('#{0}, #{0} *')].filter(node => node.getBoundingClientRect().right > {1} + 1).map(node => node.tagName + ' ' + node.textContent.slice(0, 30)).slice(0, 3)"
+
+
+def printed(stand, clerk, name, address, count):
+    """On A4 and Letter nothing is wider than the sheet; and the city and the entries stand on it."""
+    go(clerk, address, f"document.querySelectorAll('#{name} tbody tr').length > {count}")
+    said = clerk.text(name)
+    stand.holds(f"{name} has the city and the entries", said.startswith("Harborview: ") and "ntries 1 to " in said, said[:200])
+    for sheet, (_, _, wide) in SHEETS.items():
+        clerk.page.size(wide, 1000)
+        clerk.page.media(media="print")
+        stand.same(f"{name} on {sheet}", clerk.page.do(WIDER.format(name, wide)), [])
+        stand.same(f"without the form on {sheet}: {name}", clerk.page.do(ON_PAPER), 0)
+        clerk.page.media(media="")
+        clerk.page.send("Emulation.clearDeviceMetricsOverride")
+
+
 AMOUNTS = ("appropriated", "month", "year", "on_order", "held", "left", "percent", "month_before", "year_before")
 
 
@@ -154,18 +181,19 @@ def month(stand, clerk):
         return
     said = go(clerk, "#month/2025-07", "/July 2025 by department/.test(document.getElementById('month-table').textContent) && document.getElementById('month-table').textContent")
     rows = books(stand, "month", "2025-07")
-    shown = {row[0]: row[2:] for row in clerk.page.do(ROWS.format("#month-table"))}
+    shown = clerk.page.do("[...document.querySelectorAll('#month-table tr.part')].map(row => [...row.children].map(cell => cell.textContent.replace('▼ ', '')))")
     of = lambda row: [row[name] if name == "percent" else money(cents(row[name])) for name in AMOUNTS]
-    depts = [row for row in rows if row["kind"] == "department" and row["fund"] == "1"]
-    stand.same("a month by department", [[cell.replace("▼ ", "") for cell in shown[row["dept_name"]]] for row in depts if row["dept_name"] in shown], [of(row) for row in depts])
+    stand.same("a month by department", [[row[0], *row[2:]] for row in shown], [[row["dept_name"], *of(row)] for row in rows if row["kind"] == "department"])
     stand.holds("its entries and its state", f"Entries 1 to {stand.entries()}." in said and ("closed" in said or "open" in said), said[:200])
     stand.picture(clerk.page, "month")
-    before = len(shown)
+    before = clerk.page.do("document.querySelectorAll('#month-table tbody tr').length")
     clerk.page.do("document.getElementById('month-lines').click()")
     clerk.page.until(f"document.querySelectorAll('#month-table tbody tr').length > {before + 20}")
     clerk.page.do("document.getElementById('month-lines').click()")
     go(clerk, "#month/2025-07/20", "document.querySelectorAll('#month-table tbody tr').length < 8 && 'yes'")
     stand.holds("a department's month", "Police" in clerk.text("month-table") and "Fleet" not in clerk.text("month-table"), clerk.text("month-table")[:300])
+    printed(stand, clerk, "month-table", "#month/2025-07", 20)
+    go(clerk, "#month/2025-07/20", "document.querySelectorAll('#month-table tbody tr').length < 8 && 'yes'")
     sheet = sheets(stand, clerk, "month-csv", "month-2025-07.csv", 1 + sum(row["dept"] == "20" for row in rows))
     stand.same("its columns", sheet[0], list(rows[0]))
 
@@ -198,6 +226,20 @@ def statements(stand, clerk):
     stand.picture(clerk.page, "statement-through")
 
 
+def closed(stand, month_):
+    """The answer to the close of a month, once the debts that are due in it are paid."""
+    for count in range(99):
+        said = stand.ask({"call": "close", "desk": 9, "key": f"close-back-{month_}", "on": "2026-07-10", "what": "month", "month": month_})
+        no = said.get("no", {})
+        if no.get("name") != "DebtDue":
+            break
+        paid = stand.ask({"call": "pay_due", "desk": 5, "key": f"debt-back-{month_}-{count}", "on": no["day"], "bond": no["bond"], "fund": 5, "dept": 11,
+                          "principal": 811, "interest": 821})
+        if "ok" not in paid:
+            return paid
+    return said
+
+
 def reopened(stand):
     """An order's last invoice, the closes of its year, its void, and another invoice of the year before on the item that is open again."""
     order = stand.ask({"call": "order", "desk": 3, "key": "po-back", "on": "2025-08-12", "vendor": 641,
@@ -205,7 +247,7 @@ def reopened(stand):
     item = {"fund": 1, "dept": 13, "object": 511, "order": order, "item": 1}
     last = stand.ask({"call": "voucher", "desk": 4, "key": "inv-641-back-1", "on": "2026-06-20", "vendor": 641, "items": [{**item, "amount": 4000, "final": True}]})["ok"]["voucher"]
     for month_ in [f"2025-{month:02}" for month in range(8, 13)] + [f"2026-{month:02}" for month in range(1, 7)]:
-        said = stand.ask({"call": "close", "desk": 9, "key": f"close-back-{month_}", "on": "2026-07-10", "what": "month", "month": month_})
+        said = closed(stand, month_)
         stand.holds(f"{month_} is closed", "ok" in said, said)
     stand.ask({"call": "void_voucher", "desk": 4, "key": "void-back", "on": "2026-07-11", "voucher": last})
     new = stand.ask({"call": "voucher", "desk": 4, "key": "inv-641-back-2", "on": "2026-07-12", "vendor": 641, "back": True, "items": [{**item, "amount": 1000}]})
