@@ -92,15 +92,18 @@ export class Lists {
         return rows.filter(each => each[3].toLowerCase() === key).map(invoiceOf);
     }
 
-    /** What a payment paid, by the place of its entry. */
-    async ofRun(place) {
-        return (await this.rows('invoices')).filter(each => each[7] === place).map(invoiceOf);
+    /** What payments paid, by the places of their entries. */
+    async ofRun(places) {
+        return (await this.rows('invoices')).filter(each => places.includes(each[7])).map(invoiceOf);
     }
 
-    /** A bond's or lease's principals, how many are paid, and the accounts of its last payment. */
+    /**
+     * What a bond's or lease's next payment pays, its principal and its interest, and the accounts
+     * of its last payment.
+     */
     async debt(number) {
-        const [principals, paid, accounts] = (await got('data/debts.json'))[number] || [[], 0, []];
-        return {due: principals[paid], accounts};
+        const [due, accounts] = (await got('data/debts.json'))[number] || [[], []];
+        return {due, accounts};
     }
 
     async receipt(place) {

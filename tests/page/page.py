@@ -17,6 +17,7 @@ import faults
 import looking
 import runs
 import slips
+import traps
 import words
 from stand import Stand
 
@@ -24,10 +25,10 @@ from stand import Stand
 def main():
     stand = Stand(*sys.argv[1:])
     try:
-        parts = os.environ.get("PARTS", "entering faults slips runs looking words asking").split()
+        parts = os.environ.get("PARTS", "entering faults slips runs looking traps words asking").split()
         if "entering" not in parts:
             entering.send(stand)
-        for part in (entering, faults, slips, runs, looking, words, asking):
+        for part in (entering, faults, slips, runs, looking, traps, words, asking):
             if part.__name__ in parts:
                 part.run(stand)
         stand.verdicts.same("no fault in the console of a page", stand.logs(), [])
