@@ -32,9 +32,11 @@ def compact(value):
 
 
 class Joins:
-    def __init__(self):
-        self.entries = []  # place, day, cents, number and second number; nothing of one that can't be read
-        self.closes = {}  # the place of each, by desk and key
+    def __init__(self, papers):
+        self.papers = papers
+        self.days = []  # of entries
+        self.numbers = {}  # of debts that were entered, and places of closes, by desk and key
+        self.collected = []
         self.closed = []  # what each close closed, and its place
         self.opened = set()  # what is open, by the page's kind and the number
         self.documents = defaultdict(list)  # of those, by kind and number, a row for each item
@@ -44,17 +46,23 @@ class Joins:
         self.ledgers = defaultdict(list)
 
     def entry(self, row):
-        self.entries.append(None)
+        self.days.append(row["day"])
         its = typed(row)
-        if its["call"] == "close":
-            self.closes[row["desk"], row["key"]] = its["place"]
-        numbers = {name: its[name] or 0 for name in ("place", "number", "second")}
-        self.entries[-1] = {**numbers, "day": its["day"], "cents": its["amount"]}
+        numbers = {"close": its["place"], "issue": its["number"], "lease": its["second"]}
+        if its["call"] in numbers:
+            self.numbers[its["desk"], its["key"]] = numbers[its["call"]]
+        if its["call"] == "collect":
+            self.collected.append(its)
         self.by_year["entries"][row["day"][:4]].append(compact([its[name] for name in ("place", "day", "desk", "key", "call", "amount", "number")]))
+
+    def debt(self, line):
+        """A call as books prints it, which enters or pays a debt."""
+        call = json.loads(line)
+        self.papers.debt(self.numbers.get((call["desk"], call["key"])), call)
 
     def open(self, row):
         if row["call"] == "close":
-            self.closed.append((row["closed"], self.closes[row["desk"], row["key"]]))
+            self.closed.append((row["closed"], self.numbers[int(row["desk"]), row["key"]]))
         else:
             self.opened.add((PAGE.get(row["call"], row["call"]), int(row["number"])))
 
@@ -62,9 +70,9 @@ class Joins:
 
     def document(self, row):
         its = typed(row)
-        for each in row["entries"].split("; "):
-            word, place = each.rsplit(" ", 1)
-            self.words[int(place), its["kind"], its["number"], its["item"] or 0] = word
+        words = [each.rsplit(" ", 1) for each in row["entries"].split("; ")]
+        self.words.update(((int(place), its["kind"], its["number"], its["item"] or 0), word) for word, place in words)
+        self.papers.document(its, [int(place) for _, place in words])
         # `books open` has no assets, so each asset is shown, with its state.
         if its["kind"] == "asset" or (PAGE.get(its["kind"], its["kind"]), its["number"]) in self.opened:
             self.documents[its["kind"], its["number"]].append(its)
@@ -72,6 +80,7 @@ class Joins:
 
     def ledger(self, row):
         its = typed(row)
+        self.papers.ledger(its)
         kind, word = self.said_of(its)
         if kind == its["call"] and kind in ("requisition", "voucher") and (kind, its["document"]) in self.documents:
             self.items[kind, its["document"]].append([its["fund"], its["dept"], its["object"], its["held"] + its["spent"]])

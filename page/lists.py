@@ -9,7 +9,7 @@
     open.json             what is open, by kind, each with its items; and every asset
     YEAR-entries.json     of the days of a calendar year: place, day, desk, key, call, cents, number
     YEAR-documents.json   of the same days: the columns of `books documents`, with cents
-    YEAR-invoices.json    and other papers of `books calls`: papers.py says their columns
+    YEAR-invoices.json    and other papers: papers.py says their columns
     YEAR-fund-ID.json     the ledger of a fiscal year and fund: joins.py says its columns
     kept.json             the statements and months that are kept (kept.py), each a file of its own
     vendors.json          the names of VENDORS, as vendors.py reads them, and what is wrong with it
@@ -93,31 +93,36 @@ class Skips:
         self.count += 1
         if self.count > SKIPS:
             return
+        row = row if isinstance(row, dict) else {}
         number, key = row.get("number") or row.get("place") or "", row.get("key", "")
         name = f"{row.get('kind') or what} {number}".strip()
         self.said.append({"what": name, "key": key, "time": self.made})
         print(f"lists: {self.made}: {name} ({key}) can't be read: {fault!r}", file=sys.stderr)
 
 
+def is_of_debt(line):
+    """Whether a call has principals, or pays a debt: no key has such marks, since a quote stands with another before it."""
+    return '"principals":' in line or '"call":"pay_due"' in line
+
+
 def lists_of(books, folder):
     """Makes all lists anew, and gives the chart, the days of entries, and what was closed."""
-    skips, joins = Skips(), Joins()
+    skips, paper = Skips(), papers.Papers()
+    joins = Joins(paper)
     chart = {**{table: [] for table in TABLES}, **tomllib.loads(books.chart())}
     skips.each("entry", books.rows("list"), joins.entry)
-    books.entries = len(joins.entries)
+    books.entries = len(joins.days)
     for what, words, take in (("open document", "open", joins.open), ("document", "documents", joins.document), ("ledger row of entry", "ledger", joins.ledger)):
         skips.each(what, books.rows(words), take)
-    calendar = Calendar(chart)
-    paper = papers.Papers(calendar)
-    calls = ({**entry, "call": json.loads(line)} for entry, line in zip(joins.entries, books.lines("calls")) if entry)
-    skips.each("entry", calls, lambda row: paper.take(row, row["call"]))
+    skips.each("receipt of entry", joins.collected, paper.entry)
+    skips.each("debt", filter(is_of_debt, books.lines("calls")), joins.debt)
     values = {"chart.json": chart, "open.json": joins.open_documents(), **paper.files()}
     for name, text in {**joins.files(), **{name: compact(value) for name, value in values.items()}}.items():
         folder.write(name, text)
-    days, months = [entry["day"] for entry in joins.entries if entry], [closed for closed, _ in joins.closed if "-" in closed]
+    days, months = joins.days, [closed for closed, _ in joins.closed if "-" in closed]
     folder.write("state.json", compact({
         "entries": books.entries, "last": days[-1] if days else "", "latest": max(days, default=""),
-        "months": len(months), "years": len(joins.closed) - len(months), "next": calendar.after(months),
+        "months": len(months), "years": len(joins.closed) - len(months), "next": Calendar(chart).after(months),
         "files": {**joins.years(), **paper.state()}, "made": skips.made, "skips": skips.count, "skipped": skips.said,
     }))
     return chart, sorted(days), joins.closed
