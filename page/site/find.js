@@ -16,11 +16,11 @@ export class Find {
         byId('find-form').addEventListener('submit', event => { event.preventDefault(); this.told(); this.show(); });
     }
 
-    choose([text]) {
+    fromAddress([text]) {
         if (text !== undefined) byId('find-text').value = text;
     }
 
-    chosen() {
+    toAddress() {
         return [byId('find-text').value.trim()];
     }
 

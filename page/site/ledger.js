@@ -36,7 +36,7 @@ export class Ledger {
         if (pairs) fill(byId('ledger-of'), pairs);
     }
 
-    choose([year, by, of, from, through, entries], now) {
+    fromAddress([year, by, of, from, through, entries], now) {
         byId('ledger-year').value = year || now;
         if (BY[by]) byId('ledger-by').value = by;
         this.offer();
@@ -45,7 +45,7 @@ export class Ledger {
     }
 
     /** Today's year is left out of the address. */
-    chosen(now) {
+    toAddress(now) {
         const {by} = this.asked(), ids = ['ledger-year', 'ledger-by', by === 'party' ? 'ledger-party' : 'ledger-of', 'ledger-from', 'ledger-through', 'ledger-entries'];
         return ids.map(id => byId(id).value.trim()).map((text, place) => place === 0 && text === now ? '' : text);
     }

@@ -25,12 +25,12 @@ export class Month {
         this.show();
     }
 
-    choose([at, dept]) {
+    fromAddress([at, dept]) {
         this.wanted = at || '';
         byId('month-dept').value = dept || '';
     }
 
-    chosen() {
+    toAddress() {
         return [byId('month-at').value, byId('month-dept').value];
     }
 

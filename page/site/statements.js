@@ -34,14 +34,14 @@ export class Statements {
         this.told();
     }
 
-    choose([year, kind, at], now) {
+    fromAddress([year, kind, at], now) {
         byId('report-year').value = year || now;
         if ([...byId('report-kind').options].some(option => option.value === kind)) byId('report-kind').value = kind;
         this.wanted = at || NOW;
     }
 
     /** Today's year, and now, are left out of the address. */
-    chosen(now) {
+    toAddress(now) {
         const [year, kind, at] = ['report-year', 'report-kind', 'report-at'].map(id => byId(id).value);
         return [year === now ? '' : year, kind, at === NOW ? '' : at];
     }

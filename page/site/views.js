@@ -5,8 +5,8 @@
 import {byId} from './dom.js';
 import {today} from './chart.js';
 
-// The choices of a view that stand in its address. Other views say theirs by `chosen`, and take
-// them by `choose`.
+// The choices of a view that stand in its address. Other views say theirs by `toAddress`, and take
+// them by `fromAddress`.
 const CHOICES = {enter: ['call'], lines: ['lines-year', 'lines-fund', 'lines-dept'], open: ['open-kind'], council: ['council-year']};
 // Views whose address says which paper or entry is shown.
 const OF_ONE = ['paper', 'entry'];
@@ -31,7 +31,7 @@ export class Views {
         const [name, ...rest] = location.hash.slice(1).split('/').map(part => decodeURIComponent(part));
         if (!this.views[name] || ['enter', 'sent'].includes(name) && !this.roles.length) return false;
         this.name = name;
-        this.views[name].choose?.(rest, this.year);
+        this.views[name].fromAddress?.(rest, this.year);
         (CHOICES[name] || []).forEach((id, place) => {
             const input = byId(id), value = rest[place] || (id.endsWith('-year') ? this.year : '');
             if (input.value === value || ![...input.options].some(option => option.value === value)) return;
@@ -51,7 +51,7 @@ export class Views {
 
     /** Puts the view and its choices into the address. */
     tell(isFirst = false) {
-        const values = this.views[this.name].chosen?.(this.year) ||
+        const values = this.views[this.name].toAddress?.(this.year) ||
             (CHOICES[this.name] || []).map(id => id.endsWith('-year') && byId(id).value === this.year ? '' : byId(id).value);
         while (values.length && !values.at(-1)) values.pop();
         const address = '#' + [this.name, ...values].map(encodeURIComponent).join('/');
