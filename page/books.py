@@ -1,6 +1,5 @@
 """Runs `books`, which only reads a journal, for lists.py."""
 import csv
-import io
 import subprocess
 
 
@@ -15,12 +14,14 @@ class Books:
         self.program, self.journal, self.entries = program, journal, entries
 
     def lines(self, *words):
-        """The lines of a list, as they come. Where the program fails that is raised behind the last one."""
+        """The lines of a list, as they come. Where the program fails a fault follows the last."""
         at = [] if self.entries is None else ["--entries", str(self.entries)]
-        with subprocess.Popen([self.program, *words, *at, self.journal], stdout=subprocess.PIPE, stderr=subprocess.PIPE, encoding="utf-8") as run:
+        command = [self.program, *words, *at, self.journal]
+        pipes = {"stdout": subprocess.PIPE, "stderr": subprocess.PIPE}
+        with subprocess.Popen(command, encoding="utf-8", **pipes) as run:
             yield from run.stdout
             said = run.stderr.read().strip()
-        # 13: what stands before a damage is given. That the journal is damaged `check` and the service say.
+        # 13: what stands before a damage is given. That the journal is damaged the service says.
         if run.returncode not in (0, 13):
             raise Fault(f"books {' '.join(words)} ended with {run.returncode}: {said}")
 
@@ -33,12 +34,15 @@ class Books:
 
     def names(self, *words):
         """The names of a list's columns, which stand above its records alone."""
-        return next(csv.reader(io.StringIO("".join(Books(self.program, self.journal, 0).lines(*words, "--csv")))))
+        records = csv.reader(list(Books(self.program, self.journal, 0).lines(*words, "--csv")))
+        for names in records:
+            return names
+        raise Fault(f"books {' '.join(words)} names no columns")
 
     def rows(self, *words):
         """A list's rows as dictionaries."""
         names = self.names(*words)
         for fields in self.fields(*words):
             if len(fields) != len(names):
-                raise Fault(f"books {' '.join(words)}: a row of {len(fields)} fields, and {len(names)} are named")
+                raise Fault(f"books {' '.join(words)}: {len(fields)} fields, not {len(names)}")
             yield dict(zip(names, fields))

@@ -1,26 +1,37 @@
-"""Joins the lists of `books` for lists.py: a document with its items, and a row of the ledger with what its entry was to its document.
-It adds nothing up but the items of one document, and follows no rule.
+"""Joins the lists of `books` for lists.py: a document with its items, and a row of the ledger with
+what its entry was to its document. It adds up the items of one document alone, and follows no rule.
 
-A row of YEAR-fund-ID.json has place, day, desk, key, call, the document's kind, number and item, the word of `books documents`
-for what the entry was to it, party, fund, department, object, line, source, fiscal year, and cents appropriated, ordered, held,
-spent and received.
+A row of YEAR-documents.json has the columns of `books documents`, and one of YEAR-fund-ID.json
+those of LEDGER: `kind` is the document's, and `word` what `books documents` says of the entry.
 """
 import json
 from collections import defaultdict
 
-DOCUMENT = "kind number item day desk key party fund dept object line source year amount left state paid run entries".split()
-NUMBERS = ("number", "item", "desk", "party", "fund", "dept", "object", "line", "source", "year", "place", "document", "second")
-AMOUNTS = ("amount", "left", "open", "appropriated", "ordered", "held", "spent", "received")
-MOVED = ("appropriated", "ordered", "held", "spent", "received")
+ENTRY = "place day desk key call amount number".split()
+DOCUMENT = (
+    "kind number item day desk key party fund dept object line source year amount left state paid"
+    " run entries"
+).split()
+LEDGER = (
+    "place day desk key call kind document item word party fund dept object line source year"
+    " appropriated ordered held spent received"
+).split()
+NUMBERS = (
+    "number item desk party fund dept object line source year place document second"
+).split()
+AMOUNTS = "amount left open appropriated ordered held spent received".split()
+OPEN = ("requisition", "order", "voucher", "bill", "bond", "asset")
 # What the page calls what `books` lists under these words.
 PAGE = {"issue": "bond", "lease": "bond"}
-OPEN = ("requisition", "order", "voucher", "bill", "bond", "asset")
-# The kinds that a row of the ledger may be of, where its number alone doesn't tell; what is held is a requisition's.
+# The kinds that a row of the ledger may be of, where its number alone doesn't tell. What is held is
+# a requisition's.
 KINDS = ("voucher", "bill", "bond", "lease", "order")
+# The kinds whose items the ledger alone has.
+ITEMS = ("requisition", "voucher")
 
 
 def typed(row):
-    """A row with its numbers as integers, its amounts as cents, and nothing where a field is empty."""
+    """A row with its numbers as integers, its amounts as cents, and nothing in an empty field."""
     found = {name: (field or None) for name, field in row.items()}
     found.update((name, int(row[name])) for name in NUMBERS if row.get(name))
     found.update((name, int(row[name].replace(".", ""))) for name in AMOUNTS if row.get(name))
@@ -32,6 +43,8 @@ def compact(value):
 
 
 class Joins:
+    """Takes entries first, then what is open, documents and the ledger."""
+
     def __init__(self, papers):
         self.papers = papers
         self.days = []  # of entries
@@ -45,6 +58,8 @@ class Joins:
         self.by_year = {kind: defaultdict(list) for kind in ("entries", "documents")}
         self.ledgers = defaultdict(list)
 
+    # ---- entries
+
     def entry(self, row):
         self.days.append(row["day"])
         its = typed(row)
@@ -53,10 +68,13 @@ class Joins:
             self.numbers[its["desk"], its["key"]] = numbers[its["call"]]
         if its["call"] == "collect":
             self.collected.append(its)
-        self.by_year["entries"][row["day"][:4]].append(compact([its[name] for name in ("place", "day", "desk", "key", "call", "amount", "number")]))
+        self.put("entries", its, ENTRY)
+
+    def put(self, kind, its, columns):
+        self.by_year[kind][its["day"][:4]].append(compact([its[name] for name in columns]))
 
     def debt(self, line):
-        """A call as books prints it, which enters or pays a debt."""
+        """A call as `books` prints it, which enters or pays a debt."""
         call = json.loads(line)
         self.papers.debt(self.numbers.get((call["desk"], call["key"])), call)
 
@@ -66,42 +84,51 @@ class Joins:
         else:
             self.opened.add((PAGE.get(row["call"], row["call"]), int(row["number"])))
 
-    # ---- what documents are
+    # ---- documents
 
     def document(self, row):
         its = typed(row)
+        kind, number, item = its["kind"], its["number"], its["item"] or 0
         words = [each.rsplit(" ", 1) for each in row["entries"].split("; ")]
-        self.words.update(((int(place), its["kind"], its["number"], its["item"] or 0), word) for word, place in words)
+        self.words.update(((int(place), kind, number, item), word) for word, place in words)
         self.papers.document(its, [int(place) for _, place in words])
         # `books open` has no assets, so each asset is shown, with its state.
-        if its["kind"] == "asset" or (PAGE.get(its["kind"], its["kind"]), its["number"]) in self.opened:
-            self.documents[its["kind"], its["number"]].append(its)
-        self.by_year["documents"][row["day"][:4]].append(compact([its[name] for name in DOCUMENT]))
+        if kind == "asset" or (PAGE.get(kind, kind), number) in self.opened:
+            self.documents[kind, number].append(its)
+        self.put("documents", its, DOCUMENT)
 
     def ledger(self, row):
         its = typed(row)
         self.papers.ledger(its)
-        kind, word = self.said_of(its)
-        if kind == its["call"] and kind in ("requisition", "voucher") and (kind, its["document"]) in self.documents:
-            self.items[kind, its["document"]].append([its["fund"], its["dept"], its["object"], its["held"] + its["spent"]])
-        head, names = [its[name] for name in ("place", "day", "desk", "key", "call")], ("party", "fund", "dept", "object", "line", "source", "year", *MOVED)
-        self.ledgers[its["year"], its["fund"]].append(compact([*head, kind, its["document"], its["item"], word, *(its[name] for name in names)]))
+        its["kind"], its["word"] = self.said_of(its)
+        name = its["kind"], its["document"]
+        if its["kind"] == its["call"] and name in self.documents:
+            amount = its["held"] + its["spent"]
+            self.items[name].append([its["fund"], its["dept"], its["object"], amount])
+        self.ledgers[its["year"], its["fund"]].append(compact([its[name] for name in LEDGER]))
 
     def said_of(self, its):
         """The kind of the document that a row is of, and what the entry was to it."""
-        number, item = its["document"], its["item"] or 0
+        place, number = its["place"], its["document"]
         for kind in ("requisition",) if its["held"] else KINDS:
-            word = self.words.get((its["place"], kind, number, item)) or self.words.get((its["place"], kind, number, 0))
-            if word:
-                return kind, word
+            for item in (its["item"] or 0, 0):
+                word = self.words.get((place, kind, number, item))
+                if word:
+                    return kind, word
         return None, None
 
     def shown(self, kind, rows):
-        first, number = rows[0], rows[0]["number"]
-        items = self.items.get((kind, number)) or [[row["fund"], row["dept"], row["object"], row["amount"]] for row in rows]
+        """What is open, by the rows of its items."""
+        first, parts = rows[0], ("fund", "dept", "object", "amount")
+        names = ("number", "day", "desk", "key", "year", "source", "fund", "state")
+        of_rows = [[row[name] for name in parts] for row in rows]
         return {
-            **{name: first[name] for name in ("number", "day", "desk", "key", "year", "source", "fund", "state")}, "kind": kind,
-            "who": first["party"], "cents": sum(row["amount"] for row in rows), "left": sum(row["left"] for row in rows), "items": items,
+            **{name: first[name] for name in names},
+            "kind": kind,
+            "who": first["party"],
+            "cents": sum(row["amount"] for row in rows),
+            "left": sum(row["left"] for row in rows),
+            "items": self.items[kind, first["number"]] if kind in ITEMS else of_rows,
         }
 
     # ---- files
@@ -119,6 +146,8 @@ class Joins:
 
     def files(self):
         """Each file's name, with its text."""
-        files = {f"{year}-{kind}.json": rows for kind, years in self.by_year.items() for year, rows in years.items()}
-        ledgers = {f"{year}-fund-{fund}.json": rows for (year, fund), rows in self.ledgers.items()}
-        return {name: f"[{','.join(rows)}]" for name, rows in {**files, **ledgers}.items()}
+        files = {}
+        for kind, years in self.by_year.items():
+            files |= {f"{year}-{kind}.json": rows for year, rows in years.items()}
+        files |= {f"{year}-fund-{fund}.json": rows for (year, fund), rows in self.ledgers.items()}
+        return {name: f"[{','.join(rows)}]" for name, rows in files.items()}

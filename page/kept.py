@@ -5,10 +5,11 @@
     statement-YEAR-KIND-PLACE.json    a statement of the first entries, up to a close
     month-2026-07.json                a month of `books month`
 
-Each has the rows of `books` as they are, of the last three fiscal years that have entries. `kept.json` names each by its fiscal year,
-its kind, and its day or place, with the number of entries that it is of, and what it depends on. A file is made anew where more
-entries are dated through its day than when it was made; that of a close never changes. After some seconds making them stops, and it
-goes on with the next run, with what is missing first.
+Each has the rows of `books` as they are, of the last three fiscal years that have entries.
+`kept.json` names each by its fiscal year, its kind, and its day or place, with the number of
+entries that it counts, and what it depends on. A file is made anew where more entries are dated
+through its day than when it was made; that of a close never changes. After some seconds no further
+one is begun. The next run goes on, first with what is missing, then with what is oldest.
 """
 import bisect
 import calendar
@@ -18,7 +19,9 @@ import time
 from books import Books, Fault
 from joins import compact
 
-KINDS = ("balance", "operating", "budget", "position", "activities", "reconcile", "changes", "classes", "components", "major")
+KINDS = (
+    "balance operating budget position activities reconcile changes classes components major"
+).split()
 NO_DOOR, BY_DAY = KINDS[7:], KINDS[:5]
 YEARS, FAULTS = 3, 3
 
@@ -38,7 +41,9 @@ class Calendar:
 
     def after(self, closed):
         """The month behind the last closed one; where none is closed, the first of all."""
-        return month_of(int(closed[-1][:4]) * 12 + int(closed[-1][5:])) if closed else self.months(self.first_year)[0]
+        if not closed:
+            return self.months(self.first_year)[0]
+        return month_of(int(closed[-1][:4]) * 12 + int(closed[-1][5:]))
 
 
 def month_of(count):
@@ -49,66 +54,77 @@ def end_of(month):
     return f"{month}-{calendar.monthrange(int(month[:4]), int(month[5:]))[1]}"
 
 
+def name_of(year, kind, at):
+    return f"month-{at}.json" if kind == "month" else f"statement-{year}-{kind}-{at}.json"
+
+
 class Kept:
-    """What is kept of a journal. `days` has the day of each entry, rising; `closed` what each close closed, with its place."""
+    """`days` has the day of each entry, rising; `closed` what each close closed, and its place."""
 
     def __init__(self, books, folder, chart, days, closed):
-        self.books, self.folder, self.calendar, self.days, self.closed = books, folder, Calendar(chart), days, closed
-        self.count, self.names = len(days), {}
+        self.books, self.folder, self.calendar = books, folder, Calendar(chart)
+        self.days, self.closed, self.count, self.names = days, closed, len(days), {}
 
     def wanted(self):
-        """What is to be kept, the most wanted first: its words, its year, kind, and day or place, how many entries it is asked of,
-        and what it depends on.
+        """What is to be kept: its words, its year, kind, and day or place, how many entries it is
+        asked of, and what it depends on.
         """
         years = sorted({self.calendar.year(day) for day in self.days})[-YEARS:]
         for year in years[::-1]:
             for kind in NO_DOOR:
-                yield ["statement", str(year), kind], [year, kind, "now"], self.count, self.count
-        for year, month in [(year, month) for year in years for month in self.calendar.months(year) if month <= self.days[-1][:7]][::-1]:
-            day = end_of(month)
-            through = bisect.bisect_right(self.days, day)
-            yield ["month", month], [year, "month", month], self.count, [through, len(self.closed)]
-            for kind in BY_DAY:
-                yield ["statement", str(year), kind, "--through", day], [year, kind, day], self.count, through
+                yield ["statement", str(year), kind], (year, kind, "now"), self.count, self.count
+            for month in self.calendar.months(year)[::-1]:
+                if month <= self.days[-1][:7]:
+                    yield from self.of_month(year, month)
         for closed, place in self.closed[::-1]:
-            year = self.calendar.year(closed + "-01") if "-" in closed else int(closed)
+            year = self.calendar.year(closed) if "-" in closed else int(closed)
             for kind in KINDS if year in years else ():
-                yield ["statement", str(year), kind], [year, kind, place], place, place
+                yield ["statement", str(year), kind], (year, kind, place), place, place
+
+    def of_month(self, year, month):
+        day = end_of(month)
+        through = bisect.bisect_right(self.days, day)
+        yield ["month", month], (year, "month", month), self.count, [through, len(self.closed)]
+        for kind in BY_DAY:
+            words = ["statement", str(year), kind, "--through", day]
+            yield words, (year, kind, day), self.count, through
 
     def make(self, until):
-        """Makes what is missing, and then what is oldest, until a moment; at least one. Gives whether all is there."""
-        kept = {tuple(head): (entries, mark) for *head, entries, mark in self.folder.value("kept.json") or []}
-        wanted = [(*each, *kept.get(tuple(each[1]), (-1, None))) for each in self.wanted()] if self.count else []
-        old, faults = [each for each in wanted if each[3] != each[5]], 0
-        for words, head, entries, mark, *_ in sorted(old, key=lambda each: each[4]):
-            is_made = self.put(words, name_of(*head), entries)
-            faults += not is_made
-            if is_made:
-                kept[tuple(head)] = entries, mark
+        """Makes what is missing or old, until a moment, and at least one. Gives whether all is
+        there.
+        """
+        kept = {tuple(head): said for *head, said in self.folder.value("kept.json") or []}
+        wanted, faults = list(self.wanted()) if self.count else [], 0
+        old = [each for each in wanted if kept.get(each[1], [0, None])[1] != each[3]]
+        for words, head, entries, mark in sorted(old, key=lambda each: kept.get(each[1], [0])[0]):
+            if self.put(words, name_of(*head), entries):
+                kept[head] = [entries, mark]
+            else:
+                faults += 1
             if faults == FAULTS or time.monotonic() >= until:
                 break
-        # What didn't change counts all entries.
-        index = [[*head, *((entries, mark) if kept[tuple(head)][1] == mark else kept[tuple(head)])] for _, head, entries, mark, *_ in wanted if tuple(head) in kept]
-        self.folder.write("kept.json", compact(index))
-        self.folder.keep(("statement-", "month-"), {name_of(*head) for *head, _, _ in index})
-        return all(kept.get(tuple(head), (0, None))[1] == mark for _, head, _, mark, *_ in wanted)
+        # What depends on no entry that was added counts all of them.
+        for _, head, entries, mark in wanted:
+            if head in kept and kept[head][1] == mark:
+                kept[head] = [entries, mark]
+        heads = [head for _, head, _, _ in wanted if head in kept]
+        self.folder.write("kept.json", compact([[*head, kept[head]] for head in heads]))
+        self.folder.keep(("statement-", "month-"), {name_of(*head) for head in heads})
+        return all(kept.get(head, [0, None])[1] == mark for _, head, _, mark in wanted)
 
     def put(self, words, name, entries):
         books = Books(self.books.program, self.books.journal, entries)
         try:
-            self.folder.write(name, compact({"names": self.named(words), "rows": list(books.fields(*words))}))
+            table = {"names": self.named(words), "rows": list(books.fields(*words))}
         except Fault as fault:
             print(f"lists: {name} isn't made: {fault}", file=sys.stderr)
             return False
+        self.folder.write(name, compact(table))
         return True
 
     def named(self, words):
         """The names of columns are those of the kind, whatever the year and the day."""
-        kind = words[2:3]
-        if tuple(kind) not in self.names:
-            self.names[tuple(kind)] = self.books.names(*words)
-        return self.names[tuple(kind)]
-
-
-def name_of(year, kind, at):
-    return f"month-{at}.json" if kind == "month" else f"statement-{year}-{kind}-{at}.json"
+        kind = words[2] if words[0] == "statement" else words[0]
+        if kind not in self.names:
+            self.names[kind] = self.books.names(*words)
+        return self.names[kind]

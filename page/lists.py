@@ -1,11 +1,11 @@
 #!/usr/bin/env python3
-"""Makes what the page can't ask of a door, of what `books` prints of a journal, which it only reads:
+"""Makes what the page can't ask of a door, of what `books` prints of a journal:
 
     lists.py BOOKS JOURNAL FOLDER [VENDORS [SECONDS]]
 
     chart.json            the chart
-    state.json            the entries, the last day, the closed months and years, the files that there
-                          are, when this was made, and what couldn't be read
+    state.json            the entries, the last day, the closed months and years, the files that
+                          there are, when this was made, and what couldn't be read
     open.json             what is open, by kind, each with its items; and every asset
     YEAR-entries.json     of the days of a calendar year: place, day, desk, key, call, cents, number
     YEAR-documents.json   of the same days: the columns of `books documents`, with cents
@@ -16,10 +16,10 @@
 
 SECONDS, 45 where they aren't said, behind its start it begins no further statement.
 
-What is open, what a document is and what an entry moved `books` says; here columns are joined alone.
-A file is written beside and moved into its place, where its contents changed. Lists are made anew
-where the journal has changed. A row that can't be read is skipped, and said on standard error and in
-state.json, with the time. All others are listed.
+What is open, what a document is and what an entry moved `books` says; here columns are joined
+alone. A file is written beside and moved into its place, where its contents changed. Lists are made
+anew where the journal has changed. A row that can't be read is skipped, and said on standard error
+and in state.json, with the time. All others are listed.
 """
 import datetime
 import json
@@ -94,14 +94,17 @@ class Skips:
         if self.count > SKIPS:
             return
         row = row if isinstance(row, dict) else {}
-        number, key = row.get("number") or row.get("place") or "", row.get("key", "")
+        key, number = row.get("key", ""), row.get("number") or row.get("place") or ""
         name = f"{row.get('kind') or what} {number}".strip()
         self.said.append({"what": name, "key": key, "time": self.made})
         print(f"lists: {self.made}: {name} ({key}) can't be read: {fault!r}", file=sys.stderr)
 
+    def state(self):
+        return {"made": self.made, "skips": self.count, "skipped": self.said}
+
 
 def is_of_debt(line):
-    """Whether a call has principals, or pays a debt: no key has such marks, since a quote stands with another before it."""
+    """Whether a call enters or pays a debt. No key has such marks: its quotes are escaped."""
     return '"principals":' in line or '"call":"pay_due"' in line
 
 
@@ -112,20 +115,29 @@ def lists_of(books, folder):
     chart = {**{table: [] for table in TABLES}, **tomllib.loads(books.chart())}
     skips.each("entry", books.rows("list"), joins.entry)
     books.entries = len(joins.days)
-    for what, words, take in (("open document", "open", joins.open), ("document", "documents", joins.document), ("ledger row of entry", "ledger", joins.ledger)):
-        skips.each(what, books.rows(words), take)
+    skips.each("open document", books.rows("open"), joins.open)
+    skips.each("document", books.rows("documents"), joins.document)
+    skips.each("ledger row of entry", books.rows("ledger"), joins.ledger)
     skips.each("receipt of entry", joins.collected, paper.entry)
     skips.each("debt", filter(is_of_debt, books.lines("calls")), joins.debt)
     values = {"chart.json": chart, "open.json": joins.open_documents(), **paper.files()}
-    for name, text in {**joins.files(), **{name: compact(value) for name, value in values.items()}}.items():
+    files = joins.files() | {name: compact(value) for name, value in values.items()}
+    for name, text in files.items():
         folder.write(name, text)
-    days, months = joins.days, [closed for closed, _ in joins.closed if "-" in closed]
-    folder.write("state.json", compact({
-        "entries": books.entries, "last": days[-1] if days else "", "latest": max(days, default=""),
-        "months": len(months), "years": len(joins.closed) - len(months), "next": Calendar(chart).after(months),
-        "files": {**joins.years(), **paper.state()}, "made": skips.made, "skips": skips.count, "skipped": skips.said,
-    }))
-    return chart, sorted(days), joins.closed
+    state = state_of(joins, Calendar(chart)) | skips.state()
+    folder.write("state.json", compact(state | {"files": {**joins.years(), **paper.state()}}))
+    return chart, sorted(joins.days), joins.closed
+
+
+def state_of(joins, calendar):
+    months = [closed for closed, _ in joins.closed if "-" in closed]
+    return {
+        "entries": len(joins.days),
+        "last": joins.days[-1] if joins.days else "",
+        "months": len(months),
+        "years": len(joins.closed) - len(months),
+        "next": calendar.after(months),
+    }
 
 
 def stamp(journal):
@@ -135,10 +147,13 @@ def stamp(journal):
 
 
 def name_vendors(folder, path=None):
-    """Takes the names of vendors, where they changed. What is wrong with their file is said each time; the old names stay."""
+    """Takes the names of vendors. What is wrong with their file is said each time; the old names
+    stay.
+    """
     names = vendors.taken(path, folder.path)
     if names["fault"]:
-        print(f"lists: {path}: {names['fault']}. The names that were read before stay.", file=sys.stderr)
+        said = f"{names['fault']}. The names that were read before stay."
+        print(f"lists: {path}: {said}", file=sys.stderr)
     folder.write("vendors.json", compact(names))
 
 
@@ -153,7 +168,7 @@ def main():
     if done == [now, True]:
         return
     chart, days, closed = lists_of(books, folder)
-    # The stamp was taken before the journal was read: what was added meanwhile is found the next time.
+    # The stamp was taken before the journal was read, so what was added since is found next time.
     is_whole = Kept(books, folder, chart, days, closed).make(began + seconds)
     folder.write("stamp", compact([now, is_whole]))
     print(f"lists: {len(days)} entries")

@@ -72,7 +72,7 @@ export class Lists {
 
     /** Which statements and months are kept: their year, kind, and day or place, and their entries. */
     async kept() {
-        return (await got('data/kept.json').catch(() => [])).map(([year, kind, at, entries]) => ({year, kind, at: String(at), entries}));
+        return (await got('data/kept.json').catch(() => [])).map(([year, kind, at, [entries]]) => ({year, kind, at: String(at), entries}));
     }
 
     /** The rows of a kept statement or month, as `books` prints them. */

@@ -26,7 +26,13 @@ class Lists:
         os.makedirs(self.out, exist_ok=True)
         for name in os.listdir(self.out):
             os.remove(os.path.join(self.out, name))
-        words = [sys.executable, os.path.join(TOP, "page", "lists.py"), books, os.path.join(folder, "fund.journal"), self.out]
+        words = [
+            sys.executable,
+            os.path.join(TOP, "page", "lists.py"),
+            books,
+            os.path.join(folder, "fund.journal"),
+            self.out,
+        ]
         done = subprocess.run(words, capture_output=True, text=True)
         if done.returncode:
             sys.exit(f"listed: lists.py ended with {done.returncode}: {done.stderr.strip()}")
@@ -38,11 +44,18 @@ class Lists:
             return json.load(file)
 
     def rows(self, *words):
-        ran = subprocess.run([self.books, *words, os.path.join(self.folder, "fund.journal"), "--csv"], check=True, capture_output=True, text=True)
+        ran = subprocess.run(
+            [self.books, *words, os.path.join(self.folder, "fund.journal"), "--csv"],
+            check=True,
+            capture_output=True,
+            text=True,
+        )
         return list(csv.DictReader(io.StringIO(ran.stdout)))
 
     def of_years(self, kind):
-        return [row for year in self.state["files"][kind] for row in self.file(f"{year}-{kind}.json")]
+        return [
+            row for year in self.state["files"][kind] for row in self.file(f"{year}-{kind}.json")
+        ]
 
 
 def same(what, found, wanted):
@@ -61,19 +74,45 @@ def opened(lists):
     for row in rows:
         if row["call"] != "close":
             left[PAGE.get(row["call"], row["call"]), int(row["number"])] += cents(row["open"])
-    listed = {(kind, each["number"]): each["left"] for kind, found in lists.open.items() if kind != "asset" for each in found}
+    listed = {
+        (kind, each["number"]): each["left"]
+        for kind, found in lists.open.items()
+        if kind != "asset"
+        for each in found
+    }
     # A requisition's or an order's items are open or not each by itself.
     same("what is open", listed, dict(left))
-    assets = [(int(row["number"]), cents(row["amount"]), row["state"]) for row in lists.rows("documents", "--kind", "asset")]
-    same("assets", [(each["number"], each["cents"], each["state"]) for each in lists.open["asset"]], assets)
+    assets = [
+        (int(row["number"]), cents(row["amount"]), row["state"])
+        for row in lists.rows("documents", "--kind", "asset")
+    ]
+    same(
+        "assets",
+        [(each["number"], each["cents"], each["state"]) for each in lists.open["asset"]],
+        assets,
+    )
     closed = [row["closed"] for row in rows if row["call"] == "close"]
     same("closed months", lists.state["months"], sum("-" in each for each in closed))
 
 
 def documents(lists):
-    wanted = Counter((row["kind"], int(row["number"]), row["item"], row["state"], row["entries"]) for row in lists.rows("documents"))
-    same("documents", Counter((row[0], row[1], str(row[2] or ""), row[15], row[18]) for row in lists.of_years("documents")), wanted)
-    same("entries", sorted(row[0] for row in lists.of_years("entries")), list(range(1, len(lists.rows("list")) + 1)))
+    wanted = Counter(
+        (row["kind"], int(row["number"]), row["item"], row["state"], row["entries"])
+        for row in lists.rows("documents")
+    )
+    same(
+        "documents",
+        Counter(
+            (row[0], row[1], str(row[2] or ""), row[15], row[18])
+            for row in lists.of_years("documents")
+        ),
+        wanted,
+    )
+    same(
+        "entries",
+        sorted(row[0] for row in lists.of_years("entries")),
+        list(range(1, len(lists.rows("list")) + 1)),
+    )
 
 
 def lines(lists):
@@ -81,19 +120,45 @@ def lines(lists):
     found = Counter()
     for year, fund in lists.state["files"]["funds"]:
         for row in lists.file(f"{year}-fund-{fund}.json"):
-            found.update({(year, row[13], name): row[place] for name, place in SUMS.items() if row[13] is not None})
-    wanted = {(year, int(row["line"]), name): cents(row[name]) for year in sorted({year for year, _ in lists.state["files"]["funds"]})
-              for row in lists.rows("statement", str(year), "budget") if row["line"] for name in SUMS}
-    same("the ledger of lines", {key: amount for key, amount in found.items() if amount}, {key: amount for key, amount in wanted.items() if amount})
+            found.update(
+                {
+                    (year, row[13], name): row[place]
+                    for name, place in SUMS.items()
+                    if row[13] is not None
+                }
+            )
+    wanted = {
+        (year, int(row["line"]), name): cents(row[name])
+        for year in sorted({year for year, _ in lists.state["files"]["funds"]})
+        for row in lists.rows("statement", str(year), "budget")
+        if row["line"]
+        for name in SUMS
+    }
+    same(
+        "the ledger of lines",
+        {key: amount for key, amount in found.items() if amount},
+        {key: amount for key, amount in wanted.items() if amount},
+    )
 
 
 def skips(lists, *skipped):
     moment = datetime.datetime.fromisoformat(lists.state["made"])
     if not 0 <= (datetime.datetime.now(datetime.timezone.utc) - moment).total_seconds() < 600:
         sys.exit(f"listed: made at {lists.state['made']}")
-    same("skipped", [(each["what"], each["time"]) for each in lists.state["skipped"]], [(what, lists.state["made"]) for what in skipped])
+    same(
+        "skipped",
+        [(each["what"], each["time"]) for each in lists.state["skipped"]],
+        [(what, lists.state["made"]) for what in skipped],
+    )
     same("the count of skipped", lists.state["skips"], len(skipped))
-    same("what is said", [line.startswith(f"lists: {lists.state['made']}: {what} (") for what, line in zip(skipped, lists.said)], [True] * len(skipped))
+    same(
+        "what is said",
+        [
+            line.startswith(f"lists: {lists.state['made']}: {what} (")
+            for what, line in zip(skipped, lists.said)
+        ],
+        [True] * len(skipped),
+    )
     same("the lines that are said", len(lists.said), len(skipped))
 
 
