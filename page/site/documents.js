@@ -4,14 +4,19 @@ import {made, row, table} from './dom.js';
 import {wordsOf} from './lists.js';
 import {money, plain, sum} from './money.js';
 
-const KINDS = {requisition: 'Requisition', order: 'Order', voucher: 'Voucher', bill: 'Bill', asset: 'Asset', bond: 'Bond', lease: 'Lease', loan: 'Loan'};
-export const MOVED = [['appropriated', 'Appropriated'], ['ordered', 'Ordered'], ['held', 'Held'], ['spent', 'Spent'], ['received', 'Received']];
+const KINDS = {
+    requisition: 'Requisition', order: 'Order', voucher: 'Voucher', bill: 'Bill', asset: 'Asset',
+    bond: 'Bond', lease: 'Lease', loan: 'Loan',
+};
+const MOVED = [['appropriated', 'Appropriated'], ['ordered', 'Ordered'], ['held', 'Held'],
+    ['spent', 'Spent'], ['received', 'Received']];
+const HEADS = ['Entry', 'Day', 'What', 'Key', 'Document', 'Vendor or payer'];
 // How many rows of a ledger are shown, the last ones. The sheet and the totals have all.
 const MOST = 500;
 
-export const entryLink = (place, text = String(place)) => made('a', {href: `#entry/${place}`}, text);
-
-const separated = (parts, between) => parts.flatMap((part, place) => place ? [between, part] : [part]);
+export function entryLink(place, text = String(place)) {
+    return made('a', {href: `#entry/${place}`}, text);
+}
 
 export class Documents {
     constructor({chart, vendors, tables}) {
@@ -35,22 +40,29 @@ export class Documents {
         return state + rest + (paid ? `, last paid on ${paid} by ${run}` : '');
     }
 
+    /** A way to each entry of a document. */
+    ways(each) {
+        const links = wordsOf(each).map(([word, place]) => entryLink(place, `${word} ${place}`));
+        return made('span', {}, ...links.flatMap((link, at) => at ? [' ', link] : [link]));
+    }
+
     table(caption, found) {
-        const heads = ['Document', 'Day', 'Key', 'Vendor or payer', ['Amount', true], 'What became of it', 'Entries'];
-        const rows = found.map(each => row([this.name(each), each.day, each.key, this.party(each.kind, each.party), money(each.cents), this.became(each),
-            made('span', {}, ...separated(wordsOf(each).map(([word, place]) => entryLink(place, `${word} ${place}`)), ' '))]));
+        const heads = ['Document', 'Day', 'Key', 'Vendor or payer', ['Amount', true],
+            'What became of it', 'Entries'];
+        const rows = found.map(each => row([this.name(each), each.day, each.key,
+            this.party(each.kind, each.party), money(each.cents), this.became(each),
+            this.ways(each)]));
         return table(caption, heads, rows, 'cards');
     }
 }
 
-/** The ledger's rows as a table and as a sheet. `narrow` leaves out what all rows have. */
+/** The ledger's rows as a table and as a sheet. `isNarrow` leaves out what is one line's. */
 export class LedgerRows {
-    constructor(documents, narrow) {
-        Object.assign(this, {documents, narrow, chart: documents.chart, tables: documents.tables});
-    }
-
-    get moved() {
-        return this.narrow ? MOVED.slice(0, 4) : MOVED;
+    constructor(documents, isNarrow) {
+        const {chart, tables} = documents;
+        const moved = isNarrow ? MOVED.filter(([name]) => name !== 'received') : MOVED;
+        const heads = isNarrow ? HEADS : [...HEADS, 'Line or source'];
+        Object.assign(this, {documents, isNarrow, moved, heads, chart, tables});
     }
 
     /** A call, and what it was to the document, as "Close a month or a year: carried". */
@@ -61,39 +73,40 @@ export class LedgerRows {
 
     of({line, source, fund}) {
         if (line !== null) return this.chart.lineInFull(line);
-        return source !== null ? this.chart.name('source', source) : this.chart.name('fund', fund);
+        return source === null ? this.chart.name('fund', fund) : this.chart.name('source', source);
     }
 
-    document(each) {
-        return each.document === null ? '' : this.documents.name({...each, kind: each.kind || 'document', number: each.document});
+    document({kind, document, item}) {
+        return document === null ? ''
+            : this.documents.name({kind: kind || 'document', number: document, item});
     }
 
     texts(each) {
-        const head = [this.what(each), each.key, this.document(each), this.documents.party(each.kind, each.party)];
-        return [String(each.place), each.day, ...head, ...(this.narrow ? [] : [this.of(each)])];
+        const party = this.documents.party(each.kind, each.party);
+        const texts = [String(each.place), each.day, this.what(each), each.key,
+            this.document(each), party];
+        return this.isNarrow ? texts : [...texts, this.of(each)];
     }
 
-    heads() {
-        return ['Entry', 'Day', 'What', 'Key', 'Document', 'Vendor or payer', ...(this.narrow ? [] : ['Line or source'])];
-    }
-
-    totals(found) {
-        return this.moved.map(([name]) => sum(found.map(each => each[name])));
+    row(each) {
+        const [place, ...texts] = this.texts(each);
+        const amounts = this.moved.map(([name]) => each[name] ? money(each[name]) : '');
+        return row([entryLink(place), ...texts, ...amounts]);
     }
 
     table(caption, found) {
-        const rows = found.slice(-MOST).reverse().map(each => {
-            const [place, ...texts] = this.texts(each);
-            return row([entryLink(place), ...texts, ...this.moved.map(([name]) => each[name] ? money(each[name]) : '')]);
-        });
-        const more = found.length > MOST ? `Total of all ${found.length} rows, of which the last ${MOST} are shown` : 'Total';
-        const blank = this.heads().slice(1).map(() => '');
-        rows.push(row([more, ...blank, ...this.totals(found).map(money)], 'sum'));
-        return table(caption, [...this.heads(), ...this.moved.map(([, text]) => [text, true])], rows, 'cards');
+        const rows = found.slice(-MOST).reverse().map(each => this.row(each));
+        const total = found.length <= MOST ? 'Total'
+            : `Total of all ${found.length} rows, of which the last ${MOST} are shown`;
+        const sums = this.moved.map(([name]) => money(sum(found.map(each => each[name]))));
+        rows.push(row([total, ...this.heads.slice(1).map(() => ''), ...sums], 'sum'));
+        const heads = [...this.heads, ...this.moved.map(([, text]) => [text, true])];
+        return table(caption, heads, rows, 'cards');
     }
 
     sheet(found) {
-        const heads = [...this.heads(), ...this.moved.map(([, text]) => text)];
-        return [heads, ...found.map(each => [...this.texts(each), ...this.moved.map(([name]) => plain(each[name]))])];
+        const amounts = each => this.moved.map(([name]) => plain(each[name]));
+        const heads = [...this.heads, ...this.moved.map(([, text]) => text)];
+        return [heads, ...found.map(each => [...this.texts(each), ...amounts(each)])];
     }
 }
