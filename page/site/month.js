@@ -7,7 +7,7 @@ import {dated, today} from './chart.js';
 import {sheet} from './cells.js';
 import {cents, money} from './money.js';
 
-const AMOUNTS = [['appropriated', 'Appropriated'], ['month', 'In the month'],
+const AMOUNTS = [['budget', 'Appropriated'], ['month', 'In the month'],
     ['year', 'In the year'], ['on_order', 'On order'], ['held', 'Held'], ['left', 'Left']];
 const BEFORE = [['month_before', 'The month a year before'],
     ['year_before', 'The year before, to that month']];
@@ -73,7 +73,8 @@ export class Month {
 
     parts(kept, all, dept) {
         const title = `${this.chart.city}: ${dated(kept.at)} by department, fiscal year ${kept.year}`;
-        const state = all.find(each => each.kind === 'month')?.part_name || 'open';
+        // The first row is as `month 2027-01 open`.
+        const state = all[0].part.split(' ')[2];
         const funds = [...new Set(all.map(each => each.fund).filter(Boolean))];
         const rows = funds.flatMap(fund => this.ofFund(all.filter(each => each.fund === fund), dept));
         const heads = ['', 'Of the appropriation', ...AMOUNTS.map(([, text]) => [text, true]),
@@ -85,15 +86,15 @@ export class Month {
 
     /** A fund with its departments, their lines where they are asked for, and its sources. */
     ofFund(rows, dept) {
-        const of = kind => rows.filter(each => each.kind === kind), [fund] = of('fund');
+        const of = part => rows.filter(each => each.part === part), [fund] = of('fund');
         const depts = of('department').filter(each => !dept || each.dept === dept);
         if (dept && !depts.length) return [];
         const lines = byId('month-lines').checked ? of('line') : [];
         const parts = depts.flatMap(each => [this.row(each.dept_name, each, 'part'),
             ...lines.filter(line => line.dept === each.dept)
-                .map(line => this.row(line.part_name || line.part, line))]);
+                .map(line => this.row(line.line_name || line.line_part, line))]);
         const sources = dept ? [] : of('source');
-        const revenue = sources.map(each => this.row(`${each.part_name} (revenue)`, each));
+        const revenue = sources.map(each => this.row(`${each.source_name} (revenue)`, each));
         const head = dept ? this.blank(rows[0].fund_name) : this.row(fund.fund_name, fund, 'head');
         return [head, ...parts, ...revenue];
     }
@@ -103,13 +104,13 @@ export class Month {
     }
 
     row(name, each, className) {
-        const isSource = each.kind === 'source';
-        const its = {all: amountOf(each, 'appropriated'), spent: amountOf(each, 'year'),
+        const isSource = each.part === 'source';
+        const its = {all: amountOf(each, 'budget'), spent: amountOf(each, 'year'),
             ordered: amountOf(each, 'on_order'), held: amountOf(each, 'held'),
             room: amountOf(each, 'left')};
         const text = ([part]) => money(amountOf(each, part)), amounts = AMOUNTS.map(text);
         if (!isSource && isLow(its)) amounts.push(made('b', {className: 'low'}, amounts.pop()));
-        const made_ = row([name, isSource ? '' : bar(its), ...amounts, each.percent,
+        const made_ = row([name, isSource ? '' : bar(its), ...amounts, each.percent_left,
             ...BEFORE.map(text)], className);
         for (const cell of [...made_.children].slice(2)) cell.className = 'amount';
         return made_;

@@ -314,13 +314,13 @@ def printed(stand, clerk, name, address, count):
 
 
 AMOUNTS = (
-    "appropriated",
+    "budget",
     "month",
     "year",
     "on_order",
     "held",
     "left",
-    "percent",
+    "percent_left",
     "month_before",
     "year_before",
 )
@@ -345,7 +345,7 @@ def month(stand, clerk):
     stand.same(
         "a month by department",
         [[row[0], *row[2:]] for row in shown],
-        [[row["dept_name"], *of(row)] for row in rows if row["kind"] == "department"],
+        [[row["dept_name"], *of(row)] for row in rows if row["part"] == "department"],
     )
     stand.holds(
         "its entries and its state",
