@@ -340,7 +340,7 @@ def month(stand, clerk):
         "[...document.querySelectorAll('#month-table tr.part')].map(row => [...row.children].map(cell => cell.textContent.replace('▼ ', '')))"
     )
     of = lambda row: [
-        row[name] if name == "percent" else money(cents(row[name])) for name in AMOUNTS
+        row[name] if name == "percent_left" else money(cents(row[name])) for name in AMOUNTS
     ]
     stand.same(
         "a month by department",
