@@ -5,7 +5,8 @@ fields (CALLS.md), the refusals with what to do next (RULES.md), and what the pa
     tables.py            writes site/tables.json
     tables.py --check    says where it isn't what the docs have, and ends with 1
 
-It stops at a cell that it can't read, and at a call, a field or a word that PAGE.md has no name for: so docs and page can't drift apart.
+It stops at a cell that it can't read, and at a call, a word or a field of several words that PAGE.md
+has no name for: then docs and page can't drift apart. A field of one word is called by its name.
 """
 import json
 import os
@@ -57,13 +58,14 @@ class Names:
         return named(self.calls, word, "call")
 
     def field(self, name):
-        if name not in self.fields:
-            raise tables.Unread(f"docs/PAGE.md has no name for the field {name}")
-        return self.fields[name]
+        """Its label and its hint. One without a row is called by its name."""
+        return self.fields.get(name) or (name.capitalize(), "")
 
 
 def field_of(field, names, used):
     label, hint = names.field(field.name)
+    if not label.isalpha() and field.name not in names.fields:
+        raise tables.Unread(f"docs/PAGE.md has no name for the field {field.name}")
     used.add(field.name)
     made = {"name": field.name, "type": field.type, "label": label}
     if hint:

@@ -96,7 +96,7 @@ export class Amounts {
             return row([this.chart.name('department', dept), money(own), ...(this.before.size ? [money(was), money(own - was)] : [])]);
         });
         const more = this.before.size ? [['The year before', true], ['More', true]] : [];
-        return table('By department', ['Department', [this.field.label, true], ...more], rows);
+        return table('By department', ['Department', [this.field.label, true], ...more], rows, 'cards');
     }
 
     /**
@@ -129,7 +129,9 @@ export class Amounts {
         const [dept, part] = cells.slice(-2), {chart} = this;
         return this.isLines ? this.pairs().find(([id]) => {
             const line = chart.line[id];
-            return (same(line.dept, dept) || same(chart.name('department', line.dept), dept)) && (same(line.object, part) || same(chart.part(line), part));
+            const ofClass = line.class === undefined ? [] : [line.class, `class ${line.class}`];
+            return [line.dept, chart.name('department', line.dept)].some(each => same(each, dept)) &&
+                [line.object, chart.part(line), ...ofClass].some(each => same(each, part));
         })?.[0] : undefined;
     }
 }

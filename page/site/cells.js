@@ -9,3 +9,6 @@ export function cell(text) {
     const guarded = FORMULA.test(text) ? `'${text}` : text;
     return /[",\r\n]/.test(guarded) ? `"${guarded.replaceAll('"', '""')}"` : guarded;
 }
+
+/** Rows of texts as a sheet. */
+export const sheet = rows => rows.map(row => row.map(cell).join(',') + '\r\n').join('');

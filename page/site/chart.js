@@ -54,7 +54,14 @@ export class Chart {
 
     part(line) {
         if (line.object !== undefined) return this.name('object', line.object);
-        return line.class !== undefined ? `class ${line.class}` : 'all objects';
+        return line.class !== undefined ? this.className(line.class) : 'all objects';
+    }
+
+    /** A class has no name of its own: it is called by its first objects. */
+    className(id) {
+        const names = this.object.filter(row => row.class === id).map(row => row.name), first = names.slice(0, 2).join(', ');
+        const more = names.length - 2;
+        return `class ${id}${first ? ` (${first}${more > 0 ? ` and ${more} more` : ''})` : ''}`;
     }
 
     /** A line by its names: Streets, Supplies. */

@@ -1,5 +1,6 @@
-// The way to the doors. A call is written down with its key before it is sent, and the same bytes are sent until an answer comes: so it is
-// taken once. It is kept for the user and the desk that it was entered for, and only they send it.
+// The way to the doors. A call is written down with its key before it is sent, and the same bytes
+// are sent until an answer comes: so it is taken once. It is kept for the user and the desk that it
+// was entered for, and only they send it.
 
 const ANSWERED = [200, 400, 409, 413];
 const wait = seconds => new Promise(go => setTimeout(go, seconds * 1000));
@@ -10,9 +11,26 @@ export class Doors extends EventTarget {
         this.me = me;
         this.mark = `call ${encodeURIComponent(me.user)} ${me.desk} `;
         this.sending = false;
+        this.recall();
         addEventListener('storage', event => {
-            if (event.key === null || event.key.startsWith(this.mark)) this.changed();
+            if (event.key !== null && !event.key.startsWith(this.mark)) return;
+            if (event.key === null) this.recall();
+            else this.remember(event.key, event.newValue);
+            this.changed();
         });
+    }
+
+    /** Reads all calls of this user's desk anew. */
+    recall() {
+        this.calls = new Map();
+        for (const id of Object.keys(localStorage)) if (id.startsWith(this.mark)) this.remember(id, localStorage.getItem(id));
+    }
+
+    /** Takes a call as the browser has it: of thousands none is read twice. */
+    remember(id, text) {
+        if (text === null) this.calls.delete(id);
+        else this.calls.set(id, {id, ...JSON.parse(text)});
+        this.ordered = undefined;
     }
 
     changed(more = {}) {
@@ -48,7 +66,8 @@ export class Doors extends EventTarget {
 
     /** Calls of this user's desk in this browser, in the order in which they were entered. */
     kept() {
-        return Object.keys(localStorage).filter(id => id.startsWith(this.mark)).sort().map(id => ({id, ...JSON.parse(localStorage.getItem(id))}));
+        this.ordered ??= [...this.calls.values()].sort((one, other) => one.id < other.id ? -1 : 1);
+        return this.ordered;
     }
 
     waiting() {
@@ -63,13 +82,28 @@ export class Doors extends EventTarget {
     }
 
     store({id, ...call}) {
-        localStorage.setItem(id, JSON.stringify(call));
+        const text = JSON.stringify(call);
+        localStorage.setItem(id, text);
+        this.remember(id, text);
         this.changed();
     }
 
     forget(calls) {
-        for (const call of calls) localStorage.removeItem(call.id);
+        for (const {id} of calls) {
+            localStorage.removeItem(id);
+            this.remember(id, null);
+        }
         this.changed();
+    }
+
+    /** The first call that waits, as the browser has it now: another page may have sent it. */
+    next() {
+        for (const {id} of this.waiting()) {
+            this.remember(id, localStorage.getItem(id));
+            const call = this.calls.get(id);
+            if (call && !call.reply) return call;
+        }
+        return undefined;
     }
 
     /** Sends what isn't answered yet, one after another; of several pages of a browser one at a time. */
@@ -77,7 +111,7 @@ export class Doors extends EventTarget {
         if (this.sending) return;
         this.sending = true;
         await navigator.locks.request(this.mark, async () => {
-            for (let next; (next = this.waiting()[0]); ) await this.send(next);
+            for (let next; (next = this.next()); ) await this.send(next);
         });
         this.sending = false;
         this.changed();

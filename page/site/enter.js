@@ -4,8 +4,8 @@
 
 import {byId, fill, labelled, made, wrong} from './dom.js';
 import {local, today} from './chart.js';
-import {endOf, many} from './calls.js';
-import {Drafts} from './drafts.js';
+import {dueOf, endOf, many} from './calls.js';
+import {Drafts, set} from './drafts.js';
 import {json, money} from './money.js';
 import {Account, Context, Fault, inputOf, known, principalsOf, read} from './fields.js';
 import {Amounts} from './amounts.js';
@@ -133,9 +133,17 @@ export class Enter {
         }
         if (name !== 'close' || this.isPreset(elements)) return;
         // A month or a year is proposed once it has ended: nothing opens it again.
-        const {next} = this.lists.state, year = this.chart.first_year + this.lists.state.years, now = today();
+        const next = this.nextMonth(), year = this.chart.first_year + this.lists.state.years, now = today();
         if (next && endOf(next) < now) elements.month.value = next;
         if (endOf(this.calls.lastMonth(year)) < now) elements.year.value = year;
+    }
+
+    /** The first open month by the lists, and by what this browser closed since they were made. */
+    nextMonth() {
+        const closed = this.doors.kept().filter(each => each.call === 'close' && each.reply?.ok).map(each => JSON.parse(each.text).month);
+        let {next} = this.lists.state;
+        while (next && closed.includes(next)) next = monthAfter(next);
+        return next;
     }
 
     /** Whether the clerk chose what to close. */
@@ -150,8 +158,21 @@ export class Enter {
             box.append(made('p', {className: 'refers', role: 'status'}));
             input.addEventListener('change', () => this.refer(field.name, input, box));
         }
+        if (field.name === 'vendor') this.nameVendor(input, box);
         this.boxes.push(box);
         parent.append(box);
+    }
+
+    /** The name of the vendor whose number is typed, and numbers by a part of a name. */
+    nameVendor(input, box) {
+        const place = made('p', {className: 'refers', role: 'status'}), say = () => { place.textContent = this.vendors.beside(input.value.trim()); };
+        box.append(place);
+        input.addEventListener('input', () => {
+            const found = this.vendors.like(input.value);
+            byId('known-vendor').replaceChildren(...found.map(([number, name]) => made('option', {value: String(number), label: name})));
+            say();
+        });
+        input.addEventListener('change', say);
     }
 
     addList(field, form) {
@@ -196,25 +217,34 @@ export class Enter {
         const found = this.lists.document(kind, number), asked = input.value, ofItems = kind === 'order' && this.context?.name === 'change_order';
         if (ofItems && found) this.orderItems(found, found.items.map((item, at) => `${at + 1}: ${this.chart.account(...item)}`));
         const said = await this.doors.look({call: kind, [kind]: Number(number)}).catch(() => null);
-        if (!said || input.value !== asked) return;
+        if (!said || input.value !== asked || !place.isConnected) return;
         const now = said.is ? this.states.say(kind, said.is) : this.words.of(said).text.replace(' Nothing was entered.', '');
-        place.textContent = (found ? found.key + ': ' : '') + now;
+        place.textContent = [found?.key, this.whose(kind, found)].filter(Boolean).join(', ') + (found ? ': ' : '') + now;
+        if (kind === 'bill' && said.is?.left > 0 && byId('form').elements.amount) place.append(' ', this.allLeft(said.is.left));
         if (kind === 'bond' && this.context?.name === 'pay_due' && said.is?.next) await this.debt(number, input, place);
         if (ofItems && said.is) this.orderItems(found, said.is.items.map((each, at) => this.states.item(each, at)));
     }
 
-    /**
-     * The accounts of a debt's last payment, and the principal that is due. The interest the
-     * program computes.
-     */
+    /** The vendor or payer of a document. */
+    whose(kind, found) {
+        if (!found?.who) return '';
+        return kind === 'bill' ? `payer ${found.who}` : this.vendors.say(found.who);
+    }
+
+    /** Puts what is left of a bill into the form. */
+    allLeft(left) {
+        return made('button', {type: 'button', className: 'small', onclick: () => set(byId('form').elements.amount, money(left))}, 'All that is left');
+    }
+
+    /** The accounts of a debt's last payment, and what is due of its principal and interest. */
     async debt(number, input, place) {
         const {due, accounts} = await this.lists.debt(number).catch(() => ({accounts: []})), {elements} = byId('form');
         if (input.value.trim() !== number || !place.isConnected) return;
-        if (due !== undefined) place.textContent += `; it pays ${money(due)} of principal, and interest`;
-        const [fund, dept, principal, interest] = accounts;
-        // A form that stays as it is keeps what was prepared of it.
-        if (!accounts.length || elements.fund.value) return;
-        this.chosen.choose({fund, dept, principal, interest});
+        if (due?.length) place.textContent += `, of ${dueOf(due)}`;
+        const parts = ['fund', 'dept', 'principal', 'interest'], isOther = (part, at) => elements[part].value && elements[part].value !== String(accounts[at]);
+        // What the clerk chose stays, and a form that stays as it is keeps what was prepared of it.
+        if (!accounts.length || parts.some(isOther) || parts.every(part => elements[part].value)) return;
+        this.chosen.choose(Object.fromEntries(parts.map((part, at) => [part, accounts[at]])));
         this.changed();
     }
 
@@ -335,7 +365,7 @@ export class Enter {
     }
 
     /** Says what is about to be done. A second button sends it, once each doubt has its tick. */
-    prepare({sentence, isFinal, doubts}, calls) {
+    prepare({sentence, isFinal, notes, doubts}, calls) {
         const ticks = doubts.map((doubt, place) => {
             const tick = made('input', {type: 'checkbox', id: `doubt-${place}`});
             return made('p', {className: 'doubt'}, tick, made('label', {htmlFor: tick.id}, doubt + ' It is right so.'));
@@ -353,7 +383,7 @@ export class Enter {
         const back = () => { this.unprepare(); byId('form').querySelector('.go').focus(); };
         const more = calls.length > 1 ? ` It is sent as ${many(calls.length, 'call')}, ${calls[0].key} to ${calls.at(-1).key}.` : '';
         place.replaceChildren(made('p', {className: 'sentence', id: 'sentence'}, sentence + '.' + more),
-            isFinal ? made('p', {className: 'hint'}, 'No call takes it back.') : '', ...ticks, said,
+            ...notes.map(note => made('p', {}, note)), isFinal ? made('p', {className: 'hint'}, 'No call takes it back.') : '', ...ticks, said,
             made('p', {className: 'buttons'}, made('button', {type: 'button', className: 'go', onclick: go}, isFinal ? 'Yes, send it' : 'Send it so'),
                 made('button', {type: 'button', onclick: back}, 'Back to the form')));
         place.hidden = false;
@@ -381,7 +411,8 @@ export class Enter {
         if (reply.ok) this.lists.took(said, reply.ok, reply.at);
         if (reply.no?.was) await this.lists.find(reply.no.was).catch(() => {});
         const {kind, text, todo} = this.words.of(reply, call.call);
-        this.say({kind, text: `${text}${about && reply.ok ? ` ${about}, ${local(call.made)}.` : ''}`, todo: [which, todo].filter(Boolean).join(' ')}, call.key,
+        const what = reply.ok ? ` ${[about, local(call.made)].filter(Boolean).join(', ')}.` : '';
+        this.say({kind, text: text + what, todo: [which, todo].filter(Boolean).join(' ')}, call.key,
             reply.ok ? this.papers.link(call, reply) : '');
         if (reply.ok) this.done(call);
         if (reply.ok || which) this.run?.renew();
@@ -406,6 +437,12 @@ export class Enter {
             this.drafts.forget(call.call);
         }
     }
+}
+
+/** The month after one, as YYYY-MM. */
+function monthAfter(month) {
+    const months = Number(month.slice(0, 4)) * 12 + Number(month.slice(5));
+    return `${Math.floor(months / 12)}-${String(months % 12 + 1).padStart(2, '0')}`;
 }
 
 /** What a function gives of what another one reads, or nothing where that can't be read yet. */

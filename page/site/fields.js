@@ -114,7 +114,9 @@ export function inputOf(field, context) {
     if (name === 'item') return choice(more, [], 'Choose');
     if (name === 'every') return choice(more, [1, 2, 3, 4, 6, 12].map(months => [months, String(months)]));
     const input = made('input', {...more, inputMode: 'numeric', autocomplete: 'off'});
-    if (DOCUMENTS.includes(name)) input.setAttribute('list', 'known-' + name);
+    if ([...DOCUMENTS, 'vendor'].includes(name)) input.setAttribute('list', 'known-' + name);
+    // A vendor can be found by a part of its name.
+    if (name === 'vendor') input.inputMode = 'text';
     return input;
 }
 
@@ -130,10 +132,10 @@ export function amountInput(more) {
 
 /** Numbers of documents that may be open, as suggestions. */
 export function known(lists, vendors) {
-    return DOCUMENTS.map(kind => made('datalist', {id: 'known-' + kind}, ...lists.of(kind).slice(0, 500).map(each => {
+    return [made('datalist', {id: 'known-vendor'}), ...DOCUMENTS.map(kind => made('datalist', {id: 'known-' + kind}, ...lists.of(kind).slice(0, 500).map(each => {
         const who = each.who ? `, ${kind === 'bill' ? `payer ${each.who}` : vendors.say(each.who)}` : '';
         return made('option', {value: String(each.number), label: `${each.key}${who}${each.cents === null ? '' : ', ' + money(each.cents)}`});
-    })));
+    })))];
 }
 
 const RANGES = {n16: [0n, 65535n], n32: [0n, 4294967295n], year: [1971n, 2199n]};

@@ -2,6 +2,7 @@
 
 import {choice, fill, labelled, made} from './dom.js';
 import {Account, Fault, inputOf, read} from './fields.js';
+import {set} from './drafts.js';
 import {money, sum} from './money.js';
 
 export class Items {
@@ -53,17 +54,20 @@ export class Items {
 
     /** The orders that may be open, by their names. */
     orders() {
-        return choice({name: 'order'}, this.context.lists.of('order').map(each => [each.number, `${each.number} ${each.key}, ${this.vendors.say(each.who)}`]), 'None');
+        const text = ({number, key, who}) => `${number} ${key}, ${this.vendors.cell(who)}`;
+        return choice({name: 'order'}, this.context.lists.of('order').map(each => [each.number, text(each)]), 'None');
     }
 
     /** The items of the order that is chosen, each with what is open of it as a door has it. */
     async fillItems(row) {
-        const {inputs} = row, number = inputs.order.value, found = this.context.lists.document('order', number);
+        const {inputs, note} = row, number = inputs.order.value, found = this.context.lists.document('order', number);
+        note.textContent = found ? `Order ${number}: ${found.key}, ${this.vendors.say(found.who)}` : '';
         if (!found) return fill(inputs.item, [], 'Choose');
         fill(inputs.item, found.items.map((item, place) => [place + 1, `${place + 1}: ${this.context.chart.account(...item)}`]), 'Choose');
         if (!inputs.item.value) inputs.item.value = '1';
         this.fillAccount(row);
-        if (!this.context.form.elements.vendor.value) this.context.form.elements.vendor.value = found.who;
+        const {vendor} = this.context.form.elements;
+        if (!vendor.value) set(vendor, found.who);
         const said = await this.doors.look({call: 'order', order: Number(number)}).catch(() => null);
         if (!said?.is || inputs.order.value !== number) return;
         said.is.items.forEach((item, place) => { inputs.item.options[place + 1].textContent = this.states.item(item, place); });

@@ -1,15 +1,15 @@
-// Budget lines of a fiscal year, by fund and department, with bars; and what the entries of a line are.
+// Budget lines of a fiscal year, by fund and department, with bars; and what each document put on a
+// line or took off it, which comes to the line's numbers.
 
 import {byId, fill, made, row, table} from './dom.js';
 import {added, bar, fundsOf, isLow, legend} from './bars.js';
+import {Documents, LedgerRows} from './documents.js';
 import {money} from './money.js';
-
-// How many documents of a line are shown, the last ones.
-const MOST = 500;
 
 export class Lines {
     constructor(city) {
         Object.assign(this, city);
+        this.rows = new LedgerRows(new Documents(city), true);
         fill(byId('lines-fund'), this.chart.pairs('fund'), 'All funds');
         fill(byId('lines-dept'), this.chart.pairs('department'), 'All departments');
         byId('lines-form').addEventListener('submit', event => { event.preventDefault(); this.show(); });
@@ -58,13 +58,8 @@ export class Lines {
         byId('line-name').textContent = `${this.chart.lineInFull(line)}, fiscal year ${year} (line ${line})`;
         byId('line-table').replaceChildren('..');
         byId('line').showModal();
-        const found = (await this.lists.ofLine(line, year).catch(() => [])).reverse().slice(0, MOST);
-        const heads = ['Entry', 'Day', 'What', 'Key', 'Desk', 'Number', ['Amount', true]], rows = found.map(each => this.entry(each));
-        byId('line-table').replaceChildren(rows.length ? table('Documents of the line', heads, rows) : 'No entry names this line.',
+        const found = await this.lists.ofLine(line, year).catch(() => []);
+        byId('line-table').replaceChildren(found.length ? this.rows.table('Documents of the line', found) : 'No entry names this line.',
             made('p', {className: 'hint'}, `The list has the entries up to ${this.lists.state.entries}; it is made anew each minute.`));
-    }
-
-    entry({place, day, call, key, desk, number, cents}) {
-        return row([String(place), day, this.tables.calls[call].title, key, this.chart.name('desk', desk), number ? String(number) : '', cents ? money(cents) : '']);
     }
 }

@@ -1,9 +1,17 @@
-// The lists beside the doors, which a timer makes of the journal: what may be open, and what the entries of a year are. They are some
-// minutes old; what became of a document a door is asked.
+// The lists beside the doors, which a timer makes of what `books` prints of the journal: what is
+// open, documents, entries, ledgers, and the statements and months that are kept. They are some
+// minutes old; what became of an open document a door is asked.
+
+const DOCUMENT = ['kind', 'number', 'item', 'day', 'desk', 'key', 'party', 'fund', 'dept', 'object', 'line', 'source', 'year', 'cents', 'left', 'state',
+    'paid', 'run', 'entries'];
+const LEDGER = ['place', 'day', 'desk', 'key', 'call', 'kind', 'document', 'item', 'word', 'party', 'fund', 'dept', 'object', 'line', 'source', 'year',
+    'appropriated', 'ordered', 'held', 'spent', 'received'];
+const ENTRY = ['place', 'day', 'desk', 'key', 'call', 'cents', 'number'];
 
 export class Lists {
     constructor(doors, chart, vendors) {
-        Object.assign(this, {doors, chart, vendors, open: {}, state: {files: {entries: [], funds: []}, months: 0, years: 0}, years: new Map()});
+        Object.assign(this, {doors, chart, vendors, open: {}, state: {files: {entries: [], documents: [], funds: []}, months: 0, years: 0},
+            years: new Map()});
     }
 
     async load() {
@@ -37,21 +45,39 @@ export class Lists {
         if (ended && open[ended[0]]) open[ended[0]] = open[ended[0]].filter(each => !ended[1].includes(each.number));
     }
 
-    /** Entries of a fiscal year's days. */
+    /** Entries of a calendar year's days. */
     async entries(year) {
         if (!this.state.files.entries.includes(Number(year))) return [];
-        const rows = (await got(`data/${year}-entries.json`)).map(([place, day, desk, key, call, cents, number]) => ({place, day, desk, key, call, cents, number}));
+        const rows = (await got(`data/${year}-entries.json`)).map(row => named(ENTRY, row));
         this.years.set(Number(year), rows);
         return rows;
     }
 
+    /** Documents that were entered in a calendar year. */
+    async documents(year) {
+        return (await got(`data/${year}-documents.json`)).map(row => named(DOCUMENT, row));
+    }
+
+    /** The ledger of a fiscal year, of a fund or of all, by rising entries. */
+    async ledger(year, fund) {
+        const funds = this.state.files.funds.filter(([y, f]) => y === Number(year) && (!fund || f === Number(fund)));
+        const rows = await Promise.all(funds.map(([y, f]) => got(`data/${y}-fund-${f}.json`)));
+        return rows.flat().map(row => named(LEDGER, row)).sort((one, other) => one.place - other.place);
+    }
+
     /** What a control line has of a year. */
     async ofLine(line, year) {
-        const {fund} = this.chart.line[line];
-        if (!this.state.files.funds.some(([y, f]) => y === Number(year) && f === fund)) return [];
-        const rows = await got(`data/${year}-fund-${fund}.json`);
-        return rows.filter(each => (each.length === 8 ? each[7] : this.chart.lineOf(each[7], each[8], each[9], year)) === Number(line))
-            .map(([place, day, desk, key, call, cents, number]) => ({place, day, desk, key, call, cents, number}));
+        return (await this.ledger(year, this.chart.line[line].fund)).filter(each => each.line === Number(line));
+    }
+
+    /** Which statements and months are kept: their year, kind, and day or place, and their entries. */
+    async kept() {
+        return (await got('data/kept.json').catch(() => [])).map(([year, kind, at, [entries]]) => ({year, kind, at: String(at), entries}));
+    }
+
+    /** The rows of a kept statement or month, as `books` prints them. */
+    keptRows({year, kind, at}) {
+        return got(kind === 'month' ? `data/month-${at}.json` : `data/statement-${year}-${kind}-${at}.json`);
     }
 
     /** Rows of a kind of papers, of all years or of the last ones. */
@@ -66,15 +92,18 @@ export class Lists {
         return rows.filter(each => each[3].toLowerCase() === key).map(invoiceOf);
     }
 
-    /** What a payment paid, by the place of its entry. */
-    async ofRun(place) {
-        return (await this.rows('invoices')).filter(each => each[7] === place).map(invoiceOf);
+    /** What payments paid, by the places of their entries. */
+    async ofRun(places) {
+        return (await this.rows('invoices')).filter(each => places.includes(each[7])).map(invoiceOf);
     }
 
-    /** A bond's or lease's principals, how many are paid, and the accounts of its last payment. */
+    /**
+     * What a bond's or lease's next payment pays, its principal and its interest, and the accounts
+     * of its last payment.
+     */
     async debt(number) {
-        const [principals, paid, accounts] = (await got('data/debts.json'))[number] || [[], 0, []];
-        return {due: principals[paid], accounts};
+        const [due, accounts] = (await got('data/debts.json'))[number] || [[], []];
+        return {due, accounts};
     }
 
     async receipt(place) {
@@ -107,6 +136,16 @@ export class Lists {
         const sent = this.doors.kept().find(({reply}) => reply?.ok && (reply.was ?? reply.at) === Number(place));
         return sent && {key: sent.key, call: sent.call, day: sent.on};
     }
+}
+
+const named = (names, row) => Object.fromEntries(names.map((name, place) => [name, row[place]]));
+
+/** What entries were to a document: pairs of a word and a place. */
+export function wordsOf({entries}) {
+    return (entries || '').split('; ').filter(Boolean).map(each => {
+        const at = each.lastIndexOf(' ');
+        return [each.slice(0, at), Number(each.slice(at + 1))];
+    });
 }
 
 function invoiceOf([place, day, desk, key, vendor, cents, number, ended, state]) {

@@ -6,7 +6,7 @@ import {money} from './money.js';
 
 const KINDS = [['requisition', 'Requisitions'], ['order', 'Orders'], ['voucher', 'Vouchers to be paid'], ['bill', 'Bills'], ['asset', 'Assets'],
     ['bond', 'Bonds and leases']];
-const MORE = 40;
+const MORE = 40, HELD = 'held';
 // What can be done with a document of a kind, by call and field.
 const NEXT = {requisition: [['withdraw', 'requisition'], ['order', 'requisition']], order: [['change_order', 'order'], ['cancel_order', 'order']],
     voucher: [['void_voucher', 'voucher']], bill: [['collect', 'bill'], ['write_off', 'bill']], asset: [['asset', 'asset', {what: 'dispose'}]],
@@ -19,7 +19,7 @@ export class States {
 
     isOpen(kind, is) {
         return {order: () => is.items.some(item => item.state === 'live'), requisition: () => is.state === 'open', voucher: () => is.state === 'open',
-            bill: () => is.left !== '0', asset: () => is.state === 'held', bond: () => is.next !== ''}[kind]();
+            bill: () => is.left !== '0', asset: () => is.state === HELD, bond: () => is.next !== ''}[kind]();
     }
 
     /** An order's item: its number, its line, and what is open of it. */
@@ -57,7 +57,9 @@ export class Open {
         if (turn !== this.turn) return;
         const who = each => kind === 'bill' ? String(each.who ?? '') : this.vendors.cell(each.who);
         const has = each => !find || [each.key, each.day, String(each.number), who(each)].some(text => text.toLowerCase().includes(find));
-        this.left = this.lists.of(kind).filter(has);
+        // The books' list of what is open has no assets: of those the lists have all, each with its state.
+        const isOpen = each => kind !== 'asset' || !each.state || each.state === HELD;
+        this.left = this.lists.of(kind).filter(each => isOpen(each) && has(each));
         this.rows = [];
         this.kind = kind;
         byId('open-table').replaceChildren();

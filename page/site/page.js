@@ -11,6 +11,9 @@ import {Enter} from './enter.js';
 import {Lines} from './lines.js';
 import {Open, States} from './open.js';
 import {Papers} from './papers.js';
+import {Entry, Find} from './find.js';
+import {Ledger} from './ledger.js';
+import {Month} from './month.js';
 import {Statements} from './statements.js';
 import {Council} from './council.js';
 import {Sent} from './sent.js';
@@ -33,33 +36,55 @@ async function begin() {
     byId('who').textContent = me.user + (desk ? `, desk ${desk.id} ${desk.name} (${roles.join(', ')})` : ', without a desk: may look alone');
     const enter = new Enter(city);
     city.begin = (call, values) => { enter.begin(call, values); views.go('enter'); byId('call').focus(); };
-    years(chart, lists);
+    let year = years(chart, lists);
     const sent = new Sent(city), views = new Views(chart, roles,
-        {enter, lines: new Lines(city), open: new Open(city), statements: new Statements(city), council: new Council(city), sent, paper: city.papers});
+        {enter, lines: new Lines(city), open: new Open(city), find: new Find(city), entry: new Entry(city), ledger: new Ledger(city), month: new Month(city),
+            statements: new Statements(city), council: new Council(city), sent, paper: city.papers});
     enter.chose = () => views.tell();
+    menu();
     doors.addEventListener('changed', event => changed(event.detail, city, enter, sent));
     enter.offer(roles);
     views.begin();
     doors.sendAll();
     const age = new Age(doors, lists);
     age.say();
-    const renew = () => lists.load().then(() => enter.renew(), () => {}).then(() => age.say());
+    // Where the night over an open page has ended a fiscal year, its views open at the new one.
+    const wake = () => {
+        if (yearNow(chart) === year) return;
+        year = years(chart, lists, year);
+        views.year = String(year);
+        views.follow();
+    };
+    const renew = () => lists.load().then(() => enter.renew(), () => {}).then(() => { age.say(); wake(); });
     setInterval(renew, RENEWED);
     addEventListener('focus', renew);
     document.body.dataset.ready = 'yes';
 }
 
+/** On a phone a button shows and hides the choice of views. */
+function menu() {
+    const button = byId('menu'), shown = byId('views').classList;
+    const show = isShown => { shown.toggle('shown', isShown); button.setAttribute('aria-expanded', String(shown.contains('shown'))); };
+    button.addEventListener('click', () => show());
+    byId('views').addEventListener('click', () => show(false));
+    addEventListener('keydown', event => { if (event.key === 'Escape' && shown.contains('shown')) { show(false); button.focus(); } });
+}
+
+const yearNow = chart => Math.max(chart.yearOf(today()), chart.first_year);
+
 /**
  * The fiscal years that can be asked for; today's is shown first, whatever year the last entry is
- * of.
+ * of, and in place of the one that was today's. It gives today's.
  */
-function years(chart, lists) {
-    const now = Math.max(chart.yearOf(today()), chart.first_year), last = Math.max(now, ...lists.state.files.entries) + 1;
+function years(chart, lists, was) {
+    const now = yearNow(chart), last = Math.max(now, ...lists.state.files.entries) + 1;
     const shown = Array.from({length: last + 1 - chart.first_year}, (_, place) => [last - place, String(last - place)]);
-    for (const id of ['lines-year', 'report-year', 'council-year']) {
+    for (const id of ['lines-year', 'ledger-year', 'report-year', 'council-year']) {
+        const chosen = byId(id).value;
         fill(byId(id), shown);
-        byId(id).value = String(now);
+        if (was === undefined || chosen === String(was)) byId(id).value = String(now);
     }
+    return now;
 }
 
 /**
@@ -80,8 +105,8 @@ class Age {
         const made = state.made ? `, made at ${local(state.made)}` : '';
         say(byId('behind'), isBehind ? `The lists are behind: they have the entries up to ${state.entries || 0}${made}, and the books have ${seen}. ` +
             'What is open and the documents of lines may be missing here. Tell whoever runs the page.' : '');
-        const skips = (state.skipped || []).slice(0, 3).map(each => `entry ${each.place} (${each.key}) of ${each.day}, at ${local(each.time)}`);
-        const skipped = state.skips ? `The lists couldn’t follow ${skips.join('; ')}${state.skips > skips.length ? `, and ${state.skips - skips.length} more` : ''}. ` : '';
+        const skips = (state.skipped || []).slice(0, 3).map(each => `${each.what} (${each.key}), at ${local(each.time)}`);
+        const skipped = state.skips ? `The lists couldn’t read ${skips.join('; ')}${state.skips > skips.length ? `, and ${state.skips - skips.length} more` : ''}. ` : '';
         say(byId('skipped'), skipped + (vendors.fault ? `The list of vendors has a fault: ${vendors.fault}. The names that were read before stay.` : ''));
     }
 }

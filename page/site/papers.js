@@ -1,6 +1,6 @@
 // Paper: a purchase order, the remittance list of a payment run, and a receipt, each a page that
-// prints. #paper/order/12, #paper/run/40 and #paper/receipt/41 are their addresses: an order's
-// number, and the places of the entries.
+// prints. #paper/order/12, #paper/run/40 or #paper/run/40+41, and #paper/receipt/41 are their
+// addresses: an order's number, and the places of the entries.
 
 import {byId, made, row, table} from './dom.js';
 import {dated} from './chart.js';
@@ -19,8 +19,14 @@ export class Papers {
     link(call, reply) {
         const kind = KINDS[call.call];
         if (!kind) return '';
-        const number = call.call === 'order' ? reply.ok.order : reply.was ?? reply.at;
+        const number = call.call === 'order' ? reply.ok.order : this.ofFamily(call, reply).join('+');
         return made('a', {href: `#paper/${kind[0]}/${number}`}, kind[1]);
+    }
+
+    /** The entry of a call; of a payment run in several calls the entries of those that were taken. */
+    ofFamily(call, reply) {
+        const all = call.family ? this.doors.kept().filter(each => each.family === call.family && each.reply?.ok).map(each => each.reply) : [reply];
+        return all.map(each => each.was ?? each.at);
     }
 
     async show([kind, number]) {
@@ -46,25 +52,36 @@ export class Papers {
         return made('p', {className: 'signed'}, 'Signed');
     }
 
-    /** An order, with what is open of each item now. */
+    /** An order, open or ended, with what changes made of each item and what is open of it now. */
     async order(number) {
-        const found = this.lists.document('order', number);
-        if (!found) throw new Error(`Order ${number} isn’t open, or was entered in the last minute.`);
-        const said = await this.doors.look({call: 'order', order: Number(number)}), now = said.is?.items || [];
-        const rows = found.items.map(([fund, dept, object, cents], place) => row([String(place + 1), this.chart.account(fund, dept, object), money(cents),
-            now[place]?.state === 'live' ? money(now[place].open) : now[place]?.state || '']));
-        rows.push(row(['', 'Total', money(found.cents), ''], 'sum'));
+        const found = await this.ordered(Number(number));
+        const said = await this.doors.look({call: 'order', order: Number(number)}), now = said.is?.items || [], {items} = found;
+        const isChanged = items.some(item => item[4]), heads = isChanged ? [['Ordered', true], ['Changes', true]] : [];
+        const open = item => item?.state === 'live' ? money(item.open) : item?.state || '';
+        const rows = items.map(([fund, dept, object, cents, by], place) => row([String(place + 1), this.chart.account(fund, dept, object),
+            ...(isChanged ? [money(cents), money(by)] : []), money(cents + by), open(now[place])]));
+        const all = place => sum(items.map(item => item[place])), parts = isChanged ? [money(all(3)), money(all(4))] : [];
+        rows.push(row(['', 'Total', ...parts, money(all(3) + all(4)), ''], 'sum'));
         return [...this.head(`purchase order ${number}`, ['Order', found.key], ['Day', dated(found.day)], ['Entered by', this.chart.name('desk', found.desk)]),
-            this.vendor(found.who), table('Items', ['Item', 'Account', ['Amount', true], ['Open now', true]], rows),
+            this.vendor(found.who), table('Items', ['Item', 'Account', ...heads, ['Amount', true], ['Open now', true]], rows, 'cards'),
             made('p', {className: 'hint'}, `What is open is that of entry ${said.at}. Invoices name order ${number}.`), this.foot()];
     }
 
-    /** The invoices that a payment paid, by vendor. */
-    async run(place) {
-        const all = await this.lists.ofRun(Number(place)), own = this.doors.kept().find(({call, reply}) => call === 'pay' && reply?.ok && (reply.was ?? reply.at) === Number(place));
-        const entry = await this.lists.entryAt(Number(place));
-        if (!entry && !own) throw new Error(`Entry ${place} isn’t in the lists yet: they are made anew each minute.`);
-        const call = own && JSON.parse(own.text), found = all.length ? all : this.unlisted(call);
+    /** An order by the lists, or by what this browser has just entered. */
+    async ordered(number) {
+        const row = (await this.lists.rows('orders').catch(() => [])).find(each => each[5] === number), own = this.lists.document('order', number);
+        if (!row && !own) throw new Error(`Order ${number} isn’t in the lists yet, or there is none: they are made anew each minute.`);
+        if (!row) return {...own, items: own.items.map(item => [...item.slice(0, 4).map(Number), 0])};
+        const [, day, desk, key, who, , items] = row;
+        return {day, desk, key, who, items};
+    }
+
+    /** The invoices that a payment run paid, of one call or of several, by vendor. */
+    async run(number) {
+        const places = number.split('+').map(Number), entries = [];
+        for (const place of places) entries.push(await this.paid(place));
+        const listed = await this.lists.ofRun(places);
+        const found = [...listed, ...entries.flatMap(each => listed.some(one => one.ended === each.place) ? [] : this.unlisted(each.call))];
         const vendors = [...new Set(found.map(each => each.vendor))].sort((one, other) => one - other);
         const rows = vendors.flatMap(vendor => {
             const of = found.filter(each => each.vendor === vendor);
@@ -72,8 +89,18 @@ export class Papers {
                 ...of.map(each => row(['', String(each.number), each.key, money(each.cents)]))];
         });
         rows.push(row(['Total', many(found.length, 'voucher'), '', money(sum(found.map(each => each.cents)))], 'sum'));
-        return [...this.head('remittance list', ['Payment run', entry?.key ?? own.key], ['Day', dated(entry?.day ?? own.on)], ['Entry', place]),
-            table('Vouchers paid', ['Vendor', 'Voucher', 'Invoice', ['Amount', true]], rows), this.foot()];
+        const days = [...new Set(entries.map(each => dated(each.day)))].join(', ');
+        return [...this.head('remittance list', ['Payment run', entries.map(each => each.key).join(', ')], ['Day', days],
+            [places.length === 1 ? 'Entry' : 'Entries', places.join(', ')]),
+            table('Vouchers paid', ['Vendor', 'Voucher', 'Invoice', ['Amount', true]], rows, 'cards'), this.foot()];
+    }
+
+    /** A payment by its entry: what the lists have of it, or this browser. */
+    async paid(place) {
+        const own = this.doors.kept().find(({call, reply}) => call === 'pay' && reply?.ok && (reply.was ?? reply.at) === place);
+        const entry = await this.lists.entryAt(place);
+        if (!entry && !own) throw new Error(`Entry ${place} isn’t in the lists yet: they are made anew each minute.`);
+        return {place, key: entry?.key ?? own.key, day: entry?.day ?? own.on, call: own && JSON.parse(own.text)};
     }
 
     unlisted(call) {

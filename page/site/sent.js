@@ -4,6 +4,8 @@ import {byId, give, made, row, table} from './dom.js';
 import {local, today} from './chart.js';
 
 const SHOWN = 200, WEEK = 7 * 24 * 3600 * 1000;
+// How many letters a browser keeps of a site: 5 MiB.
+const ROOM = 5 * 2 ** 20;
 
 export class Sent {
     constructor(city) {
@@ -14,7 +16,17 @@ export class Sent {
 
     show() {
         const rows = this.doors.kept().slice(-SHOWN).reverse().map(call => this.row(call)), heads = ['When', 'What', 'Key', 'Amount and party', 'Answer', ''];
+        byId('sent-room').textContent = this.room();
         byId('sent-table').replaceChildren(rows.length ? table('Calls of this browser', heads, rows, 'cards') : 'Nothing was sent from this browser.');
+    }
+
+    /** How much of the browser's room the calls of this site take. */
+    room() {
+        const taken = Object.entries(localStorage).reduce((all, [id, text]) => all + id.length + text.length, 0);
+        const kept = this.doors.kept().length, part = Math.ceil(100 * taken / ROOM);
+        const shown = kept > SHOWN ? ` The last ${SHOWN} are shown.` : '';
+        return `${kept} calls are kept. ${part} percent of the browser’s room is taken.${shown}` +
+            (part < 70 ? '' : ' Save them as files and forget the old ones, before it is full.');
     }
 
     row(call) {

@@ -2,13 +2,13 @@
 // and an invoice that looks like another.
 
 import {dated, today} from './chart.js';
-import {daysFrom, isFinal, many} from './calls.js';
+import {daysFrom, endOf, isFinal, many} from './calls.js';
 
 const FAR = 31; // days
 
 export class Slips {
-    constructor({chart, lists, calls, vendors}) {
-        Object.assign(this, {chart, lists, calls, vendors});
+    constructor({chart, lists, calls, vendors, doors}) {
+        Object.assign(this, {chart, lists, calls, vendors, doors});
     }
 
     /**
@@ -17,7 +17,19 @@ export class Slips {
      */
     async of(call) {
         const doubts = [this.day(call), ...await this.invoice(call), ...this.order(call)].filter(Boolean);
-        return isFinal(call) || doubts.length ? {sentence: this.calls.sentence(call), isFinal: isFinal(call), doubts} : null;
+        if (!isFinal(call) && !doubts.length) return null;
+        const {due} = call.call === 'pay_due' ? await this.lists.debt(Number(call.bond)).catch(() => ({})) : {};
+        return {sentence: this.calls.sentence(call, due), isFinal: isFinal(call), notes: this.leaves(call), doubts};
+    }
+
+    /** What a close leaves behind, by the lists. */
+    leaves(call) {
+        if (call.call !== 'close') return [];
+        const month = call.what === 'month' ? call.month : this.calls.lastMonth(Number(call.year)), until = endOf(month);
+        const count = kind => many(this.lists.of(kind).filter(each => each.day <= until).length, kind);
+        const owed = `${count('voucher')} through ${dated(until)} may still be owed.`;
+        if (call.what !== 'month' || month !== this.calls.lastMonth(this.chart.yearOf(`${month}-01`))) return [owed];
+        return [owed, `The month ends its fiscal year: ${count('requisition')} may lapse, and ${count('order')} may be carried or lapse.`];
     }
 
     /** A day in another fiscal year than today's, or far away. */
@@ -29,15 +41,24 @@ export class Slips {
     }
 
     /**
-     * The same invoice, letters in upper or lower case, at any desk. Under its own key the program
-     * finds it.
+     * The same invoice, letters in upper or lower case, at any desk, by the lists and by what this
+     * browser sent. Under its own key the program finds it.
      */
     async invoice(call) {
         if (call.call !== 'voucher') return [];
         const key = call.key.toLowerCase(), desk = Number(call.desk);
         const found = (await this.lists.invoices(key)).filter(each => each.state !== 'void' && !(each.key === call.key && each.desk === desk));
-        return found.map(each => `Desk ${this.chart.name('desk', each.desk)} entered ${each.key} on ${dated(each.day)}, as voucher ${each.number}` +
+        const listed = new Set(found.map(each => each.number)), name = id => this.chart.name('desk', id);
+        const own = this.sent(key, call.key).filter(each => !listed.has(each.number));
+        return [...found, ...own].map(each => `Desk ${name(each.desk)} entered ${each.key} on ${dated(each.day)}, as voucher ${each.number}` +
             `${each.state ? ', which is ' + each.state : ''}. This looks like the same invoice.`);
+    }
+
+    /** Invoices of this browser with a key but for its letters' case, which the lists may not have yet. */
+    sent(key, other) {
+        const taken = this.doors.kept().filter(each => each.call === 'voucher' && each.reply?.ok && each.key !== other && each.key.toLowerCase() === key);
+        const isVoid = number => this.doors.kept().some(each => each.call === 'void_voucher' && each.reply?.ok && JSON.parse(each.text).voucher === number);
+        return taken.map(each => ({desk: this.doors.me.desk, key: each.key, day: each.on, number: each.reply.ok.voucher})).filter(each => !isVoid(each.number));
     }
 
     /** An invoice of another vendor than the order's. */

@@ -1,13 +1,15 @@
 // The views, each with an address of its own: #enter/voucher, #lines/2027, #open/order,
-// #statements/2027/budget, #council/2027, #sent and #paper/order/12. What isn't one of them leaves
-// the view as it is.
+// #find/inv-612, #entry/40, #ledger/2027/line/12, #month/2027-01, #statements/2027/budget,
+// #council/2027, #sent and #paper/order/12. What isn't one of them leaves the view as it is.
 
 import {byId} from './dom.js';
 import {today} from './chart.js';
 
-// The choices of a view that stand in its address.
-const CHOICES = {enter: ['call'], lines: ['lines-year', 'lines-fund', 'lines-dept'], open: ['open-kind'], statements: ['report-year', 'report-kind'],
-    council: ['council-year']};
+// The choices of a view that stand in its address. Other views say theirs by `toAddress`, and take
+// them by `fromAddress`.
+const CHOICES = {enter: ['call'], lines: ['lines-year', 'lines-fund', 'lines-dept'], open: ['open-kind'], council: ['council-year']};
+// Views whose address says which paper or entry is shown.
+const OF_ONE = ['paper', 'entry'];
 
 export class Views {
     constructor(chart, roles, views) {
@@ -15,6 +17,7 @@ export class Views {
         Object.assign(this, {chart, roles, views, year: String(chart.yearOf(today()))});
         for (const button of document.querySelectorAll('nav button')) button.addEventListener('click', () => this.go(button.dataset.view));
         for (const id of Object.values(CHOICES).flat()) if (id !== 'call') byId(id).addEventListener('change', () => this.tell());
+        for (const view of Object.values(views)) view.told = () => this.tell();
         addEventListener('hashchange', () => this.follow());
         for (const id of ['enter', 'sent']) document.querySelector(`nav [data-view=${id}]`).hidden = !roles.length;
     }
@@ -28,6 +31,7 @@ export class Views {
         const [name, ...rest] = location.hash.slice(1).split('/').map(part => decodeURIComponent(part));
         if (!this.views[name] || ['enter', 'sent'].includes(name) && !this.roles.length) return false;
         this.name = name;
+        this.views[name].fromAddress?.(rest, this.year);
         (CHOICES[name] || []).forEach((id, place) => {
             const input = byId(id), value = rest[place] || (id.endsWith('-year') ? this.year : '');
             if (input.value === value || ![...input.options].some(option => option.value === value)) return;
@@ -47,10 +51,11 @@ export class Views {
 
     /** Puts the view and its choices into the address. */
     tell(isFirst = false) {
-        const values = (CHOICES[this.name] || []).map(id => id.endsWith('-year') && byId(id).value === this.year ? '' : byId(id).value);
+        const values = this.views[this.name].toAddress?.(this.year) ||
+            (CHOICES[this.name] || []).map(id => id.endsWith('-year') && byId(id).value === this.year ? '' : byId(id).value);
         while (values.length && !values.at(-1)) values.pop();
         const address = '#' + [this.name, ...values].map(encodeURIComponent).join('/');
-        if (this.name === 'paper' || address === location.hash) return;
+        if (OF_ONE.includes(this.name) || address === location.hash) return;
         history[isFirst ? 'replaceState' : 'pushState'](null, '', address);
     }
 

@@ -134,7 +134,15 @@ export class Words {
         const of = call === 'void_voucher' ? 'a void' : 'a disposal';
         const asset = no.name === 'AssetState' && assetStates.find(each => each[0] === no.state && each[1] === of);
         if (asset) return this.plain(asset[2], no);
-        return refusals[no.name] ? this.plain(fitting(refusals[no.name].todo, no, call), no) : '';
+        return refusals[no.name] ? this.plain(fitting(refusals[no.name].todo, no, call), no) + this.yearBefore(no, call) : '';
+    }
+
+    /** An invoice of a closed year that is dated in the next one is an expenditure of that one, unless it says otherwise. */
+    yearBefore(no, call) {
+        const {next} = this.lists.state;
+        if (no.name !== 'PeriodClosed' || call !== 'voucher' || !next) return '';
+        const [was, year] = [no.month, next].map(month => this.chart.yearOf(`${month}-01`));
+        return was < year ? ` There it counts in fiscal year ${year}, unless “Of the year before” is ticked.` : '';
     }
 
     /** A text of the docs for a clerk: without references to pages, with the page's names of calls, and with the values of the answer. */

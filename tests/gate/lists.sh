@@ -2,8 +2,8 @@
 # Tries the lists of `books` on the journals of the examples (lists.py): posts and balances beside the looks of a desk and beside what
 # the independent office makes of the same talk, row by row; what is open beside the looks at each number; and each statement beside the
 # records of `report`, with the names of funds and control lines. Then that a row which is changed, lost or moved is seen; two lists
-# of Rivertown's first day, worked by hand; and that the lists of the page (page/lists.py, tried by listed.py) have all that is open, and
-# go on where they can't follow an entry. BOOKS names another program than the one that rt built last.
+# of Rivertown's first day, worked by hand; and that the lists of the page (page/lists.py, tried by listed.py) have what is open, each
+# document and the ledger of each line, and go on where a row can't be read. BOOKS names another program than the one that rt built last.
 cd "$(dirname "$0")/../.." || exit 1
 top=$(pwd)
 . tests/lib/program.sh
@@ -128,18 +128,28 @@ verdict "a fund whose name is a formula: $said" $?
 
 # ---- the lists of the page
 
-python3 tests/lib/listed.py office 10 400
-verdict "the page's lists of random talks" $?
-# Two invoices on orders that aren't there: each is skipped and said, and what is open of the others is listed.
-founded examples/reopened-order.jsonl
+# An order's last invoice, the close of June, its void, and another invoice of the year before on the item that is open again: after
+# each of them the lists have what is open.
+for count in 5 18 19 22 23 26 27; do
+    head -n "$count" examples/reopened-order.jsonl > "$scratch/part.jsonl"
+    rm -f "$scratch/fund.journal"
+    cp examples/rivertown/chart.toml "$scratch/chart.toml"
+    (cd "$scratch" && "$program" found > /dev/null 2>&1 && "$program" desk < part.jsonl > /dev/null)
+    python3 tests/lib/listed.py books "$books" "$scratch"
+    verdict "the page's lists of a reopened order, after $count calls" $?
+done
+# Two rows that can't be read: each is skipped and said, and all others are listed.
 cat > "$scratch/changed" << PROGRAM
 #!/bin/sh
-"$books" "\$@" | case \$1 in
-calls) sed '4s/"order":1/"order":98/; 19s/"order":1/"order":99/' ;;
+"$books" "\$@" | case "\$*" in
+*--csv*) cat ;;
+documents*) sed '1s/\t[0-9]*\.[0-9]*\t/\tmuch\t/' ;;
+ledger*) sed '2s/\t2026\t/\tyear\t/' ;;
 *) cat ;;
 esac
 PROGRAM
-python3 tests/lib/listed.py skips "$scratch/changed" "$scratch" 4 19
-verdict "the page's lists past what can't be followed" $?
+chmod +x "$scratch/changed"
+python3 tests/lib/listed.py skips "$scratch/changed" "$scratch" "order 1" "ledger row of entry 2"
+verdict "the page's lists past what can't be read" $?
 
 summary lists

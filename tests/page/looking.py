@@ -8,9 +8,10 @@ import tempfile
 import time
 
 KINDS = {"balance": 1, "operating": 1, "budget": 5, "position": 1, "activities": 5, "reconcile": 1, "changes": 1}
-VIEWS = ("enter", "lines", "open", "statements", "council", "sent")
+VIEWS = ("enter", "lines", "open", "find", "ledger", "month", "statements", "council", "sent")
 DONE = {"enter": "true", "lines": "document.querySelectorAll('#lines-table tr').length > 10", "open": "document.getElementById('open-said').textContent.includes('open')",
         "statements": "document.querySelectorAll('#report tr').length > 5", "council": "document.querySelectorAll('#council-picture tr').length > 5",
+        "find": "true", "ledger": "document.querySelectorAll('#ledger-table tr').length > 1", "month": "document.querySelectorAll('#month-table tr').length > 10",
         "sent": "true"}
 
 

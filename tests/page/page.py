@@ -11,11 +11,13 @@ import sys
 
 HERE = os.path.dirname(os.path.abspath(__file__))
 sys.path[:0] = [HERE, os.path.join(os.path.dirname(HERE), "lib")]
+import asking
 import entering
 import faults
 import looking
 import runs
 import slips
+import traps
 import words
 from stand import Stand
 
@@ -23,10 +25,10 @@ from stand import Stand
 def main():
     stand = Stand(*sys.argv[1:])
     try:
-        parts = os.environ.get("PARTS", "entering faults slips runs looking words").split()
+        parts = os.environ.get("PARTS", "entering faults slips runs looking traps words asking").split()
         if "entering" not in parts:
             entering.send(stand)
-        for part in (entering, faults, slips, runs, looking, words):
+        for part in (entering, faults, slips, runs, looking, traps, words, asking):
             if part.__name__ in parts:
                 part.run(stand)
         stand.verdicts.same("no fault in the console of a page", stand.logs(), [])

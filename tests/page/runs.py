@@ -75,12 +75,21 @@ def many(stand):
     said = clerk.text("said")
     stand.holds("each is answered", said.count("Taken, as entry") == 3, said)
     place = stand.entries()
+    way = page.do("document.querySelector('#said a').getAttribute('href')")
+    stand.same("one remittance list of the run", way, f"#paper/run/{place - 2}+{place - 1}+{place}")
     page.close()
     stand.make_lists()
     clerk = stand.clerk("treasury")
+    paper = "/Total/.test(document.getElementById('paper-sheet').textContent) && document.getElementById('paper-sheet').textContent"
     clerk.page.do(f"location.hash = '#paper/run/{place}'; true")
-    said = clerk.page.until("/Total/.test(document.getElementById('paper-sheet').textContent) && document.getElementById('paper-sheet').textContent")
-    stand.holds("a remittance list", "remittance list" in said and "run-40-3" in said and named(stand, "650 Acme <b>& Sons</b>") in said, said[:300])
+    said = clerk.page.until(paper)
+    one = f"{all_ - 128} voucher" in said and "run-40-3" in said and "run-40-2" not in said
+    stand.holds("a remittance list of one call", one, said[:300])
+    clerk.page.do("document.getElementById('paper-sheet').replaceChildren(); true")
+    clerk.page.do(f"location.hash = '{way}'; true")
+    said = clerk.page.until(paper)
+    whole = "run-40-1, run-40-2, run-40-3" in said and f"{all_} vouchers" in said and named(stand, "650 Acme <b>& Sons</b>") in said
+    stand.holds("a remittance list of a run", whole, said[:300])
     stand.picture(clerk.page, "remittance")
     for scheme in ("light", "dark"):
         clerk.page.media(prefers_color_scheme=scheme)
@@ -129,12 +138,15 @@ def papers(stand):
 def names(stand):
     """A list of vendors with a fault leaves the old names."""
     path = os.path.join(stand.journal, "vendors.csv")
-    faults = {"vendor,name\n650,A\n650,B\n": "row 3, column 1 (vendor): vendor 650 stands in row 2 already", "name\nA\n": "row 1: its columns",
+    faults = {"vendor,name\n650,A\n650,B\n": "row 3, column 1 (vendor): vendor 650 stands in row 2 already",
+              "name\nA\n": "row 1, column 1 (vendor): the columns are to be vendor,name",
               "vendor,name\n-1,A\n": "row 2, column 1 (vendor): '-1' is no number", "vendor,name\n7,\n": "row 2, column 2 (name): a name has 1 to 80",
-              "vendor,name\n7\n": "row 2: it has 1 columns, and 2 are named"}
+              "vendor,name\n7\n": "row 2, column 2 (name): the row has 1 columns, and 2 are named",
+              'vendor,name,address\n7,"A","b\nc"\n8,B,"c" d\n': "row 3, column 3 (address): it isn't comma-separated values",
+              "vendor,name\n7,A\n8,\udcfc\n": "row 3, column 2 (name): it isn't UTF-8"}
     clerk = stand.clerk("auditor")
     for text, wanted in faults.items():
-        with open(path, "w", encoding="utf-8") as file:
+        with open(path, "w", encoding="utf-8", errors="surrogateescape") as file:
             file.write(text)
         stand.make_lists()
         clerk.page.do("document.getElementById('skipped').textContent = ''; dispatchEvent(new Event('focus')); true")

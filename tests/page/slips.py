@@ -33,6 +33,7 @@ def closes(stand):
     stand.same("no month is proposed before it has ended", page.do(VALUE.format("month")), "")
     said = prepared(clerk, {"call": "close", "what": "month", "month": "2025-08"})
     stand.holds("a close is said in a sentence", said.startswith("Close August 2025, 19 days before it ends."), said)
+    stand.holds("with what is owed by then", "through August 31, 2025 may still be owed." in said and "fiscal year" not in said, said)
     for scheme in ("light", "dark"):
         page.media(prefers_color_scheme=scheme)
         stand.same(f"contrast of the sentence: {scheme}", page.do(looking.CONTRAST), [])
@@ -202,14 +203,14 @@ def items(stand):
 
 
 def debts(stand):
-    """A bond gives the accounts of its last payment, and what is due."""
+    """A bond gives the accounts of its last payment, and the sum that is due."""
     bond = stand.ask({"call": "issue", "desk": 5, "key": "bond-slips", "on": DAY, "fund": 4, "amount": 30000, "rate_bp": 425, "every": 1, "principals": [10000, 20000]})["ok"]["bond"]
     stand.ask({"call": "collect", "desk": 5, "key": "collect-2-debts", "on": DAY, "bill": 2, "amount": 20000})
     stand.ask({"call": "pay_due", "desk": 5, "key": "debt-slips-1", "on": "2025-09-12", "bond": bond, "fund": 5, "dept": 11, "principal": 811, "interest": 821})
     stand.make_lists()
     clerk = stand.clerk("treasury")
     clerk.fill({"call": "pay_due", "on": DAY, "bond": bond})
-    said = clerk.page.until("/it pays 200.00 of principal/.test(document.getElementById('form').textContent) && "
+    said = clerk.page.until("/of 200.70 .200.00 of principal and 0.70 of interest/.test(document.getElementById('form').textContent) && "
                             "['fund', 'dept', 'principal', 'interest'].map(name => document.getElementById('form').elements.namedItem(name).value).join()")
-    stand.same("a bond's accounts, and the principal that is due", said, "5,11,811,821")
+    stand.same("a bond's accounts, and the sum that is due", said, "5,11,811,821")
     clerk.page.close()

@@ -59,10 +59,10 @@ class Stand:
     def desk(self, number):
         return self.clerk(USERS[number])
 
-    def make_lists(self):
-        """What the timer does."""
+    def make_lists(self, seconds=1):
+        """What the timer does; statements and months are made for so many seconds."""
         subprocess.run([sys.executable, os.path.join(TOP, "page", "lists.py"), self.books, os.path.join(self.journal, "fund.journal"), self.lists,
-                        os.path.join(self.journal, "vendors.csv")], check=True, stdout=subprocess.DEVNULL, stderr=subprocess.DEVNULL)
+                        os.path.join(self.journal, "vendors.csv"), str(seconds)], check=True, stdout=subprocess.DEVNULL, stderr=subprocess.DEVNULL)
 
     def calls(self):
         """The entries of the journal, each as its call."""
