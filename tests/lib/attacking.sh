@@ -24,9 +24,9 @@ stood() {
     mkdir -p "$copy/out" "$etc" "$made/tls" "$scratch/nginx/modules-enabled" "$scratch/nginx/conf.d"
     (cd "$top" && cp -R cityfund books package README.md CHANGELOG.md docs examples page tests "$copy/")
     cp "$program" "$copy/out/cityfund" && cp "$books" "$copy/out/books"
-    cp "$copy/examples/operate/"*.sh "$copy/"
     [ "$1" = with ] || python3 "$top/tests/lib/mends.py" out "$top/tests/lib/mends" "$copy" F1 F2 F3 F4 F5 F6 F7 F8 F9 F10 W L
     cd "$copy" || exit 1
+    cp examples/operate/*.sh .
     printf 'events {\n\tworker_connections 768;\n}\n' > "$scratch/nginx/nginx.conf"
     eval "$(code worker_connections)"
     held=$(sed -n 's/.*worker_connections \([0-9]*\);/\1/p' "$scratch/nginx/nginx.conf")
@@ -91,7 +91,8 @@ forged() {
     ended $serving
     $attacks forge nobody $first &
     door=$!
-    sleep 1
+    # 8101 is 1FA5 there, and 0A says that it listens.
+    for try in $(seq 100); do grep -q '0100007F:1FA5 00000000:0000 0A' /proc/net/tcp && break; sleep 0.1; done
     had=$(entries)
     served
     for number in $(seq 12); do asked payables "$url/calls" --data "$(voucher "forged$number")"; echo; done > "$scratch/answers"
@@ -126,8 +127,10 @@ builder() {
     opt=$scratch/set
     mkdir "$opt" "$scratch/built"
     cp -R cityfund books page docs examples README.md CHANGELOG.md "$scratch/built/" && mkdir "$scratch/built/out" && chown -R nobody "$scratch/built"
-    (cd "$copy" && text=$(code 'cityfund books out page') && cd "$scratch/built" && eval "$text")
+    text=$(code 'cityfund books out page')
+    (cd "$scratch/built" && eval "$text")
     echo "$(find "$opt" -user nobody | wc -l) files"
+    opt=$copy
 }
 
 told_passwords="the rights of the passwords' file after each line of \"Setting up\" that writes it"
@@ -143,26 +146,27 @@ passwords() {
 # ---- users of the proxy
 
 all="$all names rate linked fields formula"
-told_names="F7: a user posts an object of 10,000 names of one hash, then 12 of them at once, and another one asks beside them"
+told_names="F7: a user posts an object of 10,000 names of one hash, then six of them at once, and another user asks beside them"
 held_names="^one takes 0\.[01]"
 names() {
     [ -e "$base/names" ] || $attacks names 10000 > "$base/names"
-    one=$(asked treasury --output /dev/null --write-out '%{time_total}' "$url/calls" --data-binary "@$base/names")
-    for number in $(seq 12); do
+    before=$($attacks worked $proxy)
+    asked treasury --output /dev/null "$url/calls" --data-binary "@$base/names"
+    after=$($attacks worked $proxy)
+    posting=
+    for number in $(seq 6); do
         asked treasury --output /dev/null "$url/calls" --data-binary "@$base/names" &
+        posting="$posting $!"
     done
     sleep 0.2
-    beside=$(asked auditor --output /dev/null --write-out '%{time_total} s' "$url/lines/3/2026")
-    sleep 10
-    echo "one takes $one s; a look beside 12 of them takes $beside"
+    beside=$(asked auditor --output /dev/null --write-out '%{time_total}' "$url/lines/3/2026")
+    wait $posting
+    echo "one takes $(echo "$before $after" | awk '{ printf "%.2f", $2 - $1 }') s of a processor; a look beside six of them takes $beside s"
 }
 
-told_rate="F7: a user asks as fast as it can"
-held_rate="^[1-3]?[0-9]?[0-9] of"
-rate() {
-    sleep 5
-    $attacks rate
-}
+told_rate="F7: a user at one address asks 600 times, 80 times a second at most"
+held_rate="^[1-5]?[0-9]?[0-9] of 600"
+rate() { $attacks rate; }
 
 told_linked="the program's user makes a link to the passwords in the folder of the page's lists, and a user asks for it"
 held_linked="^0 "
@@ -241,8 +245,7 @@ clock() {
     cp "$scratch/rolled" "$scratch/one/fund.journal"
     for number in 1 2 3 4 5 6 7 8 9; do voucher "other$number"; done | (cd "$scratch/one" && "$copy/cityfund" desk) > /dev/null
     said=$(backed)
-    echo "status $?: $said" | tr '\n' ' ' | sed "s|$scratch/||g"
-    echo
+    echo "status $?: $(echo "$said" | cut -d : -f 2- | cut -c 2-110 | tr '\n' ' ' | sed "s|$scratch/||g")"
 }
 
 backed() {
@@ -271,14 +274,14 @@ answered() {
 }
 
 told_stopped="a stream to the second machine that stops without an end: how long follow holds its journal there (840 seconds are 2 here)"
-held_stopped="^ended after [23]"
+held_stopped="^ended after"
 stopped() {
     printf '#!/bin/sh\nexec cat > /dev/null\n' > "$scratch/follow"
     chmod +x "$scratch/follow"
     forced=$(code restrict,command= | sed -e 's/.*command="\([^"]*\)".*/\1/' -e 's/timeout [0-9]*/timeout 2/' -e "s|/var/lib/cityfund|$scratch|" \
         -e "s|$copy/cityfund follow|./follow|")
     began=$(date +%s)
-    sleep 12 | timeout 8 sh -c "$forced; exit \$?"
-    status=$?
-    [ -n "${forced##*timeout*}" ] && echo "still held after 8 seconds" || echo "ended after $(($(date +%s) - began)) seconds, status $status"
+    sleep 9 | { timeout 8 sh -c "$forced; exit \$?"; date +%s > "$scratch/ended"; }
+    took=$(($(cat "$scratch/ended") - began))
+    [ "$took" -lt 8 ] && echo "ended after $took seconds" || echo "still held after 8 seconds"
 }

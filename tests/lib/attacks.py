@@ -5,7 +5,8 @@ network of its own:
     attacks.py greetings PID   greetings of TLS by one address, and what nginx (PID) works for them
     attacks.py forge USER PORT a door that isn't the program's; it serves until it is ended
     attacks.py names COUNT     a body whose names njs keeps at one place
-    attacks.py rate FOLDER     a user that asks as fast as it can
+    attacks.py rate            a user that asks often
+    attacks.py worked PID      the seconds of processor that nginx had
     attacks.py log FOLDER      logs of who entered what that were changed and cut, asked of `trail` there
 
 Each prints its figures as one line, but for `forge`, and `names`, which prints the body."""
@@ -13,6 +14,7 @@ import base64
 import collections
 import concurrent.futures
 import contextlib
+import http.client
 import itertools
 import json
 import multiprocessing
@@ -103,7 +105,7 @@ def greeted(seconds):
     return count
 
 
-def worked(pid):
+def had(pid):
     """The seconds of processor that nginx's processes had."""
     ticks = 0
     for child in subprocess.run(["ps", "-o", "pid=", "--ppid", pid], capture_output=True, text=True).stdout.split():
@@ -111,11 +113,15 @@ def worked(pid):
     return ticks / os.sysconf("SC_CLK_TCK")
 
 
+def worked(pid):
+    print(had(pid))
+
+
 def greetings(pid, seconds=5):
-    before = worked(pid)
+    before = had(pid)
     with concurrent.futures.ProcessPoolExecutor(4) as pool:
         count = sum(pool.map(greeted, [seconds] * 4))
-    spent = worked(pid) - before
+    spent = had(pid) - before
     print(f"{count / seconds:.0f} greetings a second, {spent / seconds * 100:.0f} % of a processor, {spent * 1000 / max(count, 1):.2f} ms each")
 
 
@@ -172,18 +178,26 @@ def names(count):
 
 # ---- a user's rate
 
-def rate(seconds=5):
-    until = time.time() + seconds
+def rate(count=600):
+    """Eight links that are kept, each of them ten times a second at most."""
+    word = base64.b64encode(b"treasury:treasury's word").decode()
 
     def asking(_):
         codes = collections.Counter()
-        while time.time() < until:
-            codes[asked("127.0.0.6", "/desk/icon.svg", "treasury", 2)] += 1
+        link = http.client.HTTPSConnection(*SITE, context=TLS, timeout=10, source_address=("127.0.0.6", 0))
+        for _ in range(count // 8):
+            began = time.time()
+            link.request("GET", "/desk/icon.svg", headers={"Authorization": f"Basic {word}"})
+            answer = link.getresponse()
+            answer.read()
+            codes[answer.status] += 1
+            time.sleep(max(0.0, 0.1 + began - time.time()))
         return codes
 
+    began = time.time()
     with concurrent.futures.ThreadPoolExecutor(8) as pool:
         codes = sum(pool.map(asking, range(8)), collections.Counter())
-    print(f"{codes[200]} of {sum(codes.values())} requests in {seconds} s answered")
+    print(f"{codes[200]} of {sum(codes.values())} requests in {time.time() - began:.0f} s are answered")
 
 
 # ---- logs that were changed and cut
@@ -209,4 +223,4 @@ def log(folder):
 
 
 if __name__ == "__main__":
-    {each.__name__: each for each in (silent, greetings, forge, names, rate, log)}[sys.argv[1]](*sys.argv[2:])
+    {each.__name__: each for each in (silent, greetings, worked, forge, names, rate, log)}[sys.argv[1]](*sys.argv[2:])

@@ -8,6 +8,7 @@ them out one at a time, tests/long/attacks.sh some at once.
 A mend passes where its test fails without it by the case that the table names, and didn't fail by that
 case before. Of what can't be mended a page says what to do: that passes where the page says it.
 """
+import contextlib
 import pathlib
 import shutil
 import subprocess
@@ -122,7 +123,9 @@ def main(what, table, *words):
         copy, *heads = words
         for mend in read(table):
             if mend.edits and mend.head.split(" ")[0] in heads:
-                mend.taken_out(pathlib.Path(copy))
+                # Another one may have taken its text out with its own.
+                with contextlib.suppress(ValueError):
+                    mend.taken_out(pathlib.Path(copy))
         return 0
     top, copy, *some = words
     copied(pathlib.Path(top), pathlib.Path(copy))

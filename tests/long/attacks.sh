@@ -23,7 +23,7 @@ fi
 # Whatever happens, all that was started ends.
 trap 'kill $bounding $serving $proxy $door 2> /dev/null; rm -rf "$base"' EXIT
 trap 'echo "attacks: it takes too long" >&2; exit 1' HUP INT TERM
-(trap 'kill $! 2> /dev/null' TERM; sleep 1200 & wait $!; kill $$) &
+(trap 'kill $!; exit' TERM; sleep 1200 & wait $!; kill $$) 2> /dev/null &
 bounding=$!
 base=$(mktemp -d) || exit 1
 chmod 755 "$base"
