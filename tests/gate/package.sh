@@ -118,6 +118,9 @@ done)
 [ -z "$missing" ]
 verdict "what the units run: $missing" $?
 
+! diff -r "$scratch/root/usr/lib/systemd/system" "$there/examples/operate" | grep -vE '^Only in [^ ]*/examples/operate: '
+verdict "the units" $?
+
 # ---- a first day
 
 ln -s "$there/cityfund" "$there/books" "$scratch/desk/"
