@@ -7,8 +7,9 @@
 #
 #     operate.sh [PART..]
 #
-# The parts: units wall rights sheets doors copies; callers answers bodies page slow clients rate
-# log, for which nginx stands before the doors; trails drill. Without a word all are run.
+# The parts: units wall links watch rights sheets doors copies; callers answers bodies page slow
+# clients rate log, for which nginx stands before the doors; trails drill. Without a word all are
+# run.
 parts=$*
 cd "$(dirname "$0")/../.." || exit 1
 top=$(pwd)
@@ -88,7 +89,7 @@ ended() {
 if missing curl python3; then
     ended
 fi
-part wall && . tests/lib/walling.sh
+part wall links watch && . tests/lib/walling.sh
 part rights && . tests/lib/setting-up.sh
 if part sheets && ! missing node; then
     cp page/site/cells.js "$scratch/cells.mjs"
