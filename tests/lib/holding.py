@@ -2,7 +2,7 @@
 many are held, or whether only some are opened in a moment. Run behind the packet filter:
 
     holding.py held|opened [6]    by IPv4, or by IPv6, for which it gives the device more addresses
-    holding.py idle PORT SECONDS  how long a link of TLS is kept that asks one thing and then nothing
+    holding.py idle PORT SECONDS  how long a link of TLS is kept that asks once, and then nothing
 
 Run by tests/lib/walling.sh and tests/long/operate.sh."""
 import fcntl
@@ -57,8 +57,8 @@ def ended(source, count):
 
 
 def opening(source):
-    """How many of 960 links in a moment are let in, by eight processes, since a busy machine gives one
-    too little time.
+    """How many of 960 links in a moment are let in, by eight processes: a busy machine gives one of
+    them too little time.
     """
     with multiprocessing.Pool(8) as pool:
         let_in = sum(pool.starmap(ended, [(source, 120)] * 8))

@@ -1,9 +1,10 @@
 #!/bin/sh
-# Runs the files of examples/operate/ at a `serve` of this machine: nginx with TLS and passwords, in which only ports and paths are
-# others, asked by curl and by the clients of examples/clients/; the copy of a journal while it is
-# written to; the packet filter in a network of its own; what systemd says of the units; and what
-# docs/OPERATE.md makes with rights. What isn't installed is skipped, and said so. On Debian: nginx,
-# libnginx-mod-http-js, apache2-utils, curl, openssl, nftables, systemd.
+# Runs the files of examples/operate/ at a `serve` of this machine: nginx with TLS and passwords, in
+# which only ports and paths are others, asked by curl and by the clients of examples/clients/; the
+# copy of a journal while it is written to; the packet filter in a network of its own; what systemd
+# says of the units; and what docs/OPERATE.md makes with rights. What isn't installed is skipped,
+# and said so. On Debian: nginx, libnginx-mod-http-js, apache2-utils, curl, openssl, nftables,
+# systemd.
 #
 #     operate.sh [PART..]
 #
