@@ -1,6 +1,6 @@
-# Read by tests/long/attacks.sh: the stand of examples/operate/ at the real ports of a network of its own, and the attacks on it. Each
-# function of `all` prints what it came to; told_NAME is what it tries, and held_NAME a pattern of
-# what it comes to with the mends.
+# Read by tests/long/attacks.sh: the stand of examples/operate/ at the real ports of a network of
+# its own, and the attacks on it. Each function of `all` prints what it came to; told_NAME is what
+# it tries, and held_NAME a pattern of what it comes to with the mends.
 
 adopt='{"desk":1,"call":"adopt","key":"b1","on":"2025-07-01","fund":1,"year":2026,"lines":[{"line":3,"amount":100000}],"estimates":[]}'
 site=443 bare=80 first=8101 url=https://localhost:443

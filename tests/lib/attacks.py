@@ -1,13 +1,13 @@
-"""Attacks on a proxy and its doors, each bounded in count and in time. Run by tests/long/attacks.sh in a
-network of its own:
+"""Attacks on a proxy and its doors, each bounded in count and in time. Run by tests/long/attacks.sh
+in a network of its own:
 
-    attacks.py silent          3,200 links that begin TLS and say no more; a desk elsewhere asks meanwhile
+    attacks.py silent          3,200 links that begin TLS and say no more, and a desk elsewhere
     attacks.py greetings PID   greetings of TLS by one address, and what nginx (PID) works for them
     attacks.py forge USER PORT a door that isn't the program's; it serves until it is ended
     attacks.py names COUNT     a body whose names njs keeps at one place
     attacks.py rate            a user that asks often
     attacks.py worked PID      the seconds of processor that nginx had
-    attacks.py log FOLDER      logs of who entered what that were changed and cut, asked of `trail` there
+    attacks.py log FOLDER      what `trail` there says of logs that were changed and cut
 
 Each prints its figures as one line, but for `forge`, and `names`, which prints the body."""
 import base64
@@ -151,7 +151,7 @@ LETTERS = (string.ascii_letters + string.digits).encode()
 
 
 def blocks_of(state):
-    """Blocks of three letters after which njs's hash of a name is one and the same, and that hash."""
+    """Blocks of three letters behind which njs's hash of a name is the same, and that hash."""
     found = collections.defaultdict(list)
     for block in itertools.product(LETTERS, repeat=3):
         after = state

@@ -1,5 +1,5 @@
-// The cells of the page's sheets (page/site/cells.js): cells.mjs MODULE, a copy of it whose name says that it is one. Run by
-// tests/long/operate.sh under Node.
+// The cells of the page's sheets (page/site/cells.js): cells.mjs MODULE, a copy of it whose name
+// says that it is one. Run by tests/long/operate.sh under Node.
 const {cell} = await import(process.argv[2]);
 
 // What a spreadsheet takes for a formula has a quote before it; amounts and other texts stay.

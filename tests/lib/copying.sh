@@ -1,6 +1,6 @@
-# Read by tests/long/operate.sh, with `top`, `scratch`, `city`, `program` and `first` set, while a journal is served: backup.sh
-# beside desks at work, over a clock that is wrong for once, over a journal that lost entries, and
-# what docs/OPERATE.md does with the last copy.
+# Read by tests/long/operate.sh, with `top`, `scratch`, `city`, `program` and `first` set, while a
+# journal is served: backup.sh beside desks at work, over a clock that is wrong for once, over a
+# journal that lost entries, and what docs/OPERATE.md does with the last copy.
 
 # copy STATUS TEXT: backup.sh ends so, and says a line that has the text. `clock` is a moment that
 # it takes for now.

@@ -2,10 +2,11 @@
 many are held, or whether only some are opened in a moment. Run behind the packet filter:
 
     holding.py held|opened [6]    by IPv4, or by IPv6, for which it gives the device more addresses
-    holding.py idle PORT SECONDS  how long a link of TLS is kept that asks one thing and then nothing
+    holding.py idle PORT SECONDS  how long a link of TLS is kept that asks once, and then nothing
 
 Run by tests/lib/walling.sh and tests/long/operate.sh."""
 import fcntl
+import multiprocessing
 import socket
 import ssl
 import struct
@@ -44,18 +45,24 @@ def opened(source, count, pause=0.0):
     return links
 
 
-def opening(listener, source):
-    """How many of 2,000 links are let in, each ended before the next, by the listener first: none is
-    held.
-    """
+def ended(source, count):
+    """How many links from this address are let in, each ended before the next: none is held."""
     let_in = 0
-    for _ in range(2000):
+    for _ in range(count):
         for link in opened(source, 1):
-            listener.accept()[0].close()
-            link.recv(1)
+            link.setsockopt(socket.SOL_SOCKET, socket.SO_LINGER, struct.pack("ii", 1, 0))
             link.close()
             let_in += 1
-    return "opened" if 200 <= let_in < 1900 else let_in
+    return let_in
+
+
+def opening(source):
+    """How many of 960 links in a moment are let in, by eight processes: a busy machine gives one of
+    them too little time.
+    """
+    with multiprocessing.Pool(8) as pool:
+        let_in = sum(pool.starmap(ended, [(source, 120)] * 8))
+    return "opened" if 200 <= let_in < 900 else let_in
 
 
 def idle(port, most):
@@ -82,7 +89,7 @@ def main(what, is_6):
     first, also, beside, shared, alone = sources
     with socket.create_server((site, PORT), family=family, backlog=1000) as listener:
         if what == "opened":
-            print(opening(listener, alone))
+            print(opening(alone))
             return
         # So slowly that how many an address opens in a second bounds none of them.
         held = [opened(first, 130, 0.008) + opened(also, 130, 0.008), opened(beside, 50), opened(shared, 250)]

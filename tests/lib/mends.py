@@ -1,12 +1,14 @@
 """The mends of what stands around the program, by a table (tests/lib/mends): tests/long/mends.sh takes
 them out one at a time, tests/long/attacks.sh some at once.
 
-    mends.py try TABLE TOP COPY [WORD..]   copies the repository TOP to COPY; then each mend whose head has
-                                           a word, or each, is taken out there and tried
-    mends.py out TABLE COPY WORD..         takes out of a copy the mends whose heads begin with a word
+    mends.py try TABLE TOP COPY [WORD..]   copies the repository TOP to COPY; then each mend whose
+                                           head has a word, or each, is taken out there and tried
+    mends.py out TABLE COPY WORD..         takes the mends out of a copy whose heads begin with a
+                                           word
 
-A mend passes where its test fails without it by the case that the table names, and didn't fail by that
-case before. Of what can't be mended a page says what to do: that passes where the page says it.
+A mend passes where its test fails without it by the case that the table names, and didn't fail by
+that case before. Of what can't be mended a page says what to do: that passes where the page says
+it.
 """
 import contextlib
 import pathlib
@@ -21,8 +23,8 @@ MOST = 900  # seconds of one test
 
 
 class Mend:
-    """A mend: its head, its test with the case that guards it, and the edits that take it out; or the
-    page that says what to do, with its words.
+    """A mend: its head, its test with the case that guards it, and the edits that take it out; or
+    the page that says what to do, with its words.
     """
 
     def __init__(self, head):

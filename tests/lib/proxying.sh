@@ -1,7 +1,8 @@
-# Read by the scripts of tests/ that put nginx before a `serve`, with `top`, `scratch` and `first` set, the first of four ports: the
-# files of examples/operate/, in which only ports, paths and the users of spare desks are others.
-# `desks` has these users' lines. `site` and `bare` name the ports with and without TLS, and `held`
-# the links that a process of nginx has; without them ports are free ones, and links nginx's.
+# Read by the scripts of tests/ that put nginx before a `serve`, with `top`, `scratch` and `first`
+# set, the first of four ports: the files of examples/operate/, in which only ports, paths and the
+# users of spare desks are others. `desks` has these users' lines. `site` and `bare` name the ports
+# with and without TLS, and `held` the links that a process of nginx has; without them ports are
+# free ones, and links nginx's.
 
 module=/usr/lib/nginx/modules/ngx_http_js_module.so
 

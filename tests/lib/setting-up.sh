@@ -1,5 +1,5 @@
-# Read by tests/long/operate.sh, with `top` and `scratch` set and `code` at hand: what docs/OPERATE.md makes with rights, by
-# its own lines.
+# Read by tests/long/operate.sh, with `top` and `scratch` set and `code` at hand: what
+# docs/OPERATE.md makes with rights, by its own lines.
 
 opt=$scratch/opt
 mkdir -p "$scratch/made/tls" "$scratch/nginx/modules-enabled"

@@ -1,14 +1,16 @@
 #!/bin/sh
-# Runs the files of examples/operate/ at a `serve` of this machine: nginx with TLS and passwords, in which only ports and paths are
-# others, asked by curl and by the clients of examples/clients/; the copy of a journal while it is
-# written to; the packet filter in a network of its own; what systemd says of the units; and what
-# docs/OPERATE.md makes with rights. What isn't installed is skipped, and said so. On Debian: nginx,
-# libnginx-mod-http-js, apache2-utils, curl, openssl, nftables, systemd.
+# Runs the files of examples/operate/ at a `serve` of this machine: nginx with TLS and passwords, in
+# which only ports and paths are others, asked by curl and by the clients of examples/clients/; the
+# copy of a journal while it is written to; the packet filter in a network of its own; what systemd
+# says of the units; and what docs/OPERATE.md makes with rights. What isn't installed is skipped,
+# and said so. On Debian: nginx, libnginx-mod-http-js, apache2-utils, curl, openssl, nftables,
+# systemd.
 #
 #     operate.sh [PART..]
 #
-# The parts: units wall rights sheets doors copies; callers answers bodies page slow clients rate
-# log, for which nginx stands before the doors; trails drill. Without a word all are run.
+# The parts: units wall links watch rights sheets doors copies; callers answers bodies page slow
+# clients rate log, for which nginx stands before the doors; trails drill. Without a word all are
+# run.
 parts=$*
 cd "$(dirname "$0")/../.." || exit 1
 top=$(pwd)
@@ -88,7 +90,7 @@ ended() {
 if missing curl python3; then
     ended
 fi
-part wall && . tests/lib/walling.sh
+part wall links watch && . tests/lib/walling.sh
 part rights && . tests/lib/setting-up.sh
 if part sheets && ! missing node; then
     cp page/site/cells.js "$scratch/cells.mjs"
