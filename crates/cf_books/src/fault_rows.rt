@@ -52,7 +52,11 @@ fn row_of(fault: ChartFault) -> Option<FaultRow>
         ChartFault::Missing { table, at, key } => row_if(is_beside_id(table, key), table, at),
         ChartFault::Bad { table, at, key } => row_if(is_beside_id(table, key), table, at),
         ChartFault::Twice { table, at } => row_if(true, table, at),
-        _ => None,
+        ChartFault::TooLong { .. }
+        | ChartFault::NotToml
+        | ChartFault::TooMany { .. }
+        | ChartFault::Window { .. }
+        | ChartFault::General { .. } => None,
     }
 }
 

@@ -111,7 +111,27 @@ fn closes(years: bool, act: &Act) -> bool
     match act {
         Act::Close(Period::Month(_)) => !years,
         Act::Close(Period::Year(_)) => years,
-        _ => false,
+        Act::Adopt(_)
+        | Act::Amend(_)
+        | Act::Transfer(_)
+        | Act::Requisition(_)
+        | Act::Withdraw(_)
+        | Act::Order(_)
+        | Act::ChangeOrder(_)
+        | Act::CancelOrder(_)
+        | Act::Voucher(_)
+        | Act::VoidVoucher(_)
+        | Act::Pay(_)
+        | Act::Bill(_)
+        | Act::Collect(_)
+        | Act::Receive(_)
+        | Act::WriteOff(_)
+        | Act::Asset(_)
+        | Act::Issue(_)
+        | Act::PayDue(_)
+        | Act::Leave(_)
+        | Act::Interfund(_)
+        | Act::Lease(_) => false,
     }
 }
 

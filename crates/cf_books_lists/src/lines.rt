@@ -44,7 +44,7 @@ pub fn part_name(chart: &Chart, part: LinePart) -> &str
 {
     match part {
         LinePart::Object(id) => object_name(chart.object(id)),
-        _ => "",
+        LinePart::Department | LinePart::Class(_) => "",
     }
 }
 

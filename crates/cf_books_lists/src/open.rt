@@ -59,7 +59,35 @@ fn look_of(section: Section, entry: &Entry) -> Option<Read>
         (Section::Debts, Act::Lease(_)) => Some(Read::Bond {
             bond: entry.drawn.second,
         }),
-        _ => None,
+        (
+            Section::Requisitions
+            | Section::Orders
+            | Section::Bills
+            | Section::Vouchers
+            | Section::Debts,
+            Act::Adopt(_)
+            | Act::Amend(_)
+            | Act::Transfer(_)
+            | Act::Requisition(_)
+            | Act::Withdraw(_)
+            | Act::Order(_)
+            | Act::ChangeOrder(_)
+            | Act::CancelOrder(_)
+            | Act::Voucher(_)
+            | Act::VoidVoucher(_)
+            | Act::Pay(_)
+            | Act::Bill(_)
+            | Act::Collect(_)
+            | Act::Receive(_)
+            | Act::WriteOff(_)
+            | Act::Asset(_)
+            | Act::Issue(_)
+            | Act::PayDue(_)
+            | Act::Leave(_)
+            | Act::Interfund(_)
+            | Act::Close(_)
+            | Act::Lease(_),
+        ) => None,
     }
 }
 
@@ -72,7 +100,24 @@ fn party_of(act: &Act) -> u32
         Act::Voucher(voucher) => voucher.vendor,
         Act::Bill(bill) => bill.payer,
         Act::Lease(lease) => lease.vendor,
-        _ => 0,
+        Act::Adopt(_)
+        | Act::Amend(_)
+        | Act::Transfer(_)
+        | Act::Requisition(_)
+        | Act::Withdraw(_)
+        | Act::ChangeOrder(_)
+        | Act::CancelOrder(_)
+        | Act::VoidVoucher(_)
+        | Act::Pay(_)
+        | Act::Collect(_)
+        | Act::Receive(_)
+        | Act::WriteOff(_)
+        | Act::Asset(_)
+        | Act::Issue(_)
+        | Act::PayDue(_)
+        | Act::Leave(_)
+        | Act::Interfund(_)
+        | Act::Close(_) => 0,
     }
 }
 
@@ -82,7 +127,27 @@ fn number_of(entry: &Entry) -> u32
 {
     match entry.change.act {
         Act::Lease(_) => entry.drawn.second,
-        _ => entry.drawn.number,
+        Act::Adopt(_)
+        | Act::Amend(_)
+        | Act::Transfer(_)
+        | Act::Requisition(_)
+        | Act::Withdraw(_)
+        | Act::Order(_)
+        | Act::ChangeOrder(_)
+        | Act::CancelOrder(_)
+        | Act::Voucher(_)
+        | Act::VoidVoucher(_)
+        | Act::Pay(_)
+        | Act::Bill(_)
+        | Act::Collect(_)
+        | Act::Receive(_)
+        | Act::WriteOff(_)
+        | Act::Asset(_)
+        | Act::Issue(_)
+        | Act::PayDue(_)
+        | Act::Leave(_)
+        | Act::Interfund(_)
+        | Act::Close(_) => entry.drawn.number,
     }
 }
 
@@ -225,7 +290,7 @@ fn put_item(
             };
             put_part(alloc, out, chart, entry, part)
         }
-        _ => Ok(()),
+        ItemState::Finished | ItemState::Lapsed | ItemState::Cancelled => Ok(()),
     }
 }
 
@@ -311,7 +376,27 @@ fn put_shown(
                 outstanding,
             },
         ) => { put_whole(alloc, out, chart, entry, None, *outstanding, Some(*next)) }
-        _ => Ok(()),
+        None
+        | Some(
+            Shown::Line(_)
+            | Shown::Requisition {
+                state: RequisitionState::Withdrawn
+                | RequisitionState::Ordered
+                | RequisitionState::Lapsed,
+                ..
+            }
+            | Shown::Voucher {
+                state: VoucherState::Paid | VoucherState::Void,
+                ..
+            }
+            | Shown::Bill { .. }
+            | Shown::Asset { .. }
+            | Shown::Bond { next: None, .. }
+            | Shown::Leave { .. }
+            | Shown::Account { .. }
+            | Shown::Reconcile(_)
+            | Shown::Report { .. },
+        ) => Ok(()),
     }
 }
 
@@ -398,7 +483,27 @@ fn put_close(alloc: Global, out: &mut Rows, entry: &Entry) -> Result<(), AllocEr
 {
     match entry.change.act {
         Act::Close(period) => put_period(alloc, out, entry, period),
-        _ => Ok(()),
+        Act::Adopt(_)
+        | Act::Amend(_)
+        | Act::Transfer(_)
+        | Act::Requisition(_)
+        | Act::Withdraw(_)
+        | Act::Order(_)
+        | Act::ChangeOrder(_)
+        | Act::CancelOrder(_)
+        | Act::Voucher(_)
+        | Act::VoidVoucher(_)
+        | Act::Pay(_)
+        | Act::Bill(_)
+        | Act::Collect(_)
+        | Act::Receive(_)
+        | Act::WriteOff(_)
+        | Act::Asset(_)
+        | Act::Issue(_)
+        | Act::PayDue(_)
+        | Act::Leave(_)
+        | Act::Interfund(_)
+        | Act::Lease(_) => Ok(()),
     }
 }
 

@@ -129,7 +129,17 @@ fn row_lines(
 {
     match kind {
         ReportKind::Look(Kind::Budget) => comparison_lines(alloc, chart, year),
-        _ => Ok(Vec::new(alloc)),
+        ReportKind::Look(
+            Kind::Balance
+            | Kind::Operating
+            | Kind::Position
+            | Kind::Activities
+            | Kind::Reconcile
+            | Kind::Changes,
+        )
+        | ReportKind::Classes
+        | ReportKind::Components
+        | ReportKind::Major => Ok(Vec::new(alloc)),
     }
 }
 
@@ -153,7 +163,16 @@ fn is_total(kind: ReportKind, row: &Row) -> bool
         ReportKind::Look(Kind::Balance) | ReportKind::Classes => {
             row.label.as_str() == "Total fund balances"
         }
-        _ => false,
+        ReportKind::Look(
+            Kind::Operating
+            | Kind::Budget
+            | Kind::Position
+            | Kind::Activities
+            | Kind::Reconcile
+            | Kind::Changes,
+        )
+        | ReportKind::Components
+        | ReportKind::Major => false,
     }
 }
 
@@ -323,7 +342,12 @@ fn put_fields(
     match kind {
         ReportKind::Look(Kind::Budget) => put_compared(alloc, out, chart, section, line, row),
         ReportKind::Look(Kind::Activities) => put_activity(alloc, out, section, row),
-        _ => put_single(alloc, out, section, row),
+        ReportKind::Look(
+            Kind::Balance | Kind::Operating | Kind::Position | Kind::Reconcile | Kind::Changes,
+        )
+        | ReportKind::Classes
+        | ReportKind::Components
+        | ReportKind::Major => put_single(alloc, out, section, row),
     }
 }
 
@@ -381,7 +405,12 @@ fn put_head(out: &mut Rows, kind: ReportKind) -> Result<(), AllocError>
     match kind {
         ReportKind::Look(Kind::Budget) => put_comparison_head(out),
         ReportKind::Look(Kind::Activities) => put_activities_head(out),
-        _ => put_single_head(out),
+        ReportKind::Look(
+            Kind::Balance | Kind::Operating | Kind::Position | Kind::Reconcile | Kind::Changes,
+        )
+        | ReportKind::Classes
+        | ReportKind::Components
+        | ReportKind::Major => put_single_head(out),
     }
 }
 

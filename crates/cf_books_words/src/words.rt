@@ -171,7 +171,22 @@ impl Request<'_> {
             (Some(path), _) => path,
             (None, Command::CheckChart) => "chart.toml",
             (None, Command::CheckGrants | Command::Claims { .. }) => "grants.toml",
-            (None, _) => JOURNAL,
+            (
+                None,
+                Command::Check
+                | Command::List { .. }
+                | Command::Calls
+                | Command::Chart
+                | Command::Lines
+                | Command::Posts { .. }
+                | Command::Balances { .. }
+                | Command::Open { .. }
+                | Command::Statement { .. }
+                | Command::Ledger { .. }
+                | Command::Documents { .. }
+                | Command::Month { .. }
+                | Command::Paid { .. },
+            ) => JOURNAL,
         }
     }
 }
@@ -264,7 +279,22 @@ fn refusal_of(error: &Error) -> WordsRefused
 {
     match error.kind() {
         ErrorKind::OutOfMemory => WordsRefused::NoMemory,
-        _ => WordsRefused::BadWords,
+        ErrorKind::InvalidValue
+        | ErrorKind::UnknownArgument
+        | ErrorKind::InvalidSubcommand
+        | ErrorKind::NoEquals
+        | ErrorKind::ValueValidation
+        | ErrorKind::TooManyValues
+        | ErrorKind::TooFewValues
+        | ErrorKind::WrongNumberOfValues
+        | ErrorKind::ArgumentConflict
+        | ErrorKind::MissingRequiredArgument
+        | ErrorKind::MissingSubcommand
+        | ErrorKind::DisplayHelp
+        | ErrorKind::DisplayHelpOnMissingArgumentOrSubcommand
+        | ErrorKind::DisplayVersion
+        | ErrorKind::Io
+        | ErrorKind::Format => WordsRefused::BadWords,
     }
 }
 
