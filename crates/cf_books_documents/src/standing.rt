@@ -318,7 +318,8 @@ pub fn debt_now(shown: Option<&Shown>, year: u16, amount: u64) -> Standing
     }
 }
 
-/// A loan of a fiscal year and an amount: what is left of it, of what the fund that borrowed owes the one that lent.
+/// A loan of a fiscal year and an amount: what is left of it, of what the fund that borrowed owes
+/// the one that lent.
 pub fn loan_now(year: u16, amount: u64, owed: u64) -> Standing
     ensures { result ≡ spec.loan_now year amount owed }
 {

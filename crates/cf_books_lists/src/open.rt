@@ -209,7 +209,8 @@ fn put_part(
     entry: &Entry,
     part: Part,
 ) -> Result<(), AllocError>
-    ensures { OnOk result (out.new ≡ added out.old (spec.part_text out.old.csv chart.now entry.now part)) }
+    ensures { OnOk result (out.new
+        ≡ added out.old (spec.part_text out.old.csv chart.now entry.now part)) }
 {
     let change = &entry.change;
     let call = Vec::from_slice(alloc, call_word(&change.act).as_bytes())?;
@@ -251,7 +252,8 @@ fn put_held(
     year: u16,
     items: &[LineAmount],
 ) -> Result<(), AllocError>
-    ensures { OnOk result (out.new ≡ added out.old (spec.held_text out.old.csv chart.now entry.now year 1 items.now)) }
+    ensures { OnOk result (out.new
+        ≡ added out.old (spec.held_text out.old.csv chart.now entry.now year 1 items.now)) }
 {
     let mut place: u64 = 0;
     for item in items {
@@ -277,7 +279,8 @@ fn put_item(
     place: u64,
     item: OrderItemShown,
 ) -> Result<(), AllocError>
-    ensures { OnOk result (out.new ≡ added out.old (spec.item_text out.old.csv chart.now entry.now place item item.state)) }
+    ensures { OnOk result (out.new
+        ≡ added out.old (spec.item_text out.old.csv chart.now entry.now place item item.state)) }
 {
     match item.state {
         ItemState::Live => {
@@ -302,7 +305,8 @@ fn put_items(
     entry: &Entry,
     items: &[OrderItemShown],
 ) -> Result<(), AllocError>
-    ensures { OnOk result (out.new ≡ added out.old (spec.items_text out.old.csv chart.now entry.now 1 items.now)) }
+    ensures { OnOk result (out.new
+        ≡ added out.old (spec.items_text out.old.csv chart.now entry.now 1 items.now)) }
 {
     let mut place: u64 = 0;
     for item in items {
@@ -322,7 +326,8 @@ fn put_whole(
     amount: u64,
     next: Option<Day>,
 ) -> Result<(), AllocError>
-    ensures { OnOk result (out.new ≡ added out.old (spec.whole_text out.old.csv chart.now entry.now year amount next)) }
+    ensures { OnOk result (out.new
+        ≡ added out.old (spec.whole_text out.old.csv chart.now entry.now year amount next)) }
 {
     let part = Part {
         item: 0,
@@ -342,7 +347,9 @@ fn put_shown(
     entry: &Entry,
     shown: Option<&Shown>,
 ) -> Result<(), AllocError>
-    ensures { OnOk result (out.new ≡ added out.old (spec.shown_text out.old.csv chart.now entry.now (option_copied shown.entry))) }
+    ensures { OnOk result (out.new
+        ≡ added out.old (spec.shown_text out.old.csv chart.now entry.now
+        (option_copied shown.entry))) }
 {
     match shown {
         Some(
@@ -408,7 +415,9 @@ fn put_entry(
     section: Section,
     entry: &Entry,
 ) -> Result<(), AllocError>
-    ensures { OnOk result (out.new ≡ added out.old (spec.looked_text out.old.csv rest.now.plan (registers_of rest.now.plan rest.now.entries) entry.now (spec.look_of section entry.now))) }
+    ensures { OnOk result (out.new
+        ≡ added out.old (spec.looked_text out.old.csv rest.now.plan
+        (registers_of rest.now.plan rest.now.entries) entry.now (spec.look_of section entry.now))) }
 {
     let Some(look) = look_of(section, entry) else {
         return Ok(());
@@ -425,7 +434,9 @@ fn put_section(
     section: Section,
     entries: &[Entry],
 ) -> Result<(), AllocError>
-    ensures { OnOk result (out.new ≡ added out.old (spec.section_text out.old.csv rest.now.plan (registers_of rest.now.plan rest.now.entries) section entries.now)) }
+    ensures { OnOk result (out.new
+        ≡ added out.old (spec.section_text out.old.csv rest.now.plan
+        (registers_of rest.now.plan rest.now.entries) section entries.now)) }
 {
     for entry in entries {
         put_entry(alloc, out, rest, section, entry)?;
@@ -449,7 +460,8 @@ fn put_period(
     entry: &Entry,
     period: Period,
 ) -> Result<(), AllocError>
-    ensures { OnOk result (out.new ≡ added out.old (record_text out.old.csv (spec.close_row entry.now period))) }
+    ensures { OnOk result (out.new
+        ≡ added out.old (record_text out.old.csv (spec.close_row entry.now period))) }
 {
     let change = &entry.change;
     let day = day_text(change.on);
@@ -479,7 +491,8 @@ fn put_period(
 
 /// Writes what an entry closes.
 fn put_close(alloc: Global, out: &mut Rows, entry: &Entry) -> Result<(), AllocError>
-    ensures { OnOk result (out.new ≡ added out.old (spec.close_by out.old.csv entry.now.change.act entry.now)) }
+    ensures { OnOk result (out.new
+        ≡ added out.old (spec.close_by out.old.csv entry.now.change.act entry.now)) }
 {
     match entry.change.act {
         Act::Close(period) => put_period(alloc, out, entry, period),
@@ -540,12 +553,13 @@ fn put_head(out: &mut Rows) -> Result<(), AllocError>
     out.put_names(names.as_slice())
 }
 
-/// What is open, as records below a row of names: open requisitions by item, live items of orders with what is open of each,
-/// bills with what is left, vouchers that aren't paid, and bonds and leases with what is outstanding and the day of the next
-/// payment, each kind by rising number and as looks show them, in units of money; then the months and the fiscal years that
-/// are closed.
+/// What is open, as records below a row of names: open requisitions by item, live items of orders
+/// with what is open of each, bills with what is left, vouchers that aren't paid, and bonds and
+/// leases with what is outstanding and the day of the next payment, each kind by rising number and
+/// as looks show them, in units of money; then the months and the fiscal years that are closed.
 pub fn open_text(layout: Layout, rest: &Rest) -> Result<Vec<u8>, AllocError>
-    ensures { IfOk result (λ v. v.items ≡ spec.open_text layout.csv rest.now.plan rest.now.entries) }
+    ensures { IfOk result (λ v. v.items ≡ spec.open_text layout.csv rest.now.plan
+        rest.now.entries) }
 {
     let entries = rest.entries();
     let alloc = layout.alloc;
