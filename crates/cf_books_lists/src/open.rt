@@ -1,11 +1,13 @@
 //! What is open, as looks at documents, bills and debt show it, and what is closed.
 
-ghost use Rattle.std.specs.Prelude.{◌≡◌, pos, string_bytes, IfOk, OnOk};
+ghost use Rattle.std.specs.Prelude.{◌≡◌, ℕ, List, Ok, pos, string_bytes, IfOk, OnOk};
 ghost use Rattle.cf_base.specs.Amounts.{money_of};
 ghost use Rattle.std.specs.Option.{option_copied};
 ghost use Rattle.cf_books_lists.specs.Open as spec;
+ghost use Rattle.cf_books_lists.specs.OpenSums.{OpenAddsUp};
 ghost use Rattle.cf_books_lists.specs.Records.{head_text, record_text};
 ghost use Rattle.cf_books_lists.specs.Rows.{added};
+ghost use Rattle.cf_chart.specs.Reading.{chart_of};
 ghost use Rattle.cf_model.specs.Registers.{registers_of};
 
 use crate::names::{department_name, fund_name};
@@ -553,11 +555,8 @@ fn put_head(out: &mut Rows) -> Result<(), AllocError>
     out.put_names(names.as_slice())
 }
 
-/// What is open, as records below a row of names: open requisitions by item, live items of orders
-/// with what is open of each, bills with what is left, vouchers that aren't paid, and bonds and
-/// leases with what is outstanding and the day of the next payment, each kind by rising number and
-/// as looks show them, in units of money; then the months and the fiscal years that are closed.
-pub fn open_text(layout: Layout, rest: &Rest) -> Result<Vec<u8>, AllocError>
+/// Writes all that is open, and what is closed.
+fn all_text(layout: Layout, rest: &Rest) -> Result<Vec<u8>, AllocError>
     ensures { IfOk result (λ v. v.items ≡ spec.open_text layout.csv rest.now.plan
         rest.now.entries) }
 {
@@ -572,4 +571,22 @@ pub fn open_text(layout: Layout, rest: &Rest) -> Result<Vec<u8>, AllocError>
     put_section(alloc, &mut out, rest, Section::Debts, entries)?;
     put_closes(alloc, &mut out, entries)?;
     out.into_text()
+}
+
+/// What is open, as records below a row of names: open requisitions by item, live items of orders
+/// with what is open of each, bills with what is left, vouchers that aren't paid, and bonds and
+/// leases with what is outstanding and the day of the next payment, each kind by rising number and
+/// as looks show them, in units of money; then the months and the fiscal years that are closed.
+/// Under any chart that was read, the rows of bills come to each fund's receivables (110000), those
+/// of vouchers to its vouchers payable (200000), and those of order items to what is encumbered on
+/// each line in each fiscal year.
+pub fn open_text(layout: Layout, rest: &Rest) -> Result<Vec<u8>, AllocError>
+    ensures text { IfOk result (λ v. v.items ≡ spec.open_text layout.csv rest.now.plan
+        rest.now.entries) }
+    ensures sums { (bytes : List ℕ) → chart_of bytes ≡ Ok rest.now.plan
+        → OpenAddsUp rest.now.plan rest.now.entries }
+{
+    // So that the proof knows that the history is legal.
+    let _legal = rest.entries();
+    all_text(layout, rest)
 }
