@@ -19,25 +19,25 @@ use Rattle.cf_calls.specs.declared.shown.VoucherState.{VoucherState}
 use Rattle.cf_calls.specs.declared.shown.VoucherState.TheVariants as voucher
 use Rattle.cf_chart.specs.Plan.{Plan, line_of}
 use Rattle.cf_model.specs.Charted.{fund_of}
-use Rattle.cf_model.specs.Documents.{Documents, Expenditure, documents_of, is_drawn, voucher_at}
+use Rattle.cf_model.specs.Documents.{Documents, Expenditure, is_drawn, voucher_at}
 use Rattle.cf_model.specs.DocumentsShown.{item_shown, or_zero}
-use Rattle.cf_model.specs.LineNumbers.{counts, encumbered, encumbered_sum, is_line}
-use Rattle.cf_model.specs.OrderItems.{OrderItem, Stage, going, lapsed, cancelled, has_line, is_finished, is_live, is_live_at, liquidated_sum, open_of, state_at, state_of}
+use Rattle.cf_model.specs.LineNumbers.{counts, encumbered_sum, is_line}
+use Rattle.cf_model.specs.OrderItems.{OrderItem, Stage, going, lapsed, cancelled, has_line, is_finished, is_live_at, liquidated_sum, open_of, state_at, state_of}
 use Rattle.cf_model.specs.Receivables.{Bill, bill_at, left_of}
 use Rattle.cf_model.specs.Registers.{Registers, registers_of}
 use Rattle.cf_model.specs.Step.{IsLegal}
 use Rattle.cf_model.specs.Sums.{int_sum}
 use Rattle.cf_model.proofs.Pushes.{documents_are}
 use Rattle.cf_model.proofs.Totals.{all_so, exchange, find_sum, found_passes, none_first, none_last, one_passes, passing, same_all, sum_append, sum_filter, sum_none, sum_pos, sum_same}
-use Rattle.cf_articulation.specs.OpenBills.{BillsAreReceivable, left_part, left_sum}
+use Rattle.cf_articulation.specs.OpenBills.{BillsAreReceivable, left_part}
 use Rattle.cf_articulation.specs.OpenVouchers.{VouchersAreOwed, open_amount, open_part}
 use Rattle.cf_registers.specs.RegistersState.{register_shown}
 use Rattle.cf_books_lists.specs.declared.open.Part.{Part}
 use Rattle.cf_books_lists.specs.declared.open.Section.{Section}
 use Rattle.cf_books_lists.specs.declared.open.Section.TheVariants.{Orders, Bills, Vouchers}
 use Rattle.cf_books_lists.specs.Open.{bill_text, debt_text, held_text, item_text, items_text, look_by, look_of, looked_text, part_text, requisition_text, section_text, shown_text, voucher_text}
-use Rattle.cf_books_lists.specs.OpenSums.{IsVoucherRow, OpenAddsUp, bill_is_of, bill_parts, debt_parts, held_parts, item_parts, of_bill, of_voucher, on_line, order_parts, parts_looked, parts_of, parts_shown, requisition_parts, rows_sum, rows_text, voucher_parts, voucher_rows, whole_part}
-use Rattle.cf_books_lists.proofs.OpenDrawn.{AllDrawn, AreStates, HasState, IsBilled, IsOrdered, all_drawn, drawn_one, drew, is_bill, is_order, is_voucher, number_is}
+use Rattle.cf_books_lists.specs.OpenSums.{IsVoucherRow, OpenAddsUp, bill_is_of, bill_parts, debt_parts, held_parts, item_parts, of_bill, of_voucher, on_line, order_parts, parts_looked, parts_of, parts_shown, requisition_parts, rows_text, voucher_parts, voucher_rows, whole_part}
+use Rattle.cf_books_lists.proofs.OpenDrawn.{AreStates, HasState, IsBilled, IsOrdered, all_drawn, drawn_one, drew, is_bill, is_order, is_voucher, number_is}
 
 -- ---- the text is a row for each part
 
