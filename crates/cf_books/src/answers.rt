@@ -105,7 +105,19 @@ fn text_of(alloc: Global, command: Command, whole: &Whole) -> Result<Vec<u8>, Al
         }
         Command::List { csv } => list_text(alloc, csv, whole.entries.as_slice()),
         Command::Chart => Vec::from_slice(alloc, whole.chart.as_slice()),
-        _ => Ok(Vec::new(alloc)),
+        Command::CheckChart
+        | Command::CheckGrants
+        | Command::Check
+        | Command::Lines
+        | Command::Claims { .. }
+        | Command::Posts { .. }
+        | Command::Balances { .. }
+        | Command::Open { .. }
+        | Command::Statement { .. }
+        | Command::Ledger { .. }
+        | Command::Documents { .. }
+        | Command::Month { .. }
+        | Command::Paid { .. } => Ok(Vec::new(alloc)),
     }
 }
 

@@ -24,14 +24,15 @@ pub fn put_call(out: &mut Vec<u8>, entry: &Entry) -> Result<(), AllocError>
     Ok(())
 }
 
-/// Appends the calls of a journal's entries, a line each, in order. What a desk reads of each line is the entry's
-/// change. Where the history of the entries is legal, a desk that takes the calls from the empty history on under the
-/// same chart has that history again.
+/// Appends the calls of a journal's entries, a line each, in order. What a desk reads of each line
+/// is the entry's change. Where the history of the entries is legal, a desk that takes the calls
+/// from the empty history on under the same chart has that history again.
 pub fn put_calls(out: &mut Vec<u8>, entries: &[Entry]) -> Result<(), AllocError>
     requires { All HasRecord entries.now }
     ensures text { OnOk result (out.new.items ≡ out.old.items ++ calls_text entries.now) }
     ensures back { OnOk result (All ReadsBack entries.now) }
-    ensures again { (plan : Plan) → IsLegal plan entries.now → after_calls plan [] (calls_of entries.now) ≡ entries.now }
+    ensures again { (plan : Plan) → IsLegal plan entries.now
+        → after_calls plan [] (calls_of entries.now) ≡ entries.now }
 {
     for entry in entries {
         put_call(out, entry)?;

@@ -22,7 +22,8 @@ pub fn documents_answer(
     bytes: &[u8],
 ) -> Result<Answer, AllocError>
     ensures { Answers result
-        (spec.documents_said filter (option_map (λ k. k.now) key.entry) layout.csv bytes.now (recovered bytes.now)) }
+        (spec.documents_said filter (option_map (λ k. k.now) key.entry) layout.csv bytes.now
+        (recovered bytes.now)) }
 {
     let copy = Vec::from_slice(layout.alloc, bytes)?;
     match open_book(layout.alloc, copy) {

@@ -1,4 +1,5 @@
-//! The id of the row that a chart's fault is in, which tells more than its place where a table has many rows.
+//! The id of the row that a chart's fault is in, which tells more than its place where a table has
+//! many rows.
 
 ghost use Rattle.std.specs.Prelude.{◌≡◌, IfOk};
 ghost use Rattle.toml.specs.View.{view};
@@ -24,8 +25,8 @@ fn has_ids(table: TableName) -> bool
     !matches!(table, TableName::Top | TableName::Line)
 }
 
-/// Whether a fault of this key is one of a row whose id is another key. A key that is named as the table says that the
-/// whole table is no list of rows.
+/// Whether a fault of this key is one of a row whose id is another key. A key that is named as the
+/// table says that the whole table is no list of rows.
 fn is_beside_id(table: TableName, key: KeyName) -> bool
     ensures { result ≡ spec.is_beside_id table key }
 {
@@ -52,7 +53,11 @@ fn row_of(fault: ChartFault) -> Option<FaultRow>
         ChartFault::Missing { table, at, key } => row_if(is_beside_id(table, key), table, at),
         ChartFault::Bad { table, at, key } => row_if(is_beside_id(table, key), table, at),
         ChartFault::Twice { table, at } => row_if(true, table, at),
-        _ => None,
+        ChartFault::TooLong { .. }
+        | ChartFault::NotToml
+        | ChartFault::TooMany { .. }
+        | ChartFault::Window { .. }
+        | ChartFault::General { .. } => None,
     }
 }
 
@@ -74,9 +79,9 @@ fn id_under(alloc: Global, bytes: &[u8], row: FaultRow) -> Result<Option<u16>, A
     }
 }
 
-/// The id of the row that a fault of a chart is in, 0 to 65535. `None` where the row has no such id, where the id is
-/// itself what is missing or bad, where the rows of the table have no ids, and where the fault is in no row. The bytes are
-/// those that the fault was found in.
+/// The id of the row that a fault of a chart is in, 0 to 65535. `None` where the row has no such
+/// id, where the id is itself what is missing or bad, where the rows of the table have no ids, and
+/// where the fault is in no row. The bytes are those that the fault was found in.
 pub fn fault_id(alloc: Global, bytes: &[u8], fault: ChartFault) -> Result<Option<u16>, AllocError>
     ensures { IfOk result (λ id. id ≡ spec.fault_id bytes.now fault) }
 {

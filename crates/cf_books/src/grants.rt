@@ -46,7 +46,8 @@ fn document_answer(alloc: Global, bytes: &[u8], chart: &Chart) -> Result<Answer,
     }
 }
 
-/// What a document has under the chart that these bytes are, or the first fault of the chart or the document.
+/// What a document has under the chart that these bytes are, or the first fault of the chart or the
+/// document.
 fn under_chart(alloc: Global, bytes: &[u8], chart: &[u8]) -> Result<Answer, AllocError>
     ensures { Answers result (spec.under_chart bytes.now chart.now (chart_of chart.now)) }
 {
@@ -81,7 +82,8 @@ fn vouchers_answer(
     bytes: &[u8],
     book: &Book<MemDisk>,
 ) -> Result<Answer, AllocError>
-    ensures { Answers result (spec.rows_said layout.csv bytes.now (rows_of_grant book.now.plan book.now.entries bytes.now grant)) }
+    ensures { Answers result (spec.rows_said layout.csv bytes.now
+        (rows_of_grant book.now.plan book.now.entries bytes.now grant)) }
 {
     match vouchers_of_grant(layout.alloc, book.chart(), book.entries(), bytes, grant) {
         Ok(rows) => {
@@ -94,14 +96,16 @@ fn vouchers_answer(
     }
 }
 
-/// How the vouchers of a grant of a document stand in the history of a journal, whose entries the office takes again.
+/// How the vouchers of a grant of a document stand in the history of a journal, whose entries the
+/// office takes again.
 pub fn claims_answer(
     layout: Layout,
     grant: u16,
     bytes: &[u8],
     journal: &[u8],
 ) -> Result<Answer, AllocError>
-    ensures { Answers result (spec.over_office (spec.vouchers_said grant layout.csv bytes.now) journal.now (recovered journal.now)) }
+    ensures { Answers result (spec.over_office (spec.vouchers_said grant layout.csv bytes.now)
+        journal.now (recovered journal.now)) }
 {
     let copy = Vec::from_slice(layout.alloc, journal)?;
     match open_book(layout.alloc, copy) {

@@ -1,5 +1,5 @@
-//! The commands that check, read and take out a city's books: its chart and its journal. They read bytes and write text,
-//! and change nothing.
+//! The commands that check, read and take out a city's books: its chart and its journal. They read
+//! bytes and write text, and change nothing.
 #![tactic(auto)]
 
 mod answers;

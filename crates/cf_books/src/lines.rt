@@ -19,7 +19,8 @@ fn put_line(
     number: u64,
     line: &Line,
 ) -> Result<(), AllocError>
-    ensures { OnOk result (out.new ≡ added out.old (record_text out.old.csv (spec.line_row chart.now number line.now))) }
+    ensures { OnOk result (out.new
+        ≡ added out.old (record_text out.old.csv (spec.line_row chart.now number line.now))) }
 {
     let at = decimal_text(alloc, number)?;
     let fund = decimal_text(alloc, line.fund as u64)?;

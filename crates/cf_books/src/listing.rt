@@ -32,7 +32,8 @@ fn put_entry(
     amount: Option<i128>,
     entry: &Entry,
 ) -> Result<(), AllocError>
-    ensures { OnOk result (out.new ≡ added out.old (record_text out.old.csv (spec.entry_row place amount entry.now))) }
+    ensures { OnOk result (out.new
+        ≡ added out.old (record_text out.old.csv (spec.entry_row place amount entry.now))) }
 {
     let change = &entry.change;
     let at = decimal_text(alloc, place)?;
@@ -65,7 +66,8 @@ fn put_header(out: &mut Rows) -> Result<(), AllocError>
     out.put_names(names.as_slice())
 }
 
-/// The entries of a journal, a row each: as records with a row of names before them, or with tabs between the fields.
+/// The entries of a journal, a row each: as records with a row of names before them, or with tabs
+/// between the fields.
 pub fn list_text(alloc: Global, csv: bool, entries: &[Entry]) -> Result<Vec<u8>, AllocError>
     requires { All HasRecord entries.now }
     ensures { IfOk result (λ bytes. bytes.items ≡ spec.list_text csv entries.now) }

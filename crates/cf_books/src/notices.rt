@@ -83,7 +83,8 @@ fn put_entry(out: &mut Vec<u8>, entry: RefusedEntry) -> Result<(), AllocError>
 
 /// Appends what is damaged.
 fn put_damage(out: &mut Vec<u8>, offset: u64, entry: Option<RefusedEntry>) -> Result<(), AllocError>
-    ensures { OnOk result (out.new.items ≡ out.old.items ++ (spec.at_text offset ++ spec.damage_text entry)) }
+    ensures { OnOk result (out.new.items ≡ out.old.items
+        ++ (spec.at_text offset ++ spec.damage_text entry)) }
 {
     put_between(out, "damaged at ", offset, ": ")?;
     match entry {
@@ -94,7 +95,8 @@ fn put_damage(out: &mut Vec<u8>, offset: u64, entry: Option<RefusedEntry>) -> Re
 
 /// Appends that so many entries were asked for of a journal that has fewer.
 fn put_entries(out: &mut Vec<u8>, asked: u64, entries: u64) -> Result<(), AllocError>
-    ensures { OnOk result (out.new.items ≡ out.old.items ++ spec.status_text (Status.EntriesRefused asked entries)) }
+    ensures { OnOk result (out.new.items ≡ out.old.items
+        ++ spec.status_text (Status.EntriesRefused asked entries)) }
 {
     put_between(out, "entries refused: ", asked, " asked, the journal has ")?;
     put_number(out, entries)
@@ -136,7 +138,8 @@ fn put_status(out: &mut Vec<u8>, status: Status) -> Result<(), AllocError>
     }
 }
 
-/// Appends what is said on standard error of how a run ended: a line, or nothing where all went well.
+/// Appends what is said on standard error of how a run ended: a line, or nothing where all went
+/// well.
 pub fn put_notice(out: &mut Vec<u8>, status: Status) -> Result<(), AllocError>
     ensures { OnOk result (out.new.items ≡ out.old.items ++ spec.notice_of status) }
 {

@@ -17,7 +17,8 @@ use cf_book::{Book, BookRefused, NotOpened, open};
 use cf_disk::MemDisk;
 use std::alloc::{AllocError, Global};
 
-/// The book of a journal's bytes, or why they aren't those of an office. All entries are judged by the rules again.
+/// The book of a journal's bytes, or why they aren't those of an office. All entries are judged by
+/// the rules again.
 pub(crate) fn open_book(alloc: Global, bytes: Vec<u8>) -> Result<Book<MemDisk>, BookRefused>
     ensures { Opens result (recovered bytes.items) }
 {
@@ -36,7 +37,8 @@ pub(crate) fn refused_answer(
     bytes: &[u8],
     why: BookRefused,
 ) -> Result<Answer, AllocError>
-    ensures { (told : OfficeState → spec.Said) (x : Result OfficeState BookRefusal) → Refuses why x → Answers result (spec.over_office told bytes.now x) }
+    ensures { (told : OfficeState → spec.Said) (x : Result OfficeState BookRefusal) → Refuses why x
+        → Answers result (spec.over_office told bytes.now x) }
 {
     match why {
         BookRefused::NotFounded { len, byte: _ } => Ok(nothing(alloc, Status::NotFounded { len })),

@@ -15,11 +15,12 @@ use cf_calls::Entry;
 use cf_journal::{OpenRefused, record_len};
 use std::alloc::{AllocError, Global};
 
-/// The first of the entries whose gate stands at this place in the file, or further, with its own place, from 1. The chart in front of
-/// them has so many bytes.
+/// The first of the entries whose gate stands at this place in the file, or further, with its own
+/// place, from 1. The chart in front of them has so many bytes.
 fn entry_at(offset: u64, chart_len: u64, entries: &[Entry]) -> Option<(u64, &Entry)>
     requires { All HasRecord entries.now }
-    ensures value { option_map (λ x. (x.0, x.1.now)) result ≡ spec.entry_at offset chart_len entries.now }
+    ensures value { option_map (λ x. (x.0, x.1.now)) result
+        ≡ spec.entry_at offset chart_len entries.now }
     ensures record { IfSome result (λ x. HasRecord x.1.now) }
 {
     let mut left = offset.saturating_sub(6).saturating_sub(chart_len);
@@ -42,7 +43,8 @@ fn entry_answer(
     found: Option<(u64, &Entry)>,
 ) -> Result<Answer, AllocError>
     requires { IfSome found (λ x. HasRecord x.1.now) }
-    ensures { Answers result (spec.refused_entry offset number (option_map (λ x. (x.0, x.1.now)) found.entry)) }
+    ensures { Answers result (spec.refused_entry offset number
+        (option_map (λ x. (x.0, x.1.now)) found.entry)) }
 {
     let Some((place, entry)) = found else {
         return Ok(damaged(alloc, offset));

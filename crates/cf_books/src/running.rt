@@ -23,13 +23,15 @@ fn reads_journal(command: Command) -> bool
     matches!(command, Command::CheckGrants | Command::Claims { .. })
 }
 
-/// The bytes of the journal beside a command's file, where it reads one. The other commands leave it unread.
+/// The bytes of the journal beside a command's file, where it reads one. The other commands leave
+/// it unread.
 fn read_beside<J: Source>(
     alloc: Global,
     command: Command,
     journal: &mut J,
 ) -> Result<Vec<u8>, Unread>
-    ensures ok { IfOk result (λ v. IsBeside (spec.reads_journal command) (J.left journal.old) v.items) }
+    ensures ok { IfOk result (λ v. IsBeside (spec.reads_journal command) (J.left journal.old)
+        v.items) }
     ensures fault { result ≡ Err Unread.Fault → Rose (J.faults journal.old) (J.faults journal.new) }
     ensures memory { result ≡ Err Unread.NoMemory → J.faults journal.new ≡ J.faults journal.old }
     ensures quiet { OnOk result (J.faults journal.new ≡ J.faults journal.old) }
@@ -41,9 +43,10 @@ fn read_beside<J: Source>(
     read_all(alloc, journal, usize::MAX)
 }
 
-/// Runs a request over the bytes of its file, and of the journal beside it for the two commands on grants. Both are only
-/// read: nothing else of them can be asked of a source. What is read of a journal that a desk writes to meanwhile isn't
-/// said to be a state that it had (`docs/JOURNAL.md`).
+/// Runs a request over the bytes of its file, and of the journal beside it for the two commands on
+/// grants. Both are only read: nothing else of them can be asked of a source. What is read of a
+/// journal that a desk writes to meanwhile isn't said to be a state that it had
+/// (`docs/JOURNAL.md`).
 pub fn run<S: Source, J: Source, K: Sink>(
     alloc: Global,
     request: Request,
@@ -51,10 +54,13 @@ pub fn run<S: Source, J: Source, K: Sink>(
     journal: &mut J,
     out: &mut K,
 ) -> Status
-    ensures ends { Ends (asks request.entry) (S.left source.old) (J.left journal.old) (K.held out.old) (K.held out.new) result }
-    ensures read { result ≡ Status.ReadFault → Rose (S.faults source.old) (S.faults source.new) ⊎ Rose (J.faults journal.old) (J.faults journal.new) }
+    ensures ends { Ends (asks request.entry) (S.left source.old) (J.left journal.old)
+        (K.held out.old) (K.held out.new) result }
+    ensures read { result ≡ Status.ReadFault → Rose (S.faults source.old) (S.faults source.new)
+        ⊎ Rose (J.faults journal.old) (J.faults journal.new) }
     ensures write { result ≡ Status.WriteFault → Rose (K.faults out.old) (K.faults out.new) }
-    ensures input_quiet { result ≢ Status.ReadFault → (S.faults source.new ≡ S.faults source.old) × (J.faults journal.new ≡ J.faults journal.old) }
+    ensures input_quiet { result ≢ Status.ReadFault → (S.faults source.new ≡ S.faults source.old)
+        × (J.faults journal.new ≡ J.faults journal.old) }
     ensures out_quiet { result ≢ Status.WriteFault → K.faults out.new ≡ K.faults out.old }
     ensures unread { spec.reads_journal request.entry.command ≡ false → journal.new ≡ journal.old }
 {
@@ -77,8 +83,8 @@ pub fn run<S: Source, J: Source, K: Sink>(
     }
 }
 
-/// Says how a run ended, in a line after the program's name. Where all went well nothing is said. `Failed` where a write
-/// fails, or there is no memory for the line.
+/// Says how a run ended, in a line after the program's name. Where all went well nothing is said.
+/// `Failed` where a write fails, or there is no memory for the line.
 pub fn tell<E: Sink>(alloc: Global, err: &mut E, status: Status) -> Result<(), Failed>
     ensures { OnOk result (Appends (E.held err.old) (E.held err.new) (notice_of status)) }
 {

@@ -22,14 +22,14 @@ pub enum Status {
     Done,
     /// The words ask for nothing.
     BadWords,
-    /// The chart has this fault, and no journal is founded with it. The id is that of the row with the fault, where it has
-    /// one in form: 0 to 65535.
+    /// The chart has this fault, and no journal is founded with it. The id is that of the row with
+    /// the fault, where it has one in form: 0 to 65535.
     ChartRefused {
         fault: ChartFault,
         id: Option<u16>,
     },
-    /// The document of grants has this fault. The id is that of the grant with the fault, where it has one in form: 0 to
-    /// 65535.
+    /// The document of grants has this fault. The id is that of the grant with the fault, where it
+    /// has one in form: 0 to 65535.
     GrantsRefused {
         fault: GrantFault,
         id: Option<u16>,
@@ -42,8 +42,8 @@ pub enum Status {
     NotFounded {
         len: u64,
     },
-    /// The journal isn't what the program leaves: where what is wrong stands in the file, in bytes, and the entry that stands
-    /// there where it is one that the office refuses.
+    /// The journal isn't what the program leaves: where what is wrong stands in the file, in bytes,
+    /// and the entry that stands there where it is one that the office refuses.
     Damaged {
         offset: u64,
         entry: Option<RefusedEntry>,

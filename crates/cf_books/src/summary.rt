@@ -37,7 +37,8 @@ fn put_count(out: &mut Vec<u8>, name: &str, n: u64) -> Result<(), AllocError>
 
 /// Appends numbers with their names.
 pub(crate) fn put_counts(out: &mut Vec<u8>, facts: &[(&str, u64)]) -> Result<(), AllocError>
-    ensures { OnOk result (out.new.items ≡ out.old.items ++ spec.counts_text (map spec.named facts.now)) }
+    ensures { OnOk result (out.new.items ≡ out.old.items
+        ++ spec.counts_text (map spec.named facts.now)) }
 {
     for fact in facts {
         put_count(out, fact.0, fact.1)?;
@@ -111,7 +112,27 @@ fn closes(years: bool, act: &Act) -> bool
     match act {
         Act::Close(Period::Month(_)) => !years,
         Act::Close(Period::Year(_)) => years,
-        _ => false,
+        Act::Adopt(_)
+        | Act::Amend(_)
+        | Act::Transfer(_)
+        | Act::Requisition(_)
+        | Act::Withdraw(_)
+        | Act::Order(_)
+        | Act::ChangeOrder(_)
+        | Act::CancelOrder(_)
+        | Act::Voucher(_)
+        | Act::VoidVoucher(_)
+        | Act::Pay(_)
+        | Act::Bill(_)
+        | Act::Collect(_)
+        | Act::Receive(_)
+        | Act::WriteOff(_)
+        | Act::Asset(_)
+        | Act::Issue(_)
+        | Act::PayDue(_)
+        | Act::Leave(_)
+        | Act::Interfund(_)
+        | Act::Lease(_) => false,
     }
 }
 
@@ -130,7 +151,8 @@ fn closed(years: bool, entries: &[Entry]) -> u64
 
 /// Appends the day of the last entry.
 fn put_last_day(out: &mut Vec<u8>, entries: &[Entry]) -> Result<(), AllocError>
-    ensures { OnOk result (out.new.items ≡ out.old.items ++ spec.fact (codes "last day") (spec.last_day entries.now)) }
+    ensures { OnOk result (out.new.items ≡ out.old.items
+        ++ spec.fact (codes "last day") (spec.last_day entries.now)) }
 {
     match entries.last() {
         Some(entry) => put_fact(out, "last day", &day_text(entry.change.on)),

@@ -64,8 +64,8 @@ pub fn balances_through(
     day: Day,
     bytes: &[u8],
 ) -> Result<Answer, AllocError>
-    ensures { Answers result
-        (spec.office_said (Balances year (Some day) false layout.csv) bytes.now (recovered bytes.now)) }
+    ensures { Answers result (spec.office_said
+        (Balances year (Some day) false layout.csv) bytes.now (recovered bytes.now)) }
 {
     let copy = Vec::from_slice(layout.alloc, bytes)?;
     match open_days(layout.alloc, copy) {

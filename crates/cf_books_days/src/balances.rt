@@ -28,7 +28,9 @@ fn put_account(
     fund: u16,
     account: u32,
 ) -> Result<(), AllocError>
-    ensures { OnOk result (out.new ≡ added out.old (spec.account_text out.old.csv sums.now.day sums.now.rest.now.plan sums.now.rest.now.entries basis year fund account)) }
+    ensures { OnOk result (out.new
+        ≡ added out.old (spec.account_text out.old.csv sums.now.day sums.now.rest.now.plan
+        sums.now.rest.now.entries basis year fund account)) }
 {
     let balance = sums.balance(basis, year, fund, account);
     put_balance_unless_zero(alloc, out, sums.chart(), basis, fund, account, balance)
@@ -44,7 +46,9 @@ fn put_accounts(
     fund: u16,
     accounts: &[u32],
 ) -> Result<(), AllocError>
-    ensures { OnOk result (out.new ≡ added out.old (spec.accounts_text out.old.csv sums.now.day sums.now.rest.now.plan sums.now.rest.now.entries basis year fund accounts.now)) }
+    ensures { OnOk result (out.new
+        ≡ added out.old (spec.accounts_text out.old.csv sums.now.day sums.now.rest.now.plan
+        sums.now.rest.now.entries basis year fund accounts.now)) }
 {
     for account in accounts {
         put_account(alloc, out, sums, basis, year, fund, *account)?;
@@ -60,7 +64,9 @@ fn put_fund(
     year: u16,
     fund: u16,
 ) -> Result<(), AllocError>
-    ensures { OnOk result (out.new ≡ added out.old (spec.fund_text out.old.csv sums.now.day sums.now.rest.now.plan sums.now.rest.now.entries year fund)) }
+    ensures { OnOk result (out.new
+        ≡ added out.old (spec.fund_text out.old.csv sums.now.day sums.now.rest.now.plan
+        sums.now.rest.now.entries year fund)) }
 {
     let accounts = fund_accounts(alloc, sums.chart(), fund)?;
     put_accounts(
@@ -82,7 +88,9 @@ fn put_funds(
     year: u16,
     funds: &[Fund],
 ) -> Result<(), AllocError>
-    ensures { OnOk result (out.new ≡ added out.old (spec.funds_text out.old.csv sums.now.day sums.now.rest.now.plan sums.now.rest.now.entries year funds.now)) }
+    ensures { OnOk result (out.new
+        ≡ added out.old (spec.funds_text out.old.csv sums.now.day sums.now.rest.now.plan
+        sums.now.rest.now.entries year funds.now)) }
 {
     for fund in funds {
         put_fund(alloc, out, sums, year, fund.id)?;
@@ -92,7 +100,8 @@ fn put_funds(
 
 /// The balances of all accounts, below the names of the columns.
 fn all_text(layout: Layout, sums: &DaySums, year: u16) -> Result<Vec<u8>, AllocError>
-    ensures { IfOk result (λ v. v.items ≡ spec.balances_through layout.csv sums.now.day year sums.now.rest.now.plan sums.now.rest.now.entries) }
+    ensures { IfOk result (λ v. v.items ≡ spec.balances_through layout.csv sums.now.day year
+        sums.now.rest.now.plan sums.now.rest.now.entries) }
 {
     let mut out = Rows::new(layout);
     put_balance_head(&mut out)?;
@@ -110,8 +119,8 @@ fn all_text(layout: Layout, sums: &DaySums, year: u16) -> Result<Vec<u8>, AllocE
     out.into_text()
 }
 
-/// The balances of accounts through a fiscal year that aren't zero, as `balances_text` of `cf_books_lists` lays them out, but
-/// of the entries alone that are dated through a day.
+/// The balances of accounts through a fiscal year that aren't zero, as `balances_text` of
+/// `cf_books_lists` lays them out, but of the entries alone that are dated through a day.
 pub fn balances_through_text(
     layout: Layout,
     rest: &Rest,
@@ -120,7 +129,8 @@ pub fn balances_through_text(
     year: u16,
 ) -> Result<Vec<u8>, AllocError>
     requires { IsOf rest.now.plan (all_posted rest.now.plan rest.now.entries) dated.now }
-    ensures { IfOk result (λ v. v.items ≡ spec.balances_through layout.csv day year rest.now.plan rest.now.entries) }
+    ensures { IfOk result (λ v. v.items ≡ spec.balances_through layout.csv day year rest.now.plan
+        rest.now.entries) }
 {
     let sums = day_sums(layout.alloc, rest, dated, day)?;
     all_text(layout, &sums, year)

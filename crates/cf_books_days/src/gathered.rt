@@ -84,11 +84,14 @@ fn put_changes(
     Ok(())
 }
 
-/// Opens the book of the journal on a disk, as `cf_book::open` does, with what its entries post and change.
+/// Opens the book of the journal on a disk, as `cf_book::open` does, with what its entries post and
+/// change.
 pub fn open_dated<D: Disk + Drop>(alloc: Global, disk: D) -> Result<(Book<D>, Dated), NotOpened<D>>
-    ensures ok { IfOk result (λ x. OpensBook D.tells D.content D.is_image D.moment D.was_image D.faults disk x.0) }
+    ensures ok { IfOk result (λ x. OpensBook D.tells D.content D.is_image D.moment D.was_image
+        D.faults disk x.0) }
     ensures dated { IfOk result (λ x. spec.IsOf x.0.plan (all_posted x.0.plan x.0.entries) x.1) }
-    ensures err { IfErr result (λ e. OpensNone D.tells D.content D.is_image D.moment D.was_image D.faults disk e.disk e.why) }
+    ensures err { IfErr result (λ e. OpensNone D.tells D.content D.is_image D.moment D.was_image
+        D.faults disk e.disk e.why) }
 {
     let mut dated = Dated {
         fund: Vec::new(alloc),

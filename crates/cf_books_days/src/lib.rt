@@ -1,5 +1,5 @@
-//! Lists of a city's books as of a day: the statements, the balances and the posts of the entries that are dated through it,
-//! as they were entered.
+//! Lists of a city's books as of a day: the statements, the balances and the posts of the entries
+//! that are dated through it, as they were entered.
 #![tactic(auto)]
 
 mod balances;

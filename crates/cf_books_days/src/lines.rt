@@ -1,5 +1,6 @@
-//! The numbers of control lines through a day: sums of changes, which may come in any order of days, so that a number may be
-//! below zero where one entry takes back what another, dated later, entered before it.
+//! The numbers of control lines through a day: sums of changes, which may come in any order of
+//! days, so that a number may be below zero where one entry takes back what another, dated later,
+//! entered before it.
 
 ghost use Rattle.std.specs.Prelude.{◌≡◌, ◌-ℤ◌, ◌+ℤ◌, ℕ, IfOk, OnOk};
 ghost use Rattle.std.specs.Int.{int_wrap, w128};
@@ -110,7 +111,8 @@ pub fn lines_through(
     day: Day,
     changes: &[DatedChange],
 ) -> Result<DayLines, AllocError>
-    ensures { IfOk result (λ l. (line year : ℕ) → held_row (spec.row_in l line year) ≡ held_row (changed_through day line year changes.now)) }
+    ensures { IfOk result (λ l. (line year : ℕ) → held_row (spec.row_in l line year)
+        ≡ held_row (changed_through day line year changes.now)) }
 {
     let mut lines = DayLines::new(alloc);
     for change in changes {

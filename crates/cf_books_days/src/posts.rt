@@ -50,8 +50,8 @@ fn kept(
     Ok(kept)
 }
 
-/// Those of a book's posts that are asked for, as `posts_text` of `cf_books_lists` lays them out, but of the entries alone that
-/// are dated through a day.
+/// Those of a book's posts that are asked for, as `posts_text` of `cf_books_lists` lays them out,
+/// but of the entries alone that are dated through a day.
 pub fn posts_through_text<D: Disk + Drop>(
     layout: Layout,
     filter: PostFilter,
@@ -60,7 +60,8 @@ pub fn posts_through_text<D: Disk + Drop>(
     posts: &[PlacedPost],
 ) -> Result<Vec<u8>, AllocError>
     requires { posts.now ≡ placed_in (all_posted book.now.plan book.now.entries) }
-    ensures { IfOk result (λ v. v.items ≡ spec.posts_text_through layout.csv filter day book.now.plan book.now.entries) }
+    ensures { IfOk result (λ v. v.items ≡ spec.posts_text_through layout.csv filter day
+        book.now.plan book.now.entries) }
 {
     let kept = kept(layout.alloc, day, book.entries(), posts)?;
     posts_text(layout, filter, book, kept.as_slice())

@@ -54,7 +54,8 @@ fn rows_of(
     kind: DatedKind,
 ) -> Result<Vec<Row>, AllocError>
     requires { IsYear year }
-    ensures { IfOk result (λ rows. rows.items ≡ spec.rows_by sums.now.rest.now.plan (sums_through sums.now.rest.now.plan sums.now.day sums.now.rest.now.entries) year kind) }
+    ensures { IfOk result (λ rows. rows.items ≡ spec.rows_by sums.now.rest.now.plan
+        (sums_through sums.now.rest.now.plan sums.now.day sums.now.rest.now.entries) year kind) }
 {
     match kind {
         DatedKind::Balance => balance_sheet(alloc, sums, year),
@@ -65,18 +66,20 @@ fn rows_of(
     }
 }
 
-/// Where no entry is dated later than a day, a statement through it is that of the history. It does nothing: its clause is the
-/// law.
+/// Where no entry is dated later than a day, a statement through it is that of the history. It does
+/// nothing: its clause is the law.
 fn same_where_all(csv: bool, rest: &Rest, day: Day, year: u16, kind: DatedKind)
     requires { IsYear year }
     ensures { AllByRecursion (λ e. is_through day e.change.on ≡ true) rest.now.entries
-        → spec.through_text csv day year kind rest.now.plan rest.now.entries ≡ statement_text csv year (spec.report_kind kind) rest.now.plan rest.now.entries }
+        → spec.through_text csv day year kind rest.now.plan rest.now.entries
+        ≡ statement_text csv year (spec.report_kind kind) rest.now.plan rest.now.entries }
 {
     let _legal = rest.entries();
 }
 
-/// A statement of a fiscal year from 1971 to 2199 as records, as `statement_text` of `cf_books_lists` lays it out, but made of
-/// the entries alone that are dated through a day, as they were entered. Where no entry is dated later it is the same statement.
+/// A statement of a fiscal year from 1971 to 2199 as records, as `statement_text` of
+/// `cf_books_lists` lays it out, but made of the entries alone that are dated through a day, as
+/// they were entered. Where no entry is dated later it is the same statement.
 pub fn statement_through_text(
     layout: Layout,
     rest: &Rest,
@@ -87,9 +90,11 @@ pub fn statement_through_text(
 ) -> Result<Vec<u8>, AllocError>
     requires year { IsYear year }
     requires dated { IsOf rest.now.plan (all_posted rest.now.plan rest.now.entries) dated.now }
-    ensures text { IfOk result (λ v. v.items ≡ spec.through_text layout.csv day year kind rest.now.plan rest.now.entries) }
+    ensures text { IfOk result (λ v. v.items ≡ spec.through_text layout.csv day year kind
+        rest.now.plan rest.now.entries) }
     ensures same { AllByRecursion (λ e. is_through day e.change.on ≡ true) rest.now.entries
-        → spec.through_text layout.csv day year kind rest.now.plan rest.now.entries ≡ statement_text layout.csv year (spec.report_kind kind) rest.now.plan rest.now.entries }
+        → spec.through_text layout.csv day year kind rest.now.plan rest.now.entries
+        ≡ statement_text layout.csv year (spec.report_kind kind) rest.now.plan rest.now.entries }
 {
     same_where_all(layout.csv, rest, day, year, kind);
     let chart = rest.chart();

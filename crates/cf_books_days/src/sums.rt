@@ -33,10 +33,15 @@ pub struct DaySums<'a> {
     balances: Ledger,
     adoptions: Vec<&'a Entry>,
     lines: DayLines,
-    ghost fund: { posts_of ledger FundBasis ≡ fund_posts (seen_through rest.now.plan day rest.now.entries) },
-    ghost gov: { posts_of ledger GovBasis ≡ gov_posts (seen_through rest.now.plan day rest.now.entries) },
-    ghost in_balance: { posts_of balances FundBasis ≡ in_balance (fund_posts (seen_through rest.now.plan day rest.now.entries)) },
-    ghost numbers: { (line year : ℕ) → held_row (row_in lines line year) ≡ held_row (moved_in rest.now.plan line year (seen_through rest.now.plan day rest.now.entries)) },
+    ghost fund: { posts_of ledger FundBasis ≡ fund_posts
+        (seen_through rest.now.plan day rest.now.entries) },
+    ghost gov: { posts_of ledger GovBasis
+        ≡ gov_posts (seen_through rest.now.plan day rest.now.entries) },
+    ghost in_balance: { posts_of balances FundBasis ≡ in_balance
+        (fund_posts (seen_through rest.now.plan day rest.now.entries)) },
+    ghost numbers: { (line year : ℕ) → held_row (row_in lines line year)
+        ≡ held_row (moved_in rest.now.plan line year
+        (seen_through rest.now.plan day rest.now.entries)) },
     ghost adopted: { map (λ e. e.now) adoptions.items ≡ adoptions_through day rest.now.entries },
 }
 
@@ -70,10 +75,12 @@ pub fn day_sums<'a>(
 }
 
 impl<'a> DaySums<'a> {
-    /// The balance of an account of a fund through a fiscal year, debits above zero, in cents. Government-wide posts are of
-    /// fund 0.
+    /// The balance of an account of a fund through a fiscal year, debits above zero, in cents.
+    /// Government-wide posts are of fund 0.
     pub fn balance(&self, basis: Basis, year: u16, fund: u16, account: u32) -> i128
-        ensures value { result ≡ balance (posts_by basis (seen_through self.now.rest.now.plan self.now.day self.now.rest.now.entries)) year fund account }
+        ensures value { result ≡ balance
+            (posts_by basis (seen_through self.now.rest.now.plan self.now.day
+            self.now.rest.now.entries)) year fund account }
         ensures small { unsigned_abs result < 2 ^ 104 }
     {
         // So that the proof knows that the history is legal, and how long it may be.

@@ -451,6 +451,37 @@ pub fn add_documents(
         (DocumentKind::Bond, Act::Issue(i)) => add_bond(out, office, drawn.number, year, i),
         (DocumentKind::Lease, Act::Lease(l)) => add_lease(out, office, drawn.second, year, l),
         (DocumentKind::Loan, Act::Interfund(cash)) => add_loan(out, office, place, year, *cash),
-        _ => Ok(()),
+        (
+            DocumentKind::Requisition
+            | DocumentKind::Order
+            | DocumentKind::Voucher
+            | DocumentKind::Bill
+            | DocumentKind::Asset
+            | DocumentKind::Bond
+            | DocumentKind::Lease
+            | DocumentKind::Loan,
+            Act::Adopt(_)
+            | Act::Amend(_)
+            | Act::Transfer(_)
+            | Act::Requisition(_)
+            | Act::Withdraw(_)
+            | Act::Order(_)
+            | Act::ChangeOrder(_)
+            | Act::CancelOrder(_)
+            | Act::Voucher(_)
+            | Act::VoidVoucher(_)
+            | Act::Pay(_)
+            | Act::Bill(_)
+            | Act::Collect(_)
+            | Act::Receive(_)
+            | Act::WriteOff(_)
+            | Act::Asset(_)
+            | Act::Issue(_)
+            | Act::PayDue(_)
+            | Act::Leave(_)
+            | Act::Interfund(_)
+            | Act::Close(_)
+            | Act::Lease(_),
+        ) => Ok(()),
     }
 }

@@ -52,15 +52,14 @@ pub struct Event {
 pub fn is_same(a: Subject, b: Subject) -> bool
     ensures { result ≡ spec.is_same a b }
 {
-    match (a, b) {
-        (Subject::Requisition, Subject::Requisition)
-        | (Subject::Order, Subject::Order)
-        | (Subject::Voucher, Subject::Voucher)
-        | (Subject::Bill, Subject::Bill)
-        | (Subject::Asset, Subject::Asset)
-        | (Subject::Debt, Subject::Debt)
-        | (Subject::Loan, Subject::Loan) => true,
-        _ => false,
+    match a {
+        Subject::Requisition => matches!(b, Subject::Requisition),
+        Subject::Order => matches!(b, Subject::Order),
+        Subject::Voucher => matches!(b, Subject::Voucher),
+        Subject::Bill => matches!(b, Subject::Bill),
+        Subject::Asset => matches!(b, Subject::Asset),
+        Subject::Debt => matches!(b, Subject::Debt),
+        Subject::Loan => matches!(b, Subject::Loan),
     }
 }
 

@@ -119,15 +119,14 @@ pub fn state_word(state: Option<State>) -> &'static str
 pub fn is_kind(a: DocumentKind, b: DocumentKind) -> bool
     ensures { result ≡ spec.is_kind a b }
 {
-    match (a, b) {
-        (DocumentKind::Requisition, DocumentKind::Requisition)
-        | (DocumentKind::Order, DocumentKind::Order)
-        | (DocumentKind::Voucher, DocumentKind::Voucher)
-        | (DocumentKind::Bill, DocumentKind::Bill)
-        | (DocumentKind::Asset, DocumentKind::Asset)
-        | (DocumentKind::Bond, DocumentKind::Bond)
-        | (DocumentKind::Lease, DocumentKind::Lease)
-        | (DocumentKind::Loan, DocumentKind::Loan) => true,
-        _ => false,
+    match a {
+        DocumentKind::Requisition => matches!(b, DocumentKind::Requisition),
+        DocumentKind::Order => matches!(b, DocumentKind::Order),
+        DocumentKind::Voucher => matches!(b, DocumentKind::Voucher),
+        DocumentKind::Bill => matches!(b, DocumentKind::Bill),
+        DocumentKind::Asset => matches!(b, DocumentKind::Asset),
+        DocumentKind::Bond => matches!(b, DocumentKind::Bond),
+        DocumentKind::Lease => matches!(b, DocumentKind::Lease),
+        DocumentKind::Loan => matches!(b, DocumentKind::Loan),
     }
 }

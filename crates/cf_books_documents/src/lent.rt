@@ -54,6 +54,26 @@ pub fn note_loan(lent: &mut Lent, act: &Act, place: u64) -> Result<(), AllocErro
 {
     match act {
         Act::Interfund(cash) => note_cash(lent, *cash, place),
-        _ => Ok(()),
+        Act::Adopt(_)
+        | Act::Amend(_)
+        | Act::Transfer(_)
+        | Act::Requisition(_)
+        | Act::Withdraw(_)
+        | Act::Order(_)
+        | Act::ChangeOrder(_)
+        | Act::CancelOrder(_)
+        | Act::Voucher(_)
+        | Act::VoidVoucher(_)
+        | Act::Pay(_)
+        | Act::Bill(_)
+        | Act::Collect(_)
+        | Act::Receive(_)
+        | Act::WriteOff(_)
+        | Act::Asset(_)
+        | Act::Issue(_)
+        | Act::PayDue(_)
+        | Act::Leave(_)
+        | Act::Close(_)
+        | Act::Lease(_) => Ok(()),
     }
 }

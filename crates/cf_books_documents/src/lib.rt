@@ -1,5 +1,5 @@
-//! The documents of a city's books: a row for each requisition, order item, voucher, bill, asset, bond, lease and loan
-//! that ever was, with its state and what entries did to it.
+//! The documents of a city's books: a row for each requisition, order item, voucher, bill, asset,
+//! bond, lease and loan that ever was, with its state and what entries did to it.
 #![tactic(auto)]
 
 mod accounts;

@@ -46,7 +46,8 @@ fn add_item(
     deed: Deed,
     place: u64,
 ) -> Result<(), AllocError>
-    ensures { OnOk result (out.new.items ≡ out.old.items ++ spec.of_item order item deed place ∷ []) }
+    ensures { OnOk result (out.new.items ≡ out.old.items
+        ++ spec.of_item order item deed place ∷ []) }
 {
     out.push(Event {
         subject: Subject::Order,
@@ -126,7 +127,27 @@ fn items_of(act: &Act) -> &[VoucherItem]
 {
     match act {
         Act::Voucher(voucher) => voucher.items.as_slice(),
-        _ => &[],
+        Act::Adopt(_)
+        | Act::Amend(_)
+        | Act::Transfer(_)
+        | Act::Requisition(_)
+        | Act::Withdraw(_)
+        | Act::Order(_)
+        | Act::ChangeOrder(_)
+        | Act::CancelOrder(_)
+        | Act::VoidVoucher(_)
+        | Act::Pay(_)
+        | Act::Bill(_)
+        | Act::Collect(_)
+        | Act::Receive(_)
+        | Act::WriteOff(_)
+        | Act::Asset(_)
+        | Act::Issue(_)
+        | Act::PayDue(_)
+        | Act::Leave(_)
+        | Act::Interfund(_)
+        | Act::Close(_)
+        | Act::Lease(_) => &[],
     }
 }
 
@@ -258,7 +279,8 @@ fn add_repaid(out: &mut Vec<Event>, loan: u64, place: u64) -> Result<(), AllocEr
     add_loan(out, loan, Deed::Repaid, place)
 }
 
-/// Adds what the entry at a place does to a loan by its number, which is the place of the loan's entry.
+/// Adds what the entry at a place does to a loan by its number, which is the place of the loan's
+/// entry.
 fn add_cash(out: &mut Vec<Event>, lent: &Lent, place: u64, cash: FundMove) -> Result<(), AllocError>
     ensures { OnOk result (out.new.items ≡ out.old.items ++ spec.of_cash place (amount_at
         lent.now.entries) cash cash.what) }

@@ -94,7 +94,8 @@ fn is_since(first: Option<u16>, year: u16) -> bool
     }
 }
 
-/// What the roll of a fiscal year does to a document: it carries the document into the year after, or the document lapses.
+/// What the roll of a fiscal year does to a document: it carries the document into the year after,
+/// or the document lapses.
 fn rolled(facts: &Facts, year: u16) -> Option<Deed>
     ensures { result ≡ spec.rolled facts.now year facts.now.year }
 {

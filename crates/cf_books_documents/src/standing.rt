@@ -77,7 +77,17 @@ fn open_part(state: State, amount: i128) -> i128
 {
     match state {
         State::Open | State::Held => amount,
-        _ => 0,
+        State::Withdrawn
+        | State::Ordered
+        | State::Lapsed
+        | State::Live
+        | State::Finished
+        | State::Cancelled
+        | State::Paid
+        | State::Void
+        | State::Disposed
+        | State::Settled
+        | State::Repaid => 0,
     }
 }
 
@@ -101,7 +111,19 @@ pub fn requisition_now(shown: Option<&Shown>, amount: i128) -> Standing
                 left: open_part(state, amount),
             }
         }
-        _ => unseen(amount),
+        None
+        | Some(
+            Shown::Line(_)
+            | Shown::Order { .. }
+            | Shown::Voucher { .. }
+            | Shown::Bill { .. }
+            | Shown::Asset { .. }
+            | Shown::Bond { .. }
+            | Shown::Leave { .. }
+            | Shown::Account { .. }
+            | Shown::Reconcile(_)
+            | Shown::Report { .. },
+        ) => unseen(amount),
     }
 }
 
@@ -111,7 +133,19 @@ pub fn item_shown(shown: Option<&Shown>, nth: usize) -> Option<OrderItemShown>
 {
     match shown {
         Some(Shown::Order { items, vendor: _ }) => items.as_slice().get(nth).copied(),
-        _ => None,
+        None
+        | Some(
+            Shown::Line(_)
+            | Shown::Requisition { .. }
+            | Shown::Voucher { .. }
+            | Shown::Bill { .. }
+            | Shown::Asset { .. }
+            | Shown::Bond { .. }
+            | Shown::Leave { .. }
+            | Shown::Account { .. }
+            | Shown::Reconcile(_)
+            | Shown::Report { .. },
+        ) => None,
     }
 }
 
@@ -151,7 +185,19 @@ pub fn voucher_now(shown: Option<&Shown>) -> Standing
                 left: open_part(state, amount),
             }
         }
-        _ => unseen(0),
+        None
+        | Some(
+            Shown::Line(_)
+            | Shown::Requisition { .. }
+            | Shown::Order { .. }
+            | Shown::Bill { .. }
+            | Shown::Asset { .. }
+            | Shown::Bond { .. }
+            | Shown::Leave { .. }
+            | Shown::Account { .. }
+            | Shown::Reconcile(_)
+            | Shown::Report { .. },
+        ) => unseen(0),
     }
 }
 
@@ -182,7 +228,19 @@ pub fn bill_now(shown: Option<&Shown>, amount: u64) -> Standing
             amount: i128::from(amount),
             left: i128::from(*left),
         },
-        _ => unseen(i128::from(amount)),
+        None
+        | Some(
+            Shown::Line(_)
+            | Shown::Requisition { .. }
+            | Shown::Order { .. }
+            | Shown::Voucher { .. }
+            | Shown::Asset { .. }
+            | Shown::Bond { .. }
+            | Shown::Leave { .. }
+            | Shown::Account { .. }
+            | Shown::Reconcile(_)
+            | Shown::Report { .. },
+        ) => unseen(i128::from(amount)),
     }
 }
 
@@ -207,7 +265,19 @@ pub fn asset_now(shown: Option<&Shown>, year: u16, amount: u64) -> Standing
                 left: open_part(state, i128::from(worth)),
             }
         }
-        _ => unseen(i128::from(amount)),
+        None
+        | Some(
+            Shown::Line(_)
+            | Shown::Requisition { .. }
+            | Shown::Order { .. }
+            | Shown::Voucher { .. }
+            | Shown::Bill { .. }
+            | Shown::Bond { .. }
+            | Shown::Leave { .. }
+            | Shown::Account { .. }
+            | Shown::Reconcile(_)
+            | Shown::Report { .. },
+        ) => unseen(i128::from(amount)),
     }
 }
 
@@ -232,11 +302,24 @@ pub fn debt_now(shown: Option<&Shown>, year: u16, amount: u64) -> Standing
             amount: i128::from(amount),
             left: i128::from(*outstanding),
         },
-        _ => unseen(i128::from(amount)),
+        None
+        | Some(
+            Shown::Line(_)
+            | Shown::Requisition { .. }
+            | Shown::Order { .. }
+            | Shown::Voucher { .. }
+            | Shown::Bill { .. }
+            | Shown::Asset { .. }
+            | Shown::Leave { .. }
+            | Shown::Account { .. }
+            | Shown::Reconcile(_)
+            | Shown::Report { .. },
+        ) => unseen(i128::from(amount)),
     }
 }
 
-/// A loan of a fiscal year and an amount: what is left of it, of what the fund that borrowed owes the one that lent.
+/// A loan of a fiscal year and an amount: what is left of it, of what the fund that borrowed owes
+/// the one that lent.
 pub fn loan_now(year: u16, amount: u64, owed: u64) -> Standing
     ensures { result ≡ spec.loan_now year amount owed }
 {

@@ -52,7 +52,8 @@ fn left_text(alloc: Global, facts: &Facts) -> Result<String, AllocError>
     money_text(alloc, facts.left)
 }
 
-/// Writes the record of a document that an entry entered, which a payment paid, and to which entries did this.
+/// Writes the record of a document that an entry entered, which a payment paid, and to which
+/// entries did this.
 fn put_row(
     alloc: Global,
     out: &mut Rows,
@@ -241,10 +242,10 @@ fn put_kinds(
     Ok(())
 }
 
-/// The documents that ever were and are wanted, as records below a row of names: requisitions, items of orders, vouchers,
-/// bills, assets, bonds, leases and loans between funds, each kind by rising number, as looks show them, in units of
-/// money; with the last payment or collection of each, and what entries did to it. With a text in `key`, those in whose
-/// keys it stands.
+/// The documents that ever were and are wanted, as records below a row of names: requisitions,
+/// items of orders, vouchers, bills, assets, bonds, leases and loans between funds, each kind by
+/// rising number, as looks show them, in units of money; with the last payment or collection of
+/// each, and what entries did to it. With a text in `key`, those in whose keys it stands.
 #[tactic(auto, using(crate::proofs::Each::each_once))]
 pub fn documents_text(
     layout: Layout,

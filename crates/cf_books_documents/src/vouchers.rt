@@ -30,7 +30,27 @@ fn note_voucher(places: &mut Vouchers, entry: &Entry, at: u64) -> Result<(), All
 {
     match &entry.change.act {
         Act::Voucher(_) => put_place(places, entry.drawn.number, at),
-        _ => Ok(()),
+        Act::Adopt(_)
+        | Act::Amend(_)
+        | Act::Transfer(_)
+        | Act::Requisition(_)
+        | Act::Withdraw(_)
+        | Act::Order(_)
+        | Act::ChangeOrder(_)
+        | Act::CancelOrder(_)
+        | Act::VoidVoucher(_)
+        | Act::Pay(_)
+        | Act::Bill(_)
+        | Act::Collect(_)
+        | Act::Receive(_)
+        | Act::WriteOff(_)
+        | Act::Asset(_)
+        | Act::Issue(_)
+        | Act::PayDue(_)
+        | Act::Leave(_)
+        | Act::Interfund(_)
+        | Act::Close(_)
+        | Act::Lease(_) => Ok(()),
     }
 }
 

@@ -76,7 +76,8 @@ fn is_amount_asked(asked: Option<u64>, amount: i128) -> bool
     }
 }
 
-/// Whether what is asked for stands in the key of an entry or in that of its payment, or nothing is.
+/// Whether what is asked for stands in the key of an entry or in that of its payment, or nothing
+/// is.
 fn is_key_asked(asked: Option<&str>, entry: &Entry, payment: Option<&Entry>) -> bool
     ensures { result ≡ spec.is_key_asked (option_map (λ t. t.now) asked.entry) entry.now
         (option_copied payment.entry) }

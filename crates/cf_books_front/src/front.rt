@@ -44,9 +44,9 @@ fn front_of(alloc: Global, n: u64, whole: &Whole, bytes: &[u8]) -> Result<Vec<u8
     before(alloc, gate, bytes)
 }
 
-/// A journal's bytes up to the gate behind its first `n` entries, with a closed gate there. No entry further on is
-/// judged: it is read to find how many there are. Refused where the journal has fewer entries, or where nothing of it
-/// is whole.
+/// A journal's bytes up to the gate behind its first `n` entries, with a closed gate there. No
+/// entry further on is judged: it is read to find how many there are. Refused where the journal has
+/// fewer entries, or where nothing of it is whole.
 pub fn front_with(alloc: Global, n: u64, bytes: &[u8]) -> Result<Vec<u8>, FrontRefused>
     ensures answer { GivesFront result (front_in n bytes.now) }
     ensures first { IfOk result (λ v. HasFirst n bytes.now v.items) }

@@ -58,7 +58,8 @@ pub(crate) fn before(alloc: Global, at: u128, bytes: &[u8]) -> Result<Vec<u8>, A
 
 /// What stands before the damage at a place.
 fn read_before(alloc: Global, at: u64, bytes: &[u8]) -> Result<Whole, OpenRefused>
-    ensures answer { ReadsWhole result (spec.parts_or (Some at) (refused.Damaged at) (frames (spec.before at bytes.now))) }
+    ensures answer { ReadsWhole result
+        (spec.parts_or (Some at) (refused.Damaged at) (frames (spec.before at bytes.now))) }
     ensures records { IfOk result (λ w. All HasRecord w.entries.items) }
     ensures lies { IfOk result (λ w. LiesWhole w bytes.now) }
 {
@@ -76,8 +77,8 @@ fn read_before(alloc: Global, at: u64, bytes: &[u8]) -> Result<Whole, OpenRefuse
     }
 }
 
-/// What is whole of a journal's bytes: all of it, or what stands before the damage. It is refused where there is no
-/// journal, or no chart before the damage.
+/// What is whole of a journal's bytes: all of it, or what stands before the damage. It is refused
+/// where there is no journal, or no chart before the damage.
 pub fn read_whole(alloc: Global, bytes: &[u8]) -> Result<Whole, OpenRefused>
     ensures answer { ReadsWhole result (spec.whole_of bytes.now) }
     ensures records { IfOk result (λ w. All HasRecord w.entries.items) }

@@ -71,7 +71,8 @@ fn id_at(document: &Value, at: u64) -> Option<u16>
     id_in(document.get("grant")?.get(at as usize)?)
 }
 
-/// The id of the grant at a place of the document that these bytes are. It has none where they are no document.
+/// The id of the grant at a place of the document that these bytes are. It has none where they are
+/// no document.
 fn id_under(alloc: Global, bytes: &[u8], at: u64) -> Result<Option<u16>, AllocError>
     ensures { IfOk result (λ id. id ≡ spec.id_under at (value_of bytes.now)) }
 {

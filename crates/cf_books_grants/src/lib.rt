@@ -1,5 +1,5 @@
-//! What the program `books` says of grants: what their document has or its first fault, and how the vouchers of a grant
-//! stand.
+//! What the program `books` says of grants: what their document has or its first fault, and how the
+//! vouchers of a grant stand.
 #![tactic(auto)]
 
 mod document;

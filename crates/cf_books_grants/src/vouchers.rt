@@ -46,7 +46,8 @@ fn bill_text(alloc: Global, state: ClaimState) -> Result<Vec<u8>, AllocError>
 
 /// Writes the row of a voucher.
 fn put_voucher(alloc: Global, out: &mut Rows, voucher: &GrantVoucher) -> Result<(), AllocError>
-    ensures { OnOk result (out.new ≡ added out.old (record_text out.old.csv (spec.voucher_row voucher.now))) }
+    ensures { OnOk result (out.new
+        ≡ added out.old (record_text out.old.csv (spec.voucher_row voucher.now))) }
 {
     let number = decimal_text(alloc, voucher.number as u64)?;
     let day = day_text(voucher.on);
@@ -98,7 +99,8 @@ fn put_head(out: &mut Rows) -> Result<(), AllocError>
     out.put_names(names.as_slice())
 }
 
-/// The vouchers of a grant, a row each: as records with a row of names before them, or with tabs between the fields.
+/// The vouchers of a grant, a row each: as records with a row of names before them, or with tabs
+/// between the fields.
 pub fn vouchers_text(layout: Layout, vouchers: &[GrantVoucher]) -> Result<Vec<u8>, AllocError>
     ensures { IfOk result (λ bytes. bytes.items ≡ spec.vouchers_text layout.csv vouchers.now) }
 {

@@ -60,8 +60,8 @@ pub fn open_with_ledger<D: Disk + Drop>(
         (λ x. OpensBook D.tells D.content D.is_image D.moment D.was_image D.faults disk x.0) }
     ensures rows { IfOk result (λ x. x.1.items ≡ history_rows x.0.plan x.0.entries) }
     ensures sums { IfOk result (λ x. AddUp x.0.plan x.0.entries x.1.items) }
-    ensures err { IfErr result
-        (λ e. OpensNone D.tells D.content D.is_image D.moment D.was_image D.faults disk e.disk e.why) }
+    ensures err { IfErr result (λ e. OpensNone
+        D.tells D.content D.is_image D.moment D.was_image D.faults disk e.disk e.why) }
 {
     let mut gathered = Gathered {
         alloc,

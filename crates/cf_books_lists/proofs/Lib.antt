@@ -3,3 +3,5 @@ pub mod Adding
 pub mod Amounts
 pub mod RowLines
 pub mod Formulas
+mod OpenDrawn
+mod OpenSums

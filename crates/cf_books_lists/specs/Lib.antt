@@ -4,5 +4,6 @@ pub mod Names
 pub mod Posts
 pub mod Balances
 pub mod Open
+pub mod OpenSums
 pub mod LineNames
 pub mod Statement

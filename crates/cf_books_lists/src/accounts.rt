@@ -15,7 +15,8 @@ fn put_fund_sources(
     sources: &[RevenueSource],
     fund: u16,
 ) -> Result<(), AllocError>
-    ensures { OnOk result (out.new.items ≡ out.old.items ++ map (λ s. codes.revenue_of s.id) (filter (λ s. s.fund == fund) sources.now)) }
+    ensures { OnOk result (out.new.items ≡ out.old.items
+        ++ map (λ s. codes.revenue_of s.id) (filter (λ s. s.fund == fund) sources.now)) }
 {
     for source in sources {
         if source.fund == fund {
@@ -27,7 +28,8 @@ fn put_fund_sources(
 
 /// Appends the accounts of all revenues.
 fn put_sources(out: &mut Vec<u32>, sources: &[RevenueSource]) -> Result<(), AllocError>
-    ensures { OnOk result (out.new.items ≡ out.old.items ++ map (λ s. codes.revenue_of s.id) sources.now) }
+    ensures { OnOk result (out.new.items ≡ out.old.items
+        ++ map (λ s. codes.revenue_of s.id) sources.now) }
 {
     for source in sources {
         out.push(account::revenue_of(source.id))?;
@@ -37,7 +39,8 @@ fn put_sources(out: &mut Vec<u32>, sources: &[RevenueSource]) -> Result<(), Allo
 
 /// Appends the accounts of the functions' expenditures, or expenses.
 fn put_functions(out: &mut Vec<u32>, functions: &[Function]) -> Result<(), AllocError>
-    ensures { OnOk result (out.new.items ≡ out.old.items ++ map (λ f. codes.current_of f.id) functions.now) }
+    ensures { OnOk result (out.new.items ≡ out.old.items
+        ++ map (λ f. codes.current_of f.id) functions.now) }
 {
     for function in functions {
         out.push(account::current_of(function.id))?;
@@ -47,7 +50,8 @@ fn put_functions(out: &mut Vec<u32>, functions: &[Function]) -> Result<(), Alloc
 
 /// Appends the accounts of gifts to the functions.
 fn put_gifts(out: &mut Vec<u32>, functions: &[Function]) -> Result<(), AllocError>
-    ensures { OnOk result (out.new.items ≡ out.old.items ++ map (λ f. codes.donated_to f.id) functions.now) }
+    ensures { OnOk result (out.new.items ≡ out.old.items
+        ++ map (λ f. codes.donated_to f.id) functions.now) }
 {
     for function in functions {
         out.push(account::donated_to(function.id))?;

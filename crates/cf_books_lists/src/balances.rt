@@ -27,7 +27,9 @@ fn put_balance(
     account: u32,
     balance: i128,
 ) -> Result<(), AllocError>
-    ensures { OnOk result (out.new ≡ added out.old (record_text out.old.csv (spec.balance_row chart.now basis fund account balance))) }
+    ensures { OnOk result (out.new
+        ≡ added out.old (record_text out.old.csv
+        (spec.balance_row chart.now basis fund account balance))) }
 {
     let word = Vec::from_slice(alloc, basis_word(basis).as_bytes())?;
     let id = decimal_text(alloc, fund as u64)?;
@@ -55,7 +57,8 @@ pub fn put_balance_unless_zero(
     account: u32,
     balance: i128,
 ) -> Result<(), AllocError>
-    ensures { OnOk result (out.new ≡ added out.old (spec.balance_text out.old.csv chart.now basis fund account balance)) }
+    ensures { OnOk result (out.new
+        ≡ added out.old (spec.balance_text out.old.csv chart.now basis fund account balance)) }
 {
     if balance == 0 {
         return Ok(());
@@ -73,7 +76,9 @@ fn put_account(
     fund: u16,
     account: u32,
 ) -> Result<(), AllocError>
-    ensures { OnOk result (out.new ≡ added out.old (spec.account_text out.old.csv rest.now.plan rest.now.entries basis year fund account)) }
+    ensures { OnOk result (out.new
+        ≡ added out.old (spec.account_text out.old.csv rest.now.plan rest.now.entries basis year
+        fund account)) }
 {
     let balance = rest.balance(basis, year, fund, account);
     put_balance_unless_zero(alloc, out, rest.chart(), basis, fund, account, balance)
@@ -89,7 +94,9 @@ fn put_accounts(
     fund: u16,
     accounts: &[u32],
 ) -> Result<(), AllocError>
-    ensures { OnOk result (out.new ≡ added out.old (spec.accounts_text out.old.csv rest.now.plan rest.now.entries basis year fund accounts.now)) }
+    ensures { OnOk result (out.new
+        ≡ added out.old (spec.accounts_text out.old.csv rest.now.plan rest.now.entries basis year
+        fund accounts.now)) }
 {
     for account in accounts {
         put_account(alloc, out, rest, basis, year, fund, *account)?;
@@ -105,7 +112,8 @@ fn put_fund(
     year: u16,
     fund: u16,
 ) -> Result<(), AllocError>
-    ensures { OnOk result (out.new ≡ added out.old (spec.fund_text out.old.csv rest.now.plan rest.now.entries year fund)) }
+    ensures { OnOk result (out.new
+        ≡ added out.old (spec.fund_text out.old.csv rest.now.plan rest.now.entries year fund)) }
 {
     let accounts = fund_accounts(alloc, rest.chart(), fund)?;
     put_accounts(
@@ -127,7 +135,9 @@ fn put_funds(
     year: u16,
     funds: &[Fund],
 ) -> Result<(), AllocError>
-    ensures { OnOk result (out.new ≡ added out.old (spec.funds_text out.old.csv rest.now.plan rest.now.entries year funds.now)) }
+    ensures { OnOk result (out.new
+        ≡ added out.old (spec.funds_text out.old.csv rest.now.plan rest.now.entries year
+        funds.now)) }
 {
     for fund in funds {
         put_fund(alloc, out, rest, year, fund.id)?;
@@ -152,7 +162,8 @@ pub fn put_balance_head(out: &mut Rows) -> Result<(), AllocError>
 
 /// The balances of all accounts, below the names of the columns.
 fn all_text(layout: Layout, rest: &Rest, year: u16) -> Result<Vec<u8>, AllocError>
-    ensures { IfOk result (λ v. v.items ≡ spec.balances_of layout.csv year rest.now.plan rest.now.entries) }
+    ensures { IfOk result (λ v. v.items ≡ spec.balances_of layout.csv year rest.now.plan
+        rest.now.entries) }
 {
     let mut out = Rows::new(layout);
     put_balance_head(&mut out)?;
@@ -170,13 +181,16 @@ fn all_text(layout: Layout, rest: &Rest, year: u16) -> Result<Vec<u8>, AllocErro
     out.into_text()
 }
 
-/// The balances of accounts through a fiscal year that aren't zero: those of each fund on the fund basis, and then those of
-/// the city as a whole on the government-wide one, whose fund is 0. They are those of the look `account`, debits above zero,
-/// in units of money. On the fund basis those of a fund sum to zero, and on the other those of the city, under any chart that
-/// was read (GASB Statement 34: each entry balances).
+/// The balances of accounts through a fiscal year that aren't zero: those of each fund on the fund
+/// basis, and then those of the city as a whole on the government-wide one, whose fund is 0. They
+/// are those of the look `account`, debits above zero, in units of money. On the fund basis those
+/// of a fund sum to zero, and on the other those of the city, under any chart that was read (GASB
+/// Statement 34: each entry balances).
 pub fn balances_text(layout: Layout, rest: &Rest, year: u16) -> Result<Vec<u8>, AllocError>
-    ensures text { IfOk result (λ v. v.items ≡ spec.balances_of layout.csv year rest.now.plan rest.now.entries) }
-    ensures zero { (bytes : List ℕ) → chart_of bytes ≡ Ok rest.now.plan → Balances rest.now.plan rest.now.entries year }
+    ensures text { IfOk result (λ v. v.items ≡ spec.balances_of layout.csv year rest.now.plan
+        rest.now.entries) }
+    ensures zero { (bytes : List ℕ) → chart_of bytes ≡ Ok rest.now.plan
+        → Balances rest.now.plan rest.now.entries year }
 {
     // So that the proof knows that the history is legal.
     let _legal = rest.entries();

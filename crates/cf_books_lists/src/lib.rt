@@ -1,5 +1,6 @@
-//! Lists for those who keep and audit a city's books: the posts of each entry, the trial balance of a fiscal year, what is
-//! open, and the statements with their names. Each is records of comma-separated values below a row of names.
+//! Lists for those who keep and audit a city's books: the posts of each entry, the trial balance of
+//! a fiscal year, what is open, and the statements with their names. Each is records of
+//! comma-separated values below a row of names.
 #![tactic(auto)]
 
 mod accounts;

@@ -44,7 +44,7 @@ pub fn part_name(chart: &Chart, part: LinePart) -> &str
 {
     match part {
         LinePart::Object(id) => object_name(chart.object(id)),
-        _ => "",
+        LinePart::Department | LinePart::Class(_) => "",
     }
 }
 
@@ -66,7 +66,8 @@ fn put_years(out: &mut Vec<u8>, is_later: bool, later: Option<LaterLevel>) -> Re
     }
 }
 
-/// Which part of its department's objects a line has, and its fiscal years where its fund has a later level.
+/// Which part of its department's objects a line has, and its fiscal years where its fund has a
+/// later level.
 pub fn part_and_years(
     alloc: Global,
     line: &Line,

@@ -107,7 +107,8 @@ fn other_name(account: u32) -> &'static str
     }
 }
 
-/// The name of an account: in the words of the statements, that of a revenue source, or that of the function that it is of.
+/// The name of an account: in the words of the statements, that of a revenue source, or that of the
+/// function that it is of.
 pub fn account_name(chart: &Chart, account: u32) -> &str
     ensures { result.now ≡ spec.account_name chart.now account }
 {

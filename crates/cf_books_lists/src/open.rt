@@ -1,11 +1,13 @@
 //! What is open, as looks at documents, bills and debt show it, and what is closed.
 
-ghost use Rattle.std.specs.Prelude.{◌≡◌, pos, string_bytes, IfOk, OnOk};
+ghost use Rattle.std.specs.Prelude.{◌≡◌, ℕ, List, Ok, pos, string_bytes, IfOk, OnOk};
 ghost use Rattle.cf_base.specs.Amounts.{money_of};
 ghost use Rattle.std.specs.Option.{option_copied};
 ghost use Rattle.cf_books_lists.specs.Open as spec;
+ghost use Rattle.cf_books_lists.specs.OpenSums.{OpenAddsUp};
 ghost use Rattle.cf_books_lists.specs.Records.{head_text, record_text};
 ghost use Rattle.cf_books_lists.specs.Rows.{added};
+ghost use Rattle.cf_chart.specs.Reading.{chart_of};
 ghost use Rattle.cf_model.specs.Registers.{registers_of};
 
 use crate::names::{department_name, fund_name};
@@ -59,7 +61,35 @@ fn look_of(section: Section, entry: &Entry) -> Option<Read>
         (Section::Debts, Act::Lease(_)) => Some(Read::Bond {
             bond: entry.drawn.second,
         }),
-        _ => None,
+        (
+            Section::Requisitions
+            | Section::Orders
+            | Section::Bills
+            | Section::Vouchers
+            | Section::Debts,
+            Act::Adopt(_)
+            | Act::Amend(_)
+            | Act::Transfer(_)
+            | Act::Requisition(_)
+            | Act::Withdraw(_)
+            | Act::Order(_)
+            | Act::ChangeOrder(_)
+            | Act::CancelOrder(_)
+            | Act::Voucher(_)
+            | Act::VoidVoucher(_)
+            | Act::Pay(_)
+            | Act::Bill(_)
+            | Act::Collect(_)
+            | Act::Receive(_)
+            | Act::WriteOff(_)
+            | Act::Asset(_)
+            | Act::Issue(_)
+            | Act::PayDue(_)
+            | Act::Leave(_)
+            | Act::Interfund(_)
+            | Act::Close(_)
+            | Act::Lease(_),
+        ) => None,
     }
 }
 
@@ -72,7 +102,24 @@ fn party_of(act: &Act) -> u32
         Act::Voucher(voucher) => voucher.vendor,
         Act::Bill(bill) => bill.payer,
         Act::Lease(lease) => lease.vendor,
-        _ => 0,
+        Act::Adopt(_)
+        | Act::Amend(_)
+        | Act::Transfer(_)
+        | Act::Requisition(_)
+        | Act::Withdraw(_)
+        | Act::ChangeOrder(_)
+        | Act::CancelOrder(_)
+        | Act::VoidVoucher(_)
+        | Act::Pay(_)
+        | Act::Collect(_)
+        | Act::Receive(_)
+        | Act::WriteOff(_)
+        | Act::Asset(_)
+        | Act::Issue(_)
+        | Act::PayDue(_)
+        | Act::Leave(_)
+        | Act::Interfund(_)
+        | Act::Close(_) => 0,
     }
 }
 
@@ -82,7 +129,27 @@ fn number_of(entry: &Entry) -> u32
 {
     match entry.change.act {
         Act::Lease(_) => entry.drawn.second,
-        _ => entry.drawn.number,
+        Act::Adopt(_)
+        | Act::Amend(_)
+        | Act::Transfer(_)
+        | Act::Requisition(_)
+        | Act::Withdraw(_)
+        | Act::Order(_)
+        | Act::ChangeOrder(_)
+        | Act::CancelOrder(_)
+        | Act::Voucher(_)
+        | Act::VoidVoucher(_)
+        | Act::Pay(_)
+        | Act::Bill(_)
+        | Act::Collect(_)
+        | Act::Receive(_)
+        | Act::WriteOff(_)
+        | Act::Asset(_)
+        | Act::Issue(_)
+        | Act::PayDue(_)
+        | Act::Leave(_)
+        | Act::Interfund(_)
+        | Act::Close(_) => entry.drawn.number,
     }
 }
 
@@ -144,7 +211,8 @@ fn put_part(
     entry: &Entry,
     part: Part,
 ) -> Result<(), AllocError>
-    ensures { OnOk result (out.new ≡ added out.old (spec.part_text out.old.csv chart.now entry.now part)) }
+    ensures { OnOk result (out.new
+        ≡ added out.old (spec.part_text out.old.csv chart.now entry.now part)) }
 {
     let change = &entry.change;
     let call = Vec::from_slice(alloc, call_word(&change.act).as_bytes())?;
@@ -186,7 +254,8 @@ fn put_held(
     year: u16,
     items: &[LineAmount],
 ) -> Result<(), AllocError>
-    ensures { OnOk result (out.new ≡ added out.old (spec.held_text out.old.csv chart.now entry.now year 1 items.now)) }
+    ensures { OnOk result (out.new
+        ≡ added out.old (spec.held_text out.old.csv chart.now entry.now year 1 items.now)) }
 {
     let mut place: u64 = 0;
     for item in items {
@@ -212,7 +281,8 @@ fn put_item(
     place: u64,
     item: OrderItemShown,
 ) -> Result<(), AllocError>
-    ensures { OnOk result (out.new ≡ added out.old (spec.item_text out.old.csv chart.now entry.now place item item.state)) }
+    ensures { OnOk result (out.new
+        ≡ added out.old (spec.item_text out.old.csv chart.now entry.now place item item.state)) }
 {
     match item.state {
         ItemState::Live => {
@@ -225,7 +295,7 @@ fn put_item(
             };
             put_part(alloc, out, chart, entry, part)
         }
-        _ => Ok(()),
+        ItemState::Finished | ItemState::Lapsed | ItemState::Cancelled => Ok(()),
     }
 }
 
@@ -237,7 +307,8 @@ fn put_items(
     entry: &Entry,
     items: &[OrderItemShown],
 ) -> Result<(), AllocError>
-    ensures { OnOk result (out.new ≡ added out.old (spec.items_text out.old.csv chart.now entry.now 1 items.now)) }
+    ensures { OnOk result (out.new
+        ≡ added out.old (spec.items_text out.old.csv chart.now entry.now 1 items.now)) }
 {
     let mut place: u64 = 0;
     for item in items {
@@ -257,7 +328,8 @@ fn put_whole(
     amount: u64,
     next: Option<Day>,
 ) -> Result<(), AllocError>
-    ensures { OnOk result (out.new ≡ added out.old (spec.whole_text out.old.csv chart.now entry.now year amount next)) }
+    ensures { OnOk result (out.new
+        ≡ added out.old (spec.whole_text out.old.csv chart.now entry.now year amount next)) }
 {
     let part = Part {
         item: 0,
@@ -277,7 +349,9 @@ fn put_shown(
     entry: &Entry,
     shown: Option<&Shown>,
 ) -> Result<(), AllocError>
-    ensures { OnOk result (out.new ≡ added out.old (spec.shown_text out.old.csv chart.now entry.now (option_copied shown.entry))) }
+    ensures { OnOk result (out.new
+        ≡ added out.old (spec.shown_text out.old.csv chart.now entry.now
+        (option_copied shown.entry))) }
 {
     match shown {
         Some(
@@ -311,7 +385,27 @@ fn put_shown(
                 outstanding,
             },
         ) => { put_whole(alloc, out, chart, entry, None, *outstanding, Some(*next)) }
-        _ => Ok(()),
+        None
+        | Some(
+            Shown::Line(_)
+            | Shown::Requisition {
+                state: RequisitionState::Withdrawn
+                | RequisitionState::Ordered
+                | RequisitionState::Lapsed,
+                ..
+            }
+            | Shown::Voucher {
+                state: VoucherState::Paid | VoucherState::Void,
+                ..
+            }
+            | Shown::Bill { .. }
+            | Shown::Asset { .. }
+            | Shown::Bond { next: None, .. }
+            | Shown::Leave { .. }
+            | Shown::Account { .. }
+            | Shown::Reconcile(_)
+            | Shown::Report { .. },
+        ) => Ok(()),
     }
 }
 
@@ -323,7 +417,9 @@ fn put_entry(
     section: Section,
     entry: &Entry,
 ) -> Result<(), AllocError>
-    ensures { OnOk result (out.new ≡ added out.old (spec.looked_text out.old.csv rest.now.plan (registers_of rest.now.plan rest.now.entries) entry.now (spec.look_of section entry.now))) }
+    ensures { OnOk result (out.new
+        ≡ added out.old (spec.looked_text out.old.csv rest.now.plan
+        (registers_of rest.now.plan rest.now.entries) entry.now (spec.look_of section entry.now))) }
 {
     let Some(look) = look_of(section, entry) else {
         return Ok(());
@@ -340,7 +436,9 @@ fn put_section(
     section: Section,
     entries: &[Entry],
 ) -> Result<(), AllocError>
-    ensures { OnOk result (out.new ≡ added out.old (spec.section_text out.old.csv rest.now.plan (registers_of rest.now.plan rest.now.entries) section entries.now)) }
+    ensures { OnOk result (out.new
+        ≡ added out.old (spec.section_text out.old.csv rest.now.plan
+        (registers_of rest.now.plan rest.now.entries) section entries.now)) }
 {
     for entry in entries {
         put_entry(alloc, out, rest, section, entry)?;
@@ -364,7 +462,8 @@ fn put_period(
     entry: &Entry,
     period: Period,
 ) -> Result<(), AllocError>
-    ensures { OnOk result (out.new ≡ added out.old (record_text out.old.csv (spec.close_row entry.now period))) }
+    ensures { OnOk result (out.new
+        ≡ added out.old (record_text out.old.csv (spec.close_row entry.now period))) }
 {
     let change = &entry.change;
     let day = day_text(change.on);
@@ -394,11 +493,32 @@ fn put_period(
 
 /// Writes what an entry closes.
 fn put_close(alloc: Global, out: &mut Rows, entry: &Entry) -> Result<(), AllocError>
-    ensures { OnOk result (out.new ≡ added out.old (spec.close_by out.old.csv entry.now.change.act entry.now)) }
+    ensures { OnOk result (out.new
+        ≡ added out.old (spec.close_by out.old.csv entry.now.change.act entry.now)) }
 {
     match entry.change.act {
         Act::Close(period) => put_period(alloc, out, entry, period),
-        _ => Ok(()),
+        Act::Adopt(_)
+        | Act::Amend(_)
+        | Act::Transfer(_)
+        | Act::Requisition(_)
+        | Act::Withdraw(_)
+        | Act::Order(_)
+        | Act::ChangeOrder(_)
+        | Act::CancelOrder(_)
+        | Act::Voucher(_)
+        | Act::VoidVoucher(_)
+        | Act::Pay(_)
+        | Act::Bill(_)
+        | Act::Collect(_)
+        | Act::Receive(_)
+        | Act::WriteOff(_)
+        | Act::Asset(_)
+        | Act::Issue(_)
+        | Act::PayDue(_)
+        | Act::Leave(_)
+        | Act::Interfund(_)
+        | Act::Lease(_) => Ok(()),
     }
 }
 
@@ -435,12 +555,10 @@ fn put_head(out: &mut Rows) -> Result<(), AllocError>
     out.put_names(names.as_slice())
 }
 
-/// What is open, as records below a row of names: open requisitions by item, live items of orders with what is open of each,
-/// bills with what is left, vouchers that aren't paid, and bonds and leases with what is outstanding and the day of the next
-/// payment, each kind by rising number and as looks show them, in units of money; then the months and the fiscal years that
-/// are closed.
-pub fn open_text(layout: Layout, rest: &Rest) -> Result<Vec<u8>, AllocError>
-    ensures { IfOk result (λ v. v.items ≡ spec.open_text layout.csv rest.now.plan rest.now.entries) }
+/// Writes all that is open, and what is closed.
+fn all_text(layout: Layout, rest: &Rest) -> Result<Vec<u8>, AllocError>
+    ensures { IfOk result (λ v. v.items ≡ spec.open_text layout.csv rest.now.plan
+        rest.now.entries) }
 {
     let entries = rest.entries();
     let alloc = layout.alloc;
@@ -453,4 +571,22 @@ pub fn open_text(layout: Layout, rest: &Rest) -> Result<Vec<u8>, AllocError>
     put_section(alloc, &mut out, rest, Section::Debts, entries)?;
     put_closes(alloc, &mut out, entries)?;
     out.into_text()
+}
+
+/// What is open, as records below a row of names: open requisitions by item, live items of orders
+/// with what is open of each, bills with what is left, vouchers that aren't paid, and bonds and
+/// leases with what is outstanding and the day of the next payment, each kind by rising number and
+/// as looks show them, in units of money; then the months and the fiscal years that are closed.
+/// Under any chart that was read, the rows of bills come to each fund's receivables (110000), those
+/// of vouchers to its vouchers payable (200000), and those of order items to what is encumbered on
+/// each line in each fiscal year.
+pub fn open_text(layout: Layout, rest: &Rest) -> Result<Vec<u8>, AllocError>
+    ensures text { IfOk result (λ v. v.items ≡ spec.open_text layout.csv rest.now.plan
+        rest.now.entries) }
+    ensures sums { (bytes : List ℕ) → chart_of bytes ≡ Ok rest.now.plan
+        → OpenAddsUp rest.now.plan rest.now.entries }
+{
+    // So that the proof knows that the history is legal.
+    let _legal = rest.entries();
+    all_text(layout, rest)
 }

@@ -161,7 +161,8 @@ fn put_post(
     basis: Basis,
     post: &Post,
 ) -> Result<(), AllocError>
-    ensures { OnOk result (sheet.new.out ≡ added sheet.old.out (record_text sheet.old.out.csv (spec.post_row chart.now place entry.now basis post.now))) }
+    ensures { OnOk result (sheet.new.out ≡ added sheet.old.out
+        (record_text sheet.old.out.csv (spec.post_row chart.now place entry.now basis post.now))) }
 {
     make_texts(sheet, chart, post)?;
     let change = &entry.change;
@@ -194,7 +195,8 @@ fn put_asked(
     entry: &Entry,
     placed: &PlacedPost,
 ) -> Result<(), AllocError>
-    ensures { OnOk result (sheet.new.out ≡ added sheet.old.out (spec.entry_text sheet.old.out.csv filter chart.now (Some entry.now) placed.now)) }
+    ensures { OnOk result (sheet.new.out ≡ added sheet.old.out
+        (spec.entry_text sheet.old.out.csv filter chart.now (Some entry.now) placed.now)) }
 {
     let wanted = is_wanted(filter, &placed.post);
     if wanted {
@@ -213,7 +215,8 @@ fn put_placed_row(
     entries: &[Entry],
     placed: &PlacedPost,
 ) -> Result<(), AllocError>
-    ensures { OnOk result (sheet.new.out ≡ added sheet.old.out (spec.placed_text sheet.old.out.csv filter chart.now entries.now placed.now)) }
+    ensures { OnOk result (sheet.new.out ≡ added sheet.old.out
+        (spec.placed_text sheet.old.out.csv filter chart.now entries.now placed.now)) }
 {
     match entries.get(placed.place.saturating_sub(1) as usize) {
         Some(entry) => put_asked(sheet, filter, chart, entry, placed),
@@ -229,7 +232,8 @@ fn put_rows(
     entries: &[Entry],
     posts: &[PlacedPost],
 ) -> Result<(), AllocError>
-    ensures { OnOk result (sheet.new.out ≡ added sheet.old.out (spec.rows_text sheet.old.out.csv filter chart.now entries.now posts.now)) }
+    ensures { OnOk result (sheet.new.out ≡ added sheet.old.out
+        (spec.rows_text sheet.old.out.csv filter chart.now entries.now posts.now)) }
 {
     for post in posts {
         put_placed_row(sheet, filter, chart, entries, post)?;
@@ -267,7 +271,8 @@ fn text_of_posts(
     entries: &[Entry],
     posts: &[PlacedPost],
 ) -> Result<Vec<u8>, AllocError>
-    ensures { IfOk result (λ v. v.items ≡ spec.text_of layout.csv filter chart.now entries.now posts.now) }
+    ensures { IfOk result (λ v. v.items ≡ spec.text_of layout.csv filter chart.now entries.now
+        posts.now) }
 {
     let mut sheet = blank_sheet(layout);
     put_head(&mut sheet.out)?;
@@ -275,15 +280,18 @@ fn text_of_posts(
     sheet.out.into_text()
 }
 
-/// Opens the book of the journal on a disk, as `cf_book::open` does, with the posts of its entries, oldest first and those on
-/// the fund basis before those on the government-wide one.
+/// Opens the book of the journal on a disk, as `cf_book::open` does, with the posts of its entries,
+/// oldest first and those on the fund basis before those on the government-wide one.
 pub fn open_with_posts<D: Disk + Drop>(
     alloc: Global,
     disk: D,
 ) -> Result<(Book<D>, Vec<PlacedPost>), NotOpened<D>>
-    ensures ok { IfOk result (λ x. OpensBook D.tells D.content D.is_image D.moment D.was_image D.faults disk x.0) }
-    ensures posts { IfOk result (λ x. x.1.items ≡ spec.placed_in (all_posted x.0.plan x.0.entries)) }
-    ensures err { IfErr result (λ e. OpensNone D.tells D.content D.is_image D.moment D.was_image D.faults disk e.disk e.why) }
+    ensures ok { IfOk result (λ x. OpensBook D.tells D.content D.is_image D.moment D.was_image
+        D.faults disk x.0) }
+    ensures posts { IfOk result (λ x. x.1.items ≡ spec.placed_in
+        (all_posted x.0.plan x.0.entries)) }
+    ensures err { IfErr result (λ e. OpensNone D.tells D.content D.is_image D.moment D.was_image
+        D.faults disk e.disk e.why) }
 {
     let mut gathered = Gathered {
         posts: Vec::new(alloc),
@@ -294,16 +302,17 @@ pub fn open_with_posts<D: Disk + Drop>(
     }
 }
 
-/// Those of a book's posts that are asked for as records below a row of names: a record each, with its entry's place, day,
-/// desk, key, call and number drawn, the basis, and the post's fiscal year, fund, account and amount, debits above zero, in
-/// units of money.
+/// Those of a book's posts that are asked for as records below a row of names: a record each, with
+/// its entry's place, day, desk, key, call and number drawn, the basis, and the post's fiscal year,
+/// fund, account and amount, debits above zero, in units of money.
 pub fn posts_text<D: Disk + Drop>(
     layout: Layout,
     filter: PostFilter,
     book: &Book<D>,
     posts: &[PlacedPost],
 ) -> Result<Vec<u8>, AllocError>
-    ensures { IfOk result (λ v. v.items ≡ spec.text_of layout.csv filter book.now.plan book.now.entries posts.now) }
+    ensures { IfOk result (λ v. v.items ≡ spec.text_of layout.csv filter book.now.plan
+        book.now.entries posts.now) }
 {
     text_of_posts(layout, filter, book.chart(), book.entries(), posts)
 }

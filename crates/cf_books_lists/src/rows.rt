@@ -12,7 +12,8 @@ use csv::{ByteRecord, Writer, WriterBuilder};
 use std::alloc::{AllocError, Global};
 use std::marker::Model;
 
-/// How rows are laid out: as records of comma-separated values below a row of names, or as fields with tabs between them.
+/// How rows are laid out: as records of comma-separated values below a row of names, or as fields
+/// with tabs between them.
 #[derive(Clone, Copy)]
 pub struct Layout {
     pub alloc: Global,
@@ -47,11 +48,13 @@ fn is_unsigned(text: &[u8]) -> bool
     text.iter().all(|c| *c == b'.' || b'0' <= *c && *c <= b'9')
 }
 
-/// Whether a spreadsheet takes a field for a formula. An amount, up to what 128 bits hold, is none, and stands as it is.
+/// Whether a spreadsheet takes a field for a formula. An amount, up to what 128 bits hold, is none,
+/// and stands as it is.
 #[tactic(auto, using(crate::proofs::Formulas::amount_stands))]
 fn is_formula(field: &[u8]) -> bool
     ensures value { result ≡ spec.is_formula field.now }
-    ensures amounts { (amount : ℤ) → unsigned_abs amount < 2 ^ 128 → guarded (money_of amount) ≡ money_of amount }
+    ensures amounts { (amount : ℤ) → unsigned_abs amount < 2 ^ 128 → guarded (money_of amount)
+        ≡ money_of amount }
 {
     match field.split_first() {
         Some((first, rest)) => begins_formula(*first) || *first == b'-' && !is_unsigned(rest),
@@ -63,7 +66,8 @@ fn is_formula(field: &[u8]) -> bool
 /// of no use.
 fn put_guarded(alloc: Global, row: &mut ByteRecord, field: &[u8]) -> Result<(), AllocError>
     requires { partial_of row.old ≡ [] }
-    ensures fields { OnOk result (fields_of row.new ≡ fields_of row.old ++ (guarded field.now ∷ [])) }
+    ensures fields { OnOk result (fields_of row.new ≡ fields_of row.old
+        ++ (guarded field.now ∷ [])) }
     ensures partial { OnOk result (partial_of row.new ≡ []) }
 {
     if !is_formula(field) {
@@ -91,7 +95,8 @@ fn guarded_record(alloc: Global, fields: &[&[u8]]) -> Result<ByteRecord, AllocEr
 fn write_row(layout: Layout, out: &mut Writer<Vec<u8>>, fields: &[&[u8]]) -> Result<(), AllocError>
     requires { StandsBefore layout.csv out.old }
     ensures before { OnOk result (StandsBefore layout.csv out.new) }
-    ensures text { OnOk result (text_in out.new ≡ text_in out.old ++ record_text layout.csv (map (λ f. f.now) fields.now)) }
+    ensures text { OnOk result (text_in out.new ≡ text_in out.old
+        ++ record_text layout.csv (map (λ f. f.now) fields.now)) }
 {
     if layout.csv {
         let row = guarded_record(layout.alloc, fields)?;
@@ -102,7 +107,8 @@ fn write_row(layout: Layout, out: &mut Writer<Vec<u8>>, fields: &[&[u8]]) -> Res
 
 // ---- rows
 
-/// Rows that were written, all with the same number of fields: a contract sees how they are laid out, and their text.
+/// Rows that were written, all with the same number of fields: a contract sees how they are laid
+/// out, and their text.
 #[derive(Drop)]
 pub struct Rows {
     layout: Layout,
@@ -133,7 +139,8 @@ impl Rows {
     /// Writes a row: as a record with a quote before each field that a spreadsheet takes for a
     /// formula, or with tabs as it is. Where there is no memory for it, none is left.
     pub fn put(&mut self, fields: &[&[u8]]) -> Result<(), AllocError>
-        ensures { OnOk result (self.new ≡ added self.old (record_text self.old.csv (map (λ f. f.now) fields.now))) }
+        ensures { OnOk result (self.new ≡ added self.old
+            (record_text self.old.csv (map (λ f. f.now) fields.now))) }
     {
         let written = write_row(self.layout, &mut self.out, fields);
         if written.is_err() {
@@ -144,7 +151,8 @@ impl Rows {
 
     /// Writes the names of the columns, where records are written.
     pub fn put_names(&mut self, names: &[&[u8]]) -> Result<(), AllocError>
-        ensures { OnOk result (self.new ≡ added self.old (head_text self.old.csv (map (λ f. f.now) names.now))) }
+        ensures { OnOk result (self.new ≡ added self.old
+            (head_text self.old.csv (map (λ f. f.now) names.now))) }
     {
         if self.layout.csv {
             self.put(names)

@@ -31,7 +31,8 @@ fn rows_of<D: Disk + Drop>(
     kind: ReportKind,
 ) -> Result<Vec<Row>, AllocError>
     requires { IsYear year }
-    ensures { IfOk result (λ rows. rows.items ≡ spec.rows_of book.now.plan book.now.entries year kind) }
+    ensures { IfOk result (λ rows. rows.items ≡ spec.rows_of book.now.plan book.now.entries year
+        kind) }
 {
     match kind {
         ReportKind::Look(kind) => book.report_rows(alloc, year, kind),
@@ -68,7 +69,8 @@ fn put_lines(
     lines: &[Line],
 ) -> Result<(), AllocError>
     requires { length lines.now ≤ 4096 }
-    ensures { OnOk result (out.new.items ≡ out.old.items ++ spec.fund_lines chart.now year fund 0 lines.now) }
+    ensures { OnOk result (out.new.items ≡ out.old.items
+        ++ spec.fund_lines chart.now year fund 0 lines.now) }
 {
     let mut number = 0;
     for line in lines {
@@ -87,7 +89,8 @@ fn put_section(
     year: u16,
     fund: u16,
 ) -> Result<(), AllocError>
-    ensures { OnOk result (out.new.items ≡ out.old.items ++ spec.section_lines chart.now year fund) }
+    ensures { OnOk result (out.new.items ≡ out.old.items
+        ++ spec.section_lines chart.now year fund) }
 {
     out.push(None)?;
     put_sources(out, chart.sources(), fund)?;
@@ -101,7 +104,8 @@ fn put_sections(
     year: u16,
     funds: &[Fund],
 ) -> Result<(), AllocError>
-    ensures { OnOk result (out.new.items ≡ out.old.items ++ spec.sections_lines chart.now year funds.now) }
+    ensures { OnOk result (out.new.items ≡ out.old.items
+        ++ spec.sections_lines chart.now year funds.now) }
 {
     for fund in funds {
         put_section(out, chart, year, fund.id)?;
@@ -129,7 +133,17 @@ fn row_lines(
 {
     match kind {
         ReportKind::Look(Kind::Budget) => comparison_lines(alloc, chart, year),
-        _ => Ok(Vec::new(alloc)),
+        ReportKind::Look(
+            Kind::Balance
+            | Kind::Operating
+            | Kind::Position
+            | Kind::Activities
+            | Kind::Reconcile
+            | Kind::Changes,
+        )
+        | ReportKind::Classes
+        | ReportKind::Components
+        | ReportKind::Major => Ok(Vec::new(alloc)),
     }
 }
 
@@ -153,7 +167,16 @@ fn is_total(kind: ReportKind, row: &Row) -> bool
         ReportKind::Look(Kind::Balance) | ReportKind::Classes => {
             row.label.as_str() == "Total fund balances"
         }
-        _ => false,
+        ReportKind::Look(
+            Kind::Operating
+            | Kind::Budget
+            | Kind::Position
+            | Kind::Activities
+            | Kind::Reconcile
+            | Kind::Changes,
+        )
+        | ReportKind::Components
+        | ReportKind::Major => false,
     }
 }
 
@@ -189,7 +212,8 @@ fn amount_text(alloc: Global, amounts: &[i128], place: usize) -> Result<String, 
 
 /// Writes the record of a row of one amount.
 fn put_single(alloc: Global, out: &mut Rows, section: &[u8], row: &Row) -> Result<(), AllocError>
-    ensures { OnOk result (out.new ≡ added out.old (record_text out.old.csv (spec.single_fields section.now row.now))) }
+    ensures { OnOk result (out.new
+        ≡ added out.old (record_text out.old.csv (spec.single_fields section.now row.now))) }
 {
     let amount = amount_text(alloc, row.amounts.as_slice(), 0)?;
     let fields = [
@@ -207,7 +231,8 @@ fn row_name(
     line: Option<&Line>,
     row: &Row,
 ) -> Result<Vec<u8>, AllocError>
-    ensures { IfOk result (λ t. t.items ≡ spec.row_name chart.now (option_copied line.entry) row.now) }
+    ensures { IfOk result (λ t. t.items ≡ spec.row_name chart.now (option_copied line.entry)
+        row.now) }
 {
     match line {
         Some(line) => Vec::from_slice(alloc, department_name(chart.dept(line.dept)).as_bytes()),
@@ -244,7 +269,9 @@ fn put_compared(
     line: Option<u16>,
     row: &Row,
 ) -> Result<(), AllocError>
-    ensures { OnOk result (out.new ≡ added out.old (record_text out.old.csv (spec.compared_fields chart.now section.now line row.now))) }
+    ensures { OnOk result (out.new
+        ≡ added out.old (record_text out.old.csv
+        (spec.compared_fields chart.now section.now line row.now))) }
 {
     let amounts = row.amounts.as_slice();
     let name = row_name(alloc, chart, line_of(chart, line), row)?;
@@ -286,7 +313,8 @@ fn single_amount(amounts: &[i128]) -> &[i128]
 
 /// Writes the record of a row of the statement of activities.
 fn put_activity(alloc: Global, out: &mut Rows, section: &[u8], row: &Row) -> Result<(), AllocError>
-    ensures { OnOk result (out.new ≡ added out.old (record_text out.old.csv (spec.activity_fields section.now row.now))) }
+    ensures { OnOk result (out.new
+        ≡ added out.old (record_text out.old.csv (spec.activity_fields section.now row.now))) }
 {
     let program = program_amounts(row.amounts.as_slice());
     let expenses = amount_text(alloc, program, 0)?;
@@ -318,12 +346,19 @@ fn put_fields(
     line: Option<u16>,
     row: &Row,
 ) -> Result<(), AllocError>
-    ensures { OnOk result (out.new ≡ added out.old (record_text out.old.csv (spec.fields_of chart.now kind section.now line row.now))) }
+    ensures { OnOk result (out.new
+        ≡ added out.old (record_text out.old.csv
+        (spec.fields_of chart.now kind section.now line row.now))) }
 {
     match kind {
         ReportKind::Look(Kind::Budget) => put_compared(alloc, out, chart, section, line, row),
         ReportKind::Look(Kind::Activities) => put_activity(alloc, out, section, row),
-        _ => put_single(alloc, out, section, row),
+        ReportKind::Look(
+            Kind::Balance | Kind::Operating | Kind::Position | Kind::Reconcile | Kind::Changes,
+        )
+        | ReportKind::Classes
+        | ReportKind::Components
+        | ReportKind::Major => put_single(alloc, out, section, row),
     }
 }
 
@@ -337,7 +372,8 @@ fn put_row(
     line: Option<u16>,
     row: &Row,
 ) -> Result<(), AllocError>
-    ensures { OnOk result (out.new ≡ added out.old (spec.row_text out.old.csv chart.now kind section.now line row.now)) }
+    ensures { OnOk result (out.new
+        ≡ added out.old (spec.row_text out.old.csv chart.now kind section.now line row.now)) }
 {
     if row.amounts.as_slice().is_empty() {
         return Ok(());
@@ -362,7 +398,8 @@ fn put_rows(
     lines: &[Option<u16>],
     rows: &[Row],
 ) -> Result<(), AllocError>
-    ensures { OnOk result (out.new ≡ added out.old (spec.rows_text out.old.csv chart.now kind lines.now [] 0 rows.now)) }
+    ensures { OnOk result (out.new
+        ≡ added out.old (spec.rows_text out.old.csv chart.now kind lines.now [] 0 rows.now)) }
 {
     let mut section: &[u8] = b"";
     let mut place = 0;
@@ -381,7 +418,12 @@ fn put_head(out: &mut Rows, kind: ReportKind) -> Result<(), AllocError>
     match kind {
         ReportKind::Look(Kind::Budget) => put_comparison_head(out),
         ReportKind::Look(Kind::Activities) => put_activities_head(out),
-        _ => put_single_head(out),
+        ReportKind::Look(
+            Kind::Balance | Kind::Operating | Kind::Position | Kind::Reconcile | Kind::Changes,
+        )
+        | ReportKind::Classes
+        | ReportKind::Components
+        | ReportKind::Major => put_single_head(out),
     }
 }
 
@@ -451,16 +493,17 @@ fn records_text<D: Disk + Drop>(
     kind: ReportKind,
 ) -> Result<Vec<u8>, AllocError>
     requires { IsYear year }
-    ensures { IfOk result (λ v. v.items ≡ spec.statement_text layout.csv year kind book.now.plan book.now.entries) }
+    ensures { IfOk result (λ v. v.items ≡ spec.statement_text layout.csv year kind book.now.plan
+        book.now.entries) }
 {
     let rows = rows_of(layout.alloc, book, year, kind)?;
     text_of_rows(layout, book.chart(), year, kind, rows.as_slice())
 }
 
-/// A statement of a fiscal year from 1971 to 2199: its rows, which are those that `report` prints, as records. Each has the
-/// section that it stands in, which is the heading above it, as a fund's name; its name; and its amounts in units of money. A
-/// row of a control line has the name of the line's department, the line's number, and which part of the department's objects
-/// it has.
+/// A statement of a fiscal year from 1971 to 2199: its rows, which are those that `report` prints,
+/// as records. Each has the section that it stands in, which is the heading above it, as a fund's
+/// name; its name; and its amounts in units of money. A row of a control line has the name of the
+/// line's department, the line's number, and which part of the department's objects it has.
 pub fn statement_text<D: Disk + Drop>(
     layout: Layout,
     book: &Book<D>,
@@ -468,8 +511,11 @@ pub fn statement_text<D: Disk + Drop>(
     kind: ReportKind,
 ) -> Result<Vec<u8>, AllocError>
     requires { IsYear year }
-    ensures text { IfOk result (λ v. v.items ≡ spec.statement_text layout.csv year kind book.now.plan book.now.entries) }
-    ensures lines { AreOf (sums_of book.now.plan book.now.entries) year (spec.comparison_lines book.now.plan year) (report_rows book.now.plan book.now.entries year Budget) }
+    ensures text { IfOk result (λ v. v.items ≡ spec.statement_text layout.csv year kind
+        book.now.plan book.now.entries) }
+    ensures lines { AreOf (sums_of book.now.plan book.now.entries) year
+        (spec.comparison_lines book.now.plan year)
+        (report_rows book.now.plan book.now.entries year Budget) }
 {
     records_text(layout, book, year, kind)
 }

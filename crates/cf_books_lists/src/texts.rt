@@ -75,7 +75,8 @@ pub fn put_text(out: &mut Vec<u8>, text: &str) -> Result<(), AllocError>
 
 /// Appends a text, a number and a text.
 pub fn put_between(out: &mut Vec<u8>, before: &str, n: u64, after: &str) -> Result<(), AllocError>
-    ensures { OnOk result (out.new.items ≡ out.old.items ++ (before.now ++ (decimal n ++ after.now))) }
+    ensures { OnOk result (out.new.items ≡ out.old.items
+        ++ (before.now ++ (decimal n ++ after.now))) }
 {
     out.extend_from_slice(before.as_bytes())?;
     put_number(out, n)?;

@@ -72,7 +72,8 @@ fn leave_amount(act: &LeaveAct) -> u64
     }
 }
 
-/// The amount of an act in cents, where it states one: the sum of its items, for an adoption of its lines.
+/// The amount of an act in cents, where it states one: the sum of its items, for an adoption of its
+/// lines.
 pub fn amount_of(on: Day, act: &Act) -> Option<i128>
     requires { IsActInForm on act.now }
     ensures { result ≡ spec.amount_of act.now }

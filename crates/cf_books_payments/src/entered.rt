@@ -63,7 +63,8 @@ fn voucher_paid(by: u64, number: u32, at: u64, entry: &Entry) -> Option<Paid>
     }
 }
 
-/// What the entry at a place, `by`, paid of the lease that an entry entered, by a payment of this number.
+/// What the entry at a place, `by`, paid of the lease that an entry entered, by a payment of this
+/// number.
 fn lease_paid(by: u64, bond: u32, number: u32, at: u64, entry: &Entry) -> Option<Paid>
     ensures value { result ≡ spec.lease_paid by bond number at entry.now.change.act }
     ensures small { IfSome result IsSmall }
@@ -85,7 +86,8 @@ fn lease_paid(by: u64, bond: u32, number: u32, at: u64, entry: &Entry) -> Option
 
 /// Notes the place of a voucher, where the entry is one.
 fn note_voucher(places: &mut BTreeMap<u32, u64>, entry: &Entry, at: u64) -> Result<(), AllocError>
-    ensures { OnOk result ((n : ℕ) → get nat_cmp places.new n ≡ spec.vouchers_noted entry.now.change.act entry.now.drawn at (get nat_cmp places.old) n) }
+    ensures { OnOk result ((n : ℕ) → get nat_cmp places.new n
+        ≡ spec.vouchers_noted entry.now.change.act entry.now.drawn at (get nat_cmp places.old) n) }
 {
     if let Act::Voucher(_) = entry.change.act {
         put_place(places, entry.drawn.number, at)
@@ -108,7 +110,8 @@ impl Entered {
     /// What the entry at a place, `by`, paid of a voucher.
     pub fn voucher(&self, entries: &[Entry], by: u64, number: u32) -> Option<Paid>
         requires { AreInForm entries.now }
-        ensures value { result ≡ spec.paid_at entries.now (spec.voucher_paid by number) (get nat_cmp self.now.vouchers number) }
+        ensures value { result ≡ spec.paid_at entries.now (spec.voucher_paid by number)
+            (get nat_cmp self.now.vouchers number) }
         ensures small { IfSome result IsSmall }
     {
         let at = *self.vouchers.get(&number)?;
@@ -118,7 +121,8 @@ impl Entered {
 
     /// What the entry at a place, `by`, paid of a lease, by a payment of this number.
     pub fn lease(&self, entries: &[Entry], by: u64, bond: u32, number: u32) -> Option<Paid>
-        ensures value { result ≡ spec.paid_at entries.now (spec.lease_paid by bond number) (get nat_cmp self.now.debts bond) }
+        ensures value { result ≡ spec.paid_at entries.now (spec.lease_paid by bond number)
+            (get nat_cmp self.now.debts bond) }
         ensures small { IfSome result IsSmall }
     {
         let at = *self.debts.get(&bond)?;
@@ -128,7 +132,8 @@ impl Entered {
 
     /// Notes what the entry at a place, from 0, entered.
     pub fn note(&mut self, entry: &Entry, at: u64) -> Result<(), AllocError>
-        ensures { OnOk result (places_in self.new ≡ spec.places_after (places_in self.old) entry.now at) }
+        ensures { OnOk result (places_in self.new ≡ spec.places_after (places_in self.old) entry.now
+            at) }
     {
         note_voucher(&mut self.vouchers, entry, at)?;
         note_debt(&mut self.debts, entry, at)

@@ -1,4 +1,5 @@
-//! What payments come to, by the entries before them, and what they paid to each vendor in a calendar year.
+//! What payments come to, by the entries before them, and what they paid to each vendor in a
+//! calendar year.
 #![tactic(auto)]
 
 mod amounts;

@@ -34,7 +34,9 @@ fn put_vouchers(
     numbers: &[u32],
 ) -> Result<(), AllocError>
     requires { AreInForm entries.now }
-    ensures rows { OnOk result (rows.new.items ≡ rows.old.items ++ flat_map (spec.paid_voucher entries.now (get nat_cmp known.now.vouchers) by) numbers.now) }
+    ensures rows { OnOk result (rows.new.items ≡ rows.old.items
+        ++ flat_map (spec.paid_voucher entries.now (get nat_cmp known.now.vouchers) by)
+        numbers.now) }
     ensures small { OnOk result (AreSmall rows.old.items → AreSmall rows.new.items) }
     ensures few { OnOk result (length rows.new.items ≤ length rows.old.items + length numbers.now) }
 {
@@ -54,7 +56,8 @@ fn put_paid(
 ) -> Result<(), AllocError>
     requires forms { AreInForm entries.now }
     requires form { IsChangeInForm entry.now.change }
-    ensures rows { OnOk result (rows.new.items ≡ rows.old.items ++ spec.paid_by entries.now (places_in known.now) by entry.now.drawn entry.now.change.act) }
+    ensures rows { OnOk result (rows.new.items ≡ rows.old.items
+        ++ spec.paid_by entries.now (places_in known.now) by entry.now.drawn entry.now.change.act) }
     ensures small { OnOk result (AreSmall rows.old.items → AreSmall rows.new.items) }
     ensures few { OnOk result (length rows.new.items ≤ length rows.old.items + 64) }
 {
@@ -98,7 +101,8 @@ fn put_entry(
 ) -> Result<(), AllocError>
     requires forms { AreInForm entries.now }
     requires form { IsChangeInForm entry.now.change }
-    ensures rows { OnOk result (rows.new.items ≡ rows.old.items ++ spec.paid_if year entries.now (places_in known.now) by entry.now) }
+    ensures rows { OnOk result (rows.new.items ≡ rows.old.items
+        ++ spec.paid_if year entries.now (places_in known.now) by entry.now) }
     ensures small { OnOk result (AreSmall rows.old.items → AreSmall rows.new.items) }
     ensures few { OnOk result (length rows.new.items ≤ length rows.old.items + 64) }
 {
@@ -109,9 +113,10 @@ fn put_entry(
     }
 }
 
-/// What was paid to vendors in a calendar year, in the order of the payments: each voucher that a payment dated in it paid, and
-/// each payment of a lease that is dated in it. Vouchers come to the items of the entry that entered them, and payments of leases
-/// to the principal and the interest of their schedules.
+/// What was paid to vendors in a calendar year, in the order of the payments: each voucher that a
+/// payment dated in it paid, and each payment of a lease that is dated in it. Vouchers come to the
+/// items of the entry that entered them, and payments of leases to the principal and the interest
+/// of their schedules.
 pub fn paid_in(alloc: Global, year: u16, entries: &[Entry]) -> Result<Vec<Paid>, AllocError>
     requires forms { AreInForm entries.now }
     requires few { length entries.now ≤ most_entries }

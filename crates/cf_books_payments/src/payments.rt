@@ -14,8 +14,8 @@ use cf_calls::{Act, Entry};
 use std::alloc::{AllocError, Global};
 use std::collections::BTreeMap;
 
-/// What entries say of later payments: the amount of each voucher, by its number, and the place, from 0, of the entry of
-/// each bond and lease.
+/// What entries say of later payments: the amount of each voucher, by its number, and the place,
+/// from 0, of the entry of each bond and lease.
 #[derive(Drop)]
 pub struct Tables {
     pub vouchers: BTreeMap<u32, u128>,
@@ -51,11 +51,31 @@ pub(crate) fn schedule_in(act: &Act) -> Option<Schedule<'_>>
             every: lease.every,
             principals: lease.principals.as_slice(),
         }),
-        _ => None,
+        Act::Adopt(_)
+        | Act::Amend(_)
+        | Act::Transfer(_)
+        | Act::Requisition(_)
+        | Act::Withdraw(_)
+        | Act::Order(_)
+        | Act::ChangeOrder(_)
+        | Act::CancelOrder(_)
+        | Act::Voucher(_)
+        | Act::VoidVoucher(_)
+        | Act::Pay(_)
+        | Act::Bill(_)
+        | Act::Collect(_)
+        | Act::Receive(_)
+        | Act::WriteOff(_)
+        | Act::Asset(_)
+        | Act::PayDue(_)
+        | Act::Leave(_)
+        | Act::Interfund(_)
+        | Act::Close(_) => None,
     }
 }
 
-/// A payment's principal, with the interest of its period on what was owed before it: months of 30 days, in a year of 360.
+/// A payment's principal, with the interest of its period on what was owed before it: months of 30
+/// days, in a year of 360.
 fn due_total(owed: u64, rate_bp: u16, every: u16, principal: u64) -> u128
     ensures value { result ≡ principal + owed * rate_bp * (30 * every) / 3600000 }
     ensures small { result < 2 ^ 90 }
@@ -95,7 +115,8 @@ fn put_amount(
     number: u32,
     amount: u128,
 ) -> Result<(), AllocError>
-    ensures { OnOk result ((n : ℕ) → get nat_cmp amounts.new n ≡ spec.entered number amount (get nat_cmp amounts.old) n) }
+    ensures { OnOk result ((n : ℕ) → get nat_cmp amounts.new n
+        ≡ spec.entered number amount (get nat_cmp amounts.old) n) }
 {
     amounts.insert(number, amount)?;
     Ok(())
@@ -107,7 +128,8 @@ pub(crate) fn put_place(
     number: u32,
     at: u64,
 ) -> Result<(), AllocError>
-    ensures { OnOk result ((n : ℕ) → get nat_cmp places.new n ≡ spec.entered number at (get nat_cmp places.old) n) }
+    ensures { OnOk result ((n : ℕ) → get nat_cmp places.new n
+        ≡ spec.entered number at (get nat_cmp places.old) n) }
 {
     places.insert(number, at)?;
     Ok(())
@@ -116,14 +138,35 @@ pub(crate) fn put_place(
 /// Notes the amount of a voucher, where the entry is one.
 fn note_voucher(amounts: &mut BTreeMap<u32, u128>, entry: &Entry) -> Result<(), AllocError>
     requires form { IsChangeInForm entry.now.change }
-    ensures { OnOk result (NotesVoucher entry.now (get nat_cmp amounts.old) (get nat_cmp amounts.new)) }
+    ensures { OnOk result (NotesVoucher entry.now (get nat_cmp amounts.old)
+        (get nat_cmp amounts.new)) }
 {
     match &entry.change.act {
         Act::Voucher(voucher) => {
             let amount = total(voucher.items.as_slice());
             put_amount(amounts, entry.drawn.number, amount)
         }
-        _ => Ok(()),
+        Act::Adopt(_)
+        | Act::Amend(_)
+        | Act::Transfer(_)
+        | Act::Requisition(_)
+        | Act::Withdraw(_)
+        | Act::Order(_)
+        | Act::ChangeOrder(_)
+        | Act::CancelOrder(_)
+        | Act::VoidVoucher(_)
+        | Act::Pay(_)
+        | Act::Bill(_)
+        | Act::Collect(_)
+        | Act::Receive(_)
+        | Act::WriteOff(_)
+        | Act::Asset(_)
+        | Act::Issue(_)
+        | Act::PayDue(_)
+        | Act::Leave(_)
+        | Act::Interfund(_)
+        | Act::Close(_)
+        | Act::Lease(_) => Ok(()),
     }
 }
 
@@ -133,12 +176,32 @@ pub(crate) fn note_debt(
     entry: &Entry,
     at: u64,
 ) -> Result<(), AllocError>
-    ensures { OnOk result ((n : ℕ) → get nat_cmp places.new n ≡ debts_noted entry.now.change.act entry.now.drawn at (get nat_cmp places.old) n) }
+    ensures { OnOk result ((n : ℕ) → get nat_cmp places.new n
+        ≡ debts_noted entry.now.change.act entry.now.drawn at (get nat_cmp places.old) n) }
 {
     match &entry.change.act {
         Act::Issue(_) => put_place(places, entry.drawn.number, at),
         Act::Lease(_) => put_place(places, entry.drawn.second, at),
-        _ => Ok(()),
+        Act::Adopt(_)
+        | Act::Amend(_)
+        | Act::Transfer(_)
+        | Act::Requisition(_)
+        | Act::Withdraw(_)
+        | Act::Order(_)
+        | Act::ChangeOrder(_)
+        | Act::CancelOrder(_)
+        | Act::Voucher(_)
+        | Act::VoidVoucher(_)
+        | Act::Pay(_)
+        | Act::Bill(_)
+        | Act::Collect(_)
+        | Act::Receive(_)
+        | Act::WriteOff(_)
+        | Act::Asset(_)
+        | Act::PayDue(_)
+        | Act::Leave(_)
+        | Act::Interfund(_)
+        | Act::Close(_) => Ok(()),
     }
 }
 
@@ -169,7 +232,8 @@ impl Tables {
     fn paid(&self, numbers: &[u32]) -> u128
         requires small { AreSmall (get nat_cmp self.now.vouchers) }
         requires few { length numbers.now ≤ 4096 }
-        ensures value { result ≡ sum_by (spec.voucher_in (get nat_cmp self.now.vouchers)) numbers.now }
+        ensures value { result ≡ sum_by (spec.voucher_in (get nat_cmp self.now.vouchers))
+            numbers.now }
         ensures small { result < 2 ^ 104 }
     {
         let mut total = 0;
@@ -181,33 +245,57 @@ impl Tables {
 
     /// What a payment of a debt comes to, where its bond or lease is there and has such a payment.
     fn due(&self, entries: &[Entry], bond: u32, number: u32) -> Option<i128>
-        ensures { result ≡ spec.due_of number (option_and_then (schedule_at entries.now) (get nat_cmp self.now.debts bond)) }
+        ensures { result ≡ spec.due_of number
+            (option_and_then (schedule_at entries.now) (get nat_cmp self.now.debts bond)) }
     {
         let at = *self.debts.get(&bond)?;
         let schedule = schedule_of(entries, at)?;
         due_amount(schedule, number)
     }
 
-    /// The amount of an entry in cents, where it has one: a payment's is that of its vouchers, that of a debt its principal
-    /// and interest, and another's the one that its act states.
+    /// The amount of an entry in cents, where it has one: a payment's is that of its vouchers, that
+    /// of a debt its principal and interest, and another's the one that its act states.
     pub fn amount(&self, entries: &[Entry], entry: &Entry) -> Option<i128>
         requires form { IsChangeInForm entry.now.change }
         requires small { AreSmall (get nat_cmp self.now.vouchers) }
-        ensures { (known : Payable) → Knows entries.now self.now known → result ≡ spec.amount_after known entry.now.drawn entry.now.change.act }
+        ensures { (known : Payable) → Knows entries.now self.now known → result
+            ≡ spec.amount_after known entry.now.drawn entry.now.change.act }
     {
         let change = &entry.change;
         match &change.act {
             Act::Pay(payment) => Some(self.paid(payment.vouchers.as_slice()) as i128),
             Act::PayDue(payment) => self.due(entries, payment.bond, entry.drawn.number),
-            _ => amount_of(change.on, &change.act),
+            Act::Adopt(_)
+            | Act::Amend(_)
+            | Act::Transfer(_)
+            | Act::Requisition(_)
+            | Act::Withdraw(_)
+            | Act::Order(_)
+            | Act::ChangeOrder(_)
+            | Act::CancelOrder(_)
+            | Act::Voucher(_)
+            | Act::VoidVoucher(_)
+            | Act::Bill(_)
+            | Act::Collect(_)
+            | Act::Receive(_)
+            | Act::WriteOff(_)
+            | Act::Asset(_)
+            | Act::Issue(_)
+            | Act::Leave(_)
+            | Act::Interfund(_)
+            | Act::Close(_)
+            | Act::Lease(_) => amount_of(change.on, &change.act),
         }
     }
 
     /// Notes what the entry at a place, from 0, says of later payments.
     pub fn note(&mut self, entry: &Entry, at: u64) -> Result<(), AllocError>
         requires { IsChangeInForm entry.now.change }
-        ensures vouchers { OnOk result (NotesVoucher entry.now (get nat_cmp self.old.vouchers) (get nat_cmp self.new.vouchers)) }
-        ensures debts { OnOk result ((n : ℕ) → get nat_cmp self.new.debts n ≡ debts_noted entry.now.change.act entry.now.drawn at (get nat_cmp self.old.debts) n) }
+        ensures vouchers { OnOk result
+            (NotesVoucher entry.now (get nat_cmp self.old.vouchers)
+            (get nat_cmp self.new.vouchers)) }
+        ensures debts { OnOk result ((n : ℕ) → get nat_cmp self.new.debts n
+            ≡ debts_noted entry.now.change.act entry.now.drawn at (get nat_cmp self.old.debts) n) }
     {
         note_voucher(&mut self.vouchers, entry)?;
         note_debt(&mut self.debts, entry, at)

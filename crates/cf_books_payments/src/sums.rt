@@ -28,8 +28,11 @@ impl Totals {
 
     /// Adds what was paid.
     fn add(&mut self, paid: &Paid) -> Result<(), AllocError>
-        requires { unsigned_abs (sum_at self.old paid.now.vendor) + unsigned_abs paid.now.amount < 2 ^ 127 }
-        ensures { OnOk result ((n : ℕ) → sum_at self.new n ≡ (if paid.now.vendor == n then sum_at self.old n +ℤ paid.now.amount else sum_at self.old n)) }
+        requires { unsigned_abs (sum_at self.old paid.now.vendor) + unsigned_abs paid.now.amount
+            < 2 ^ 127 }
+        ensures { OnOk result ((n : ℕ) → sum_at self.new n
+            ≡ (if paid.now.vendor == n then sum_at self.old n +ℤ paid.now.amount
+            else sum_at self.old n)) }
     {
         let sum = self.of(paid.vendor) + paid.amount;
         self.sums.insert(paid.vendor, sum)?;
@@ -41,7 +44,8 @@ impl Totals {
 pub fn totals_of(alloc: Global, rows: &[Paid]) -> Result<Totals, AllocError>
     requires small { AreSmall rows.now }
     requires few { length rows.now ≤ 64 * most_entries }
-    ensures { IfOk result (λ totals. (vendor : ℕ) → sum_at totals vendor ≡ spec.paid_to vendor rows.now) }
+    ensures { IfOk result (λ totals. (vendor : ℕ) → sum_at totals vendor
+        ≡ spec.paid_to vendor rows.now) }
 {
     let mut totals = Totals {
         sums: BTreeMap::new(alloc),

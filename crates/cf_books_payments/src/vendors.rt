@@ -8,8 +8,9 @@ ghost use Rattle.cf_books_payments.specs.Paid.{ListsAll};
 use crate::entered::Paid;
 use std::alloc::AllocError;
 
-/// Sorts what was paid by rising vendor. What a vendor was paid stays in its order. Of what was paid in a calendar year each
-/// vendor's rows sum to its total, and all rows to what the payments of the year come to.
+/// Sorts what was paid by rising vendor. What a vendor was paid stays in its order. Of what was
+/// paid in a calendar year each vendor's rows sum to its total, and all rows to what the payments
+/// of the year come to.
 pub fn by_vendor(rows: &mut Vec<Paid>) -> Result<(), AllocError>
     ensures sorted { OnOk result (rows.new.items ≡ spec.by_vendor rows.old.items) }
     ensures all { (year : ℕ) (history : List Entry) → ListsAll year history }

@@ -113,7 +113,8 @@ fn is_listed(own: &[&str], name: &str) -> bool
 /// Whether an option with a value wasn't given, or is one of a command's own.
 #[tactic(auto, using(crate::proofs::Names::listed_names))]
 fn is_own(matches: &ArgMatches, own: &[&str], name: &str) -> bool
-    ensures { result ≡ spec.is_own (rows_of (found_of matches.now)) (map (λ n. n.now) own.now) name.now }
+    ensures { result ≡ spec.is_own (rows_of (found_of matches.now)) (map (λ n. n.now) own.now)
+        name.now }
 {
     text_of(matches, name).is_none() || is_listed(own, name)
 }
@@ -121,21 +122,24 @@ fn is_own(matches: &ArgMatches, own: &[&str], name: &str) -> bool
 /// Whether an option without a value wasn't given, or is one of a command's own.
 #[tactic(auto, using(crate::proofs::Names::listed_names))]
 fn is_own_flag(matches: &ArgMatches, own: &[&str], name: &str) -> bool
-    ensures { result ≡ spec.is_own_flag (rows_of (found_of matches.now)) (map (λ n. n.now) own.now) name.now }
+    ensures { result ≡ spec.is_own_flag (rows_of (found_of matches.now)) (map (λ n. n.now) own.now)
+        name.now }
 {
     !is_set(matches, name) || is_listed(own, name)
 }
 
 /// Whether each of these options with a value that was given is one of a command's own.
 fn are_own(matches: &ArgMatches, own: &[&str], names: &[&str]) -> bool
-    ensures { result ≡ list_all (λ n. spec.is_own (rows_of (found_of matches.now)) (map (λ n. n.now) own.now) n.now) names.now }
+    ensures { result ≡ list_all (λ n. spec.is_own (rows_of (found_of matches.now))
+        (map (λ n. n.now) own.now) n.now) names.now }
 {
     names.iter().all(|name| is_own(matches, own, name))
 }
 
 /// Whether each of these options without a value that was given is one of a command's own.
 fn are_own_flags(matches: &ArgMatches, own: &[&str], names: &[&str]) -> bool
-    ensures { result ≡ list_all (λ n. spec.is_own_flag (rows_of (found_of matches.now)) (map (λ n. n.now) own.now) n.now) names.now }
+    ensures { result ≡ list_all (λ n. spec.is_own_flag (rows_of (found_of matches.now))
+        (map (λ n. n.now) own.now) n.now) names.now }
 {
     names.iter().all(|name| is_own_flag(matches, own, name))
 }

@@ -19,7 +19,8 @@ use clap::ArgMatches;
 
 /// The file, where no more words follow.
 fn last_word<'a>(file: Option<&'a str>, more: Option<&str>) -> Result<Option<&'a str>, WordsRefused>
-    ensures { texts result ≡ spec.last_word (option_map (λ t. t.now) file.entry) (option_map (λ t. t.now) more.entry) }
+    ensures { texts result ≡ spec.last_word (option_map (λ t. t.now) file.entry)
+        (option_map (λ t. t.now) more.entry) }
 {
     match more {
         None => Ok(file),

@@ -20,8 +20,8 @@ use std::alloc::{AllocError, Global};
 /// The file of the journal in the folder where the program runs.
 pub const JOURNAL: &str = "fund.journal";
 
-/// Which posts are wanted: those of this fiscal year, fund and account, of each where it is said. The fund 0 has the
-/// posts of the city as a whole.
+/// Which posts are wanted: those of this fiscal year, fund and account, of each where it is said.
+/// The fund 0 has the posts of the city as a whole.
 #[derive(Clone, Copy)]
 pub struct PostFilter {
     /// A fiscal year, 1971 to 2199.
@@ -32,8 +32,9 @@ pub struct PostFilter {
     pub account: Option<u32>,
 }
 
-/// Which rows of the ledger are wanted: those of this fund, department, object, control line, source, vendor and
-/// fiscal year, and of entries dated from one day through another, of each where it is said.
+/// Which rows of the ledger are wanted: those of this fund, department, object, control line,
+/// source, vendor and fiscal year, and of entries dated from one day through another, of each where
+/// it is said.
 #[derive(Clone, Copy)]
 pub struct LedgerFilter {
     /// The id of a fund, 1 to 9999.
@@ -66,8 +67,8 @@ pub enum DocumentKind {
     Loan,
 }
 
-/// Which documents are wanted: those of this kind, vendor or payer, and amount in cents, of each where it is said.
-/// What their keys contain stands beside it in the request.
+/// Which documents are wanted: those of this kind, vendor or payer, and amount in cents, of each
+/// where it is said. What their keys contain stands beside it in the request.
 #[derive(Clone, Copy)]
 pub struct DocumentFilter {
     pub kind: Option<DocumentKind>,
@@ -76,8 +77,8 @@ pub struct DocumentFilter {
     pub amount: Option<u64>,
 }
 
-/// What a run does. With `csv` rows are printed as records of comma-separated values below a row of names; with a day
-/// in `through` amounts are those of the entries dated through it.
+/// What a run does. With `csv` rows are printed as records of comma-separated values below a row of
+/// names; with a day in `through` amounts are those of the entries dated through it.
 #[derive(Clone, Copy)]
 pub enum Command {
     /// Says what a chart has, or its first fault.
@@ -107,8 +108,8 @@ pub enum Command {
         through: Option<Day>,
         csv: bool,
     },
-    /// Prints the balances of the accounts through a fiscal year, 1971 to 2199, or, `alone`, those of the year alone
-    /// with what it began with.
+    /// Prints the balances of the accounts through a fiscal year, 1971 to 2199, or, `alone`, those
+    /// of the year alone with what it began with.
     Balances {
         year: u16,
         through: Option<Day>,
@@ -119,7 +120,8 @@ pub enum Command {
     Open {
         csv: bool,
     },
-    /// Prints a statement of a fiscal year, 1971 to 2199, with the names of its sections and control lines.
+    /// Prints a statement of a fiscal year, 1971 to 2199, with the names of its sections and
+    /// control lines.
     Statement {
         year: u16,
         kind: ReportKind,
@@ -136,7 +138,8 @@ pub enum Command {
         filter: DocumentFilter,
         csv: bool,
     },
-    /// Prints what each department spent in a month, 1971-01 to 2199-12, and what is left of its budget.
+    /// Prints what each department spent in a month, 1971-01 to 2199-12, and what is left of its
+    /// budget.
     Month {
         month: Month,
         csv: bool,
@@ -163,7 +166,8 @@ pub struct Request<'a> {
 impl Request<'_> {
     ghost use Rattle.cf_books_words.specs.Words.{asks, path_of};
 
-    /// The path of the file to read: the one that is named, or else `chart.toml`, `grants.toml` or `fund.journal`.
+    /// The path of the file to read: the one that is named, or else `chart.toml`, `grants.toml` or
+    /// `fund.journal`.
     pub fn path(&self) -> &str
         ensures { result.now ≡ path_of (asks self.now) }
     {
@@ -171,7 +175,22 @@ impl Request<'_> {
             (Some(path), _) => path,
             (None, Command::CheckChart) => "chart.toml",
             (None, Command::CheckGrants | Command::Claims { .. }) => "grants.toml",
-            (None, _) => JOURNAL,
+            (
+                None,
+                Command::Check
+                | Command::List { .. }
+                | Command::Calls
+                | Command::Chart
+                | Command::Lines
+                | Command::Posts { .. }
+                | Command::Balances { .. }
+                | Command::Open { .. }
+                | Command::Statement { .. }
+                | Command::Ledger { .. }
+                | Command::Documents { .. }
+                | Command::Month { .. }
+                | Command::Paid { .. },
+            ) => JOURNAL,
         }
     }
 }
@@ -210,7 +229,8 @@ fn places<'a>(alloc: Global) -> Result<Parser<'a>, AllocError>
 
 /// A parser with an option without a value more.
 fn with_flag<'a>(alloc: Global, parser: Parser<'a>, name: &'a str) -> Result<Parser<'a>, AllocError>
-    ensures { IfOk result (λ p. app_of p ≡ with_rule (app_of parser.entry) (flag_rule name.entry.now)) }
+    ensures { IfOk result (λ p. app_of p ≡ with_rule (app_of parser.entry)
+        (flag_rule name.entry.now)) }
 {
     parser.arg(Arg::new(alloc, name).long(name).action(ArgAction::SetTrue))
 }
@@ -230,7 +250,8 @@ fn with_option<'a>(
     parser: Parser<'a>,
     name: &'a str,
 ) -> Result<Parser<'a>, AllocError>
-    ensures { IfOk result (λ p. app_of p ≡ with_rule (app_of parser.entry) (option_rule name.entry.now)) }
+    ensures { IfOk result (λ p. app_of p ≡ with_rule (app_of parser.entry)
+        (option_rule name.entry.now)) }
 {
     parser.arg(Arg::new(alloc, name).long(name))
 }
@@ -241,7 +262,8 @@ fn with_options<'a>(
     parser: Parser<'a>,
     names: &'a [&'a str],
 ) -> Result<Parser<'a>, AllocError>
-    ensures { IfOk result (λ p. app_of p ≡ fold with_rule (app_of parser.entry) (map option_rule (map (λ n. n.now) names.entry.now))) }
+    ensures { IfOk result (λ p. app_of p ≡ fold with_rule (app_of parser.entry)
+        (map option_rule (map (λ n. n.now) names.entry.now))) }
 {
     let mut parser = parser;
     for name in names {
@@ -260,16 +282,33 @@ fn parser<'a>(alloc: Global) -> Result<Parser<'a>, AllocError>
 
 /// What a failed parse says of the words.
 fn refusal_of(error: &Error) -> WordsRefused
-    ensures { (result ≡ WordsRefused.NoMemory) ⊎ ((result ≡ WordsRefused.BadWords) × (kind_of error.now ≡ ErrorKind.OutOfMemory → ⊥)) }
+    ensures { (result ≡ WordsRefused.NoMemory)
+        ⊎ ((result ≡ WordsRefused.BadWords) × (kind_of error.now ≡ ErrorKind.OutOfMemory → ⊥)) }
 {
     match error.kind() {
         ErrorKind::OutOfMemory => WordsRefused::NoMemory,
-        _ => WordsRefused::BadWords,
+        ErrorKind::InvalidValue
+        | ErrorKind::UnknownArgument
+        | ErrorKind::InvalidSubcommand
+        | ErrorKind::NoEquals
+        | ErrorKind::ValueValidation
+        | ErrorKind::TooManyValues
+        | ErrorKind::TooFewValues
+        | ErrorKind::WrongNumberOfValues
+        | ErrorKind::ArgumentConflict
+        | ErrorKind::MissingRequiredArgument
+        | ErrorKind::MissingSubcommand
+        | ErrorKind::DisplayHelp
+        | ErrorKind::DisplayHelpOnMissingArgumentOrSubcommand
+        | ErrorKind::DisplayVersion
+        | ErrorKind::Io
+        | ErrorKind::Format => WordsRefused::BadWords,
     }
 }
 
-/// What the words ask for, which are those after the program's own name: a command and what `docs/BOOKS.md` lets stand
-/// behind it, as `clap` reads them. Its numbers and days are in their ranges.
+/// What the words ask for, which are those after the program's own name: a command and what
+/// `docs/BOOKS.md` lets stand behind it, as `clap` reads them. Its numbers and days are in their
+/// ranges.
 pub fn read_words<'a>(alloc: Global, words: &'a [String]) -> Result<Request<'a>, WordsRefused>
     ensures request { Gives result (parsed (map string_bytes words.entry.now)) }
     ensures range { IfOk result IsRequestInRange }

@@ -31,7 +31,9 @@ fn put_account(
     fund: u16,
     account: u32,
 ) -> Result<(), AllocError>
-    ensures { OnOk result (out.new ≡ added out.old (spec.account_text out.old.csv rest.now.plan rest.now.entries basis year fund account)) }
+    ensures { OnOk result (out.new
+        ≡ added out.old (spec.account_text out.old.csv rest.now.plan rest.now.entries basis year
+        fund account)) }
 {
     let balance = year_balance(rest, basis, year, fund, account);
     put_balance_unless_zero(alloc, out, rest.chart(), basis, fund, account, balance)
@@ -47,7 +49,9 @@ fn put_if_kept(
     fund: u16,
     account: u32,
 ) -> Result<(), AllocError>
-    ensures { OnOk result (out.new ≡ added out.old (spec.kept_row out.old.csv rest.now.plan rest.now.entries basis year fund account)) }
+    ensures { OnOk result (out.new
+        ≡ added out.old (spec.kept_row out.old.csv rest.now.plan rest.now.entries basis year fund
+        account)) }
 {
     if goes_on(account) {
         put_account(alloc, out, rest, basis, year, fund, account)
@@ -66,7 +70,9 @@ fn put_kept(
     fund: u16,
     accounts: &[u32],
 ) -> Result<(), AllocError>
-    ensures { OnOk result (out.new ≡ added out.old (spec.kept_text out.old.csv rest.now.plan rest.now.entries basis year fund accounts.now)) }
+    ensures { OnOk result (out.new
+        ≡ added out.old (spec.kept_text out.old.csv rest.now.plan rest.now.entries basis year fund
+        accounts.now)) }
 {
     for account in accounts {
         put_if_kept(alloc, out, rest, basis, year, fund, *account)?;
@@ -84,7 +90,9 @@ fn put_if_changed(
     fund: u16,
     account: u32,
 ) -> Result<(), AllocError>
-    ensures { OnOk result (out.new ≡ added out.old (spec.changed_row out.old.csv rest.now.plan rest.now.entries basis year fund account)) }
+    ensures { OnOk result (out.new
+        ≡ added out.old (spec.changed_row out.old.csv rest.now.plan rest.now.entries basis year fund
+        account)) }
 {
     if goes_on(account) {
         Ok(())
@@ -103,7 +111,9 @@ fn put_changed(
     fund: u16,
     accounts: &[u32],
 ) -> Result<(), AllocError>
-    ensures { OnOk result (out.new ≡ added out.old (spec.changed_text out.old.csv rest.now.plan rest.now.entries basis year fund accounts.now)) }
+    ensures { OnOk result (out.new
+        ≡ added out.old (spec.changed_text out.old.csv rest.now.plan rest.now.entries basis year
+        fund accounts.now)) }
 {
     for account in accounts {
         put_if_changed(alloc, out, rest, basis, year, fund, *account)?;
@@ -130,7 +140,8 @@ fn put_opening(
     fund: u16,
     amount: i128,
 ) -> Result<(), AllocError>
-    ensures { OnOk result (out.new ≡ added out.old (record_text out.old.csv (spec.opening_row chart.now basis fund amount))) }
+    ensures { OnOk result (out.new
+        ≡ added out.old (record_text out.old.csv (spec.opening_row chart.now basis fund amount))) }
 {
     let word = Vec::from_slice(alloc, basis_word(basis).as_bytes())?;
     let id = decimal_text(alloc, fund as u64)?;
@@ -157,7 +168,8 @@ fn put_opening_unless_zero(
     fund: u16,
     amount: i128,
 ) -> Result<(), AllocError>
-    ensures { OnOk result (out.new ≡ added out.old (spec.opening_text out.old.csv chart.now basis fund amount)) }
+    ensures { OnOk result (out.new
+        ≡ added out.old (spec.opening_text out.old.csv chart.now basis fund amount)) }
 {
     if amount == 0 {
         return Ok(());
@@ -176,7 +188,9 @@ fn put_section(
     accounts: &[u32],
 ) -> Result<(), AllocError>
     requires { length accounts.now ≤ 1024 }
-    ensures { OnOk result (out.new ≡ added out.old (spec.section_text out.old.csv rest.now.plan rest.now.entries basis year fund accounts.now)) }
+    ensures { OnOk result (out.new
+        ≡ added out.old (spec.section_text out.old.csv rest.now.plan rest.now.entries basis year
+        fund accounts.now)) }
 {
     put_kept(alloc, out, rest, basis, year, fund, accounts)?;
     let amount = opening(rest, basis, year, fund, accounts);
@@ -192,7 +206,9 @@ fn put_fund(
     year: u16,
     fund: u16,
 ) -> Result<(), AllocError>
-    ensures { OnOk result (out.new ≡ added out.old (spec.section_text out.old.csv rest.now.plan rest.now.entries OnFund year fund (accounts_of_fund rest.now.plan fund))) }
+    ensures { OnOk result (out.new
+        ≡ added out.old (spec.section_text out.old.csv rest.now.plan rest.now.entries OnFund year
+        fund (accounts_of_fund rest.now.plan fund))) }
 {
     let accounts = few_fund_accounts(alloc, rest.chart(), fund)?;
     put_section(
@@ -214,7 +230,9 @@ fn put_funds(
     year: u16,
     funds: &[Fund],
 ) -> Result<(), AllocError>
-    ensures { OnOk result (out.new ≡ added out.old (spec.funds_text out.old.csv rest.now.plan rest.now.entries year funds.now)) }
+    ensures { OnOk result (out.new
+        ≡ added out.old (spec.funds_text out.old.csv rest.now.plan rest.now.entries year
+        funds.now)) }
 {
     for fund in funds {
         put_fund(alloc, out, rest, year, fund.id)?;
@@ -224,7 +242,9 @@ fn put_funds(
 
 /// Writes the balances of the city as a whole.
 fn put_whole(alloc: Global, out: &mut Rows, rest: &Rest, year: u16) -> Result<(), AllocError>
-    ensures { OnOk result (out.new ≡ added out.old (spec.section_text out.old.csv rest.now.plan rest.now.entries OnGov year 0 (accounts_of_gov rest.now.plan))) }
+    ensures { OnOk result (out.new
+        ≡ added out.old (spec.section_text out.old.csv rest.now.plan rest.now.entries OnGov year 0
+        (accounts_of_gov rest.now.plan))) }
 {
     let accounts = few_gov_accounts(alloc, rest.chart())?;
     put_section(alloc, out, rest, Basis::Gov, year, 0, accounts.as_slice())
@@ -232,7 +252,8 @@ fn put_whole(alloc: Global, out: &mut Rows, rest: &Rest, year: u16) -> Result<()
 
 /// The balances of all accounts, below the names of the columns.
 fn all_text(layout: Layout, rest: &Rest, year: u16) -> Result<Vec<u8>, AllocError>
-    ensures { IfOk result (λ v. v.items ≡ spec.year_text layout.csv year rest.now.plan rest.now.entries) }
+    ensures { IfOk result (λ v. v.items ≡ spec.year_text layout.csv year rest.now.plan
+        rest.now.entries) }
 {
     let mut out = Rows::new(layout);
     put_balance_head(&mut out)?;
@@ -241,13 +262,16 @@ fn all_text(layout: Layout, rest: &Rest, year: u16) -> Result<Vec<u8>, AllocErro
     out.into_text()
 }
 
-/// The trial balance of a fiscal year alone, with the columns of `balances_text`: the balances through the year of accounts below
-/// 300000, those of all others in the year alone, and between them what the year begins with, on the account 300000: the fund
-/// balance, or the net position, through the year before, a credit below zero. Amounts of zero are left out. Those of each fund sum
-/// to zero, and so do those of the city as a whole, under any chart that was read.
+/// The trial balance of a fiscal year alone, with the columns of `balances_text`: the balances
+/// through the year of accounts below 300000, those of all others in the year alone, and between
+/// them what the year begins with, on the account 300000: the fund balance, or the net position,
+/// through the year before, a credit below zero. Amounts of zero are left out. Those of each fund
+/// sum to zero, and so do those of the city as a whole, under any chart that was read.
 pub fn year_balances_text(layout: Layout, rest: &Rest, year: u16) -> Result<Vec<u8>, AllocError>
-    ensures text { IfOk result (λ v. v.items ≡ spec.year_text layout.csv year rest.now.plan rest.now.entries) }
-    ensures zero { (bytes : List ℕ) → chart_of bytes ≡ Ok rest.now.plan → YearBalances rest.now.plan rest.now.entries year }
+    ensures text { IfOk result (λ v. v.items ≡ spec.year_text layout.csv year rest.now.plan
+        rest.now.entries) }
+    ensures zero { (bytes : List ℕ) → chart_of bytes ≡ Ok rest.now.plan
+        → YearBalances rest.now.plan rest.now.entries year }
 {
     // So that the proof knows that the history is legal.
     let _legal = rest.entries();

@@ -1,4 +1,5 @@
-//! Lists of one year: what each vendor was paid in a calendar year, and the trial balance of a fiscal year alone.
+//! Lists of one year: what each vendor was paid in a calendar year, and the trial balance of a
+//! fiscal year alone.
 #![tactic(auto)]
 
 mod balances;

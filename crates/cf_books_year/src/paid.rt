@@ -47,7 +47,8 @@ fn day_at(alloc: Global, entries: &[Entry], at: u64) -> Result<Vec<u8>, AllocErr
 
 /// Writes the row of what was paid.
 fn put_paid(alloc: Global, out: &mut Rows, entries: &[Entry], paid: &Paid) -> Result<(), AllocError>
-    ensures { OnOk result (out.new ≡ added out.old (record_text out.old.csv (spec.paid_row entries.now paid.now))) }
+    ensures { OnOk result (out.new
+        ≡ added out.old (record_text out.old.csv (spec.paid_row entries.now paid.now))) }
 {
     let vendor = decimal_text(alloc, paid.vendor as u64)?;
     let word = Vec::from_slice(alloc, kind_word(paid.kind).as_bytes())?;
@@ -68,7 +69,8 @@ fn put_paid(alloc: Global, out: &mut Rows, entries: &[Entry], paid: &Paid) -> Re
 
 /// Writes the row of what a vendor was paid in all.
 fn put_total(alloc: Global, out: &mut Rows, vendor: u32, total: i128) -> Result<(), AllocError>
-    ensures { OnOk result (out.new ≡ added out.old (record_text out.old.csv (spec.total_row vendor total))) }
+    ensures { OnOk result (out.new
+        ≡ added out.old (record_text out.old.csv (spec.total_row vendor total))) }
 {
     let number = decimal_text(alloc, vendor as u64)?;
     let amount = money_text(alloc, total)?;
@@ -102,7 +104,8 @@ fn put_total_first(
     before: Option<u32>,
     vendor: u32,
 ) -> Result<(), AllocError>
-    ensures { OnOk result (out.new ≡ added out.old (spec.total_text out.old.csv (sum_at totals.now) before vendor)) }
+    ensures { OnOk result (out.new
+        ≡ added out.old (spec.total_text out.old.csv (sum_at totals.now) before vendor)) }
 {
     if is_next(before, vendor) {
         put_total(alloc, out, vendor, totals.of(vendor))
@@ -120,7 +123,9 @@ fn put_row(
     before: Option<u32>,
     paid: &Paid,
 ) -> Result<(), AllocError>
-    ensures { OnOk result (out.new ≡ added out.old (spec.row_text out.old.csv entries.now (sum_at totals.now) before paid.now)) }
+    ensures { OnOk result (out.new
+        ≡ added out.old (spec.row_text out.old.csv entries.now (sum_at totals.now) before
+        paid.now)) }
 {
     put_total_first(alloc, out, totals, before, paid.vendor)?;
     put_paid(alloc, out, entries, paid)
@@ -134,7 +139,9 @@ fn put_rows(
     totals: &Totals,
     rows: &[Paid],
 ) -> Result<(), AllocError>
-    ensures { OnOk result (out.new ≡ added out.old (spec.rows_text out.old.csv entries.now (sum_at totals.now) None rows.now)) }
+    ensures { OnOk result (out.new
+        ≡ added out.old (spec.rows_text out.old.csv entries.now (sum_at totals.now) None
+        rows.now)) }
 {
     let mut before = None;
     for row in rows {
@@ -175,10 +182,12 @@ fn text_of(layout: Layout, year: u16, entries: &[Entry]) -> Result<Vec<u8>, Allo
     out.into_text()
 }
 
-/// What each vendor was paid in a calendar year: for each vendor, by rising number, a row with the total, and below it a row for each
-/// voucher that a payment dated in the year paid and for each payment of a lease, in the order of the payments. A row has the
-/// document's number (of a lease that of its bond) and key, and the day and the key of the payment, with the amount in units of
-/// money. A voucher comes to the items of the entry that entered it, and a lease's payment to principal and interest.
+/// What each vendor was paid in a calendar year: for each vendor, by rising number, a row with the
+/// total, and below it a row for each voucher that a payment dated in the year paid and for each
+/// payment of a lease, in the order of the payments. A row has the document's number (of a lease
+/// that of its bond) and key, and the day and the key of the payment, with the amount in units of
+/// money. A voucher comes to the items of the entry that entered it, and a lease's payment to
+/// principal and interest.
 pub fn paid_text(layout: Layout, rest: &Rest, year: u16) -> Result<Vec<u8>, AllocError>
     ensures { IfOk result (λ v. v.items ≡ spec.paid_text layout.csv year rest.now.entries) }
 {

@@ -24,7 +24,8 @@ fn balance(rest: &Rest, basis: Basis, year: u16, fund: u16, account: u32) -> i12
     rest.balance(basis, year, fund, account)
 }
 
-/// The balance of an account in a fiscal year: through the year, where the account goes on, or else of the year alone.
+/// The balance of an account in a fiscal year: through the year, where the account goes on, or else
+/// of the year alone.
 pub fn year_balance(rest: &Rest, basis: Basis, year: u16, fund: u16, account: u32) -> i128
     ensures { result ≡ spec.year_balance basis rest.now.plan year fund rest.now.entries account }
 {
@@ -38,7 +39,8 @@ pub fn year_balance(rest: &Rest, basis: Basis, year: u16, fund: u16, account: u3
 
 /// The balance of an account through a fiscal year, where it goes on, and else zero.
 fn kept_balance(rest: &Rest, basis: Basis, year: u16, fund: u16, account: u32) -> i128
-    ensures value { result ≡ spec.kept_balance basis rest.now.plan year fund rest.now.entries account }
+    ensures value { result ≡ spec.kept_balance basis rest.now.plan year fund rest.now.entries
+        account }
     ensures small { unsigned_abs result < 2 ^ 104 }
 {
     if goes_on(account) {
@@ -57,7 +59,8 @@ struct Sum {
 /// Adds the balance of an account through a fiscal year, where it goes on.
 fn add_kept(sum: &mut Sum, rest: &Rest, basis: Basis, year: u16, fund: u16, account: u32)
     requires { unsigned_abs sum.old.cents ≤ 2 ^ 104 * 1024 }
-    ensures value { sum.new.cents ≡ sum.old.cents +ℤ spec.kept_balance basis rest.now.plan year fund rest.now.entries account }
+    ensures value { sum.new.cents ≡ sum.old.cents +ℤ spec.kept_balance basis rest.now.plan year fund
+        rest.now.entries account }
     ensures small { unsigned_abs sum.new.cents ≤ unsigned_abs sum.old.cents + 2 ^ 104 }
 {
     sum.cents += kept_balance(rest, basis, year, fund, account);
@@ -76,7 +79,8 @@ fn kept(rest: &Rest, basis: Basis, year: u16, fund: u16, accounts: &[u32]) -> i1
     sum.cents
 }
 
-/// What a fiscal year begins with, a credit below zero: the fund balance of a fund, or the net position.
+/// What a fiscal year begins with, a credit below zero: the fund balance of a fund, or the net
+/// position.
 pub fn opening(rest: &Rest, basis: Basis, year: u16, fund: u16, accounts: &[u32]) -> i128
     requires { length accounts.now ≤ 1024 }
     ensures { result ≡ spec.opening basis rest.now.plan year fund rest.now.entries accounts.now }
