@@ -118,6 +118,12 @@ done)
 [ -z "$missing" ]
 verdict "what the units run: $missing" $?
 
+missing=$(cd "$there/examples/operate" && for unit in *.service *.timer; do
+    cmp -s "$unit" "$scratch/root/usr/lib/systemd/system/$unit" || echo "$unit"
+done)
+[ -z "$missing" ]
+verdict "the units: $missing" $?
+
 # ---- a first day
 
 ln -s "$there/cityfund" "$there/books" "$scratch/desk/"

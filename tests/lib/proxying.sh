@@ -1,6 +1,8 @@
-# Read by the scripts of tests/ that put nginx before a `serve`, with `top`, `scratch` and `first` set, the first of four ports: the
-# files of examples/operate/, in which only ports, paths and the users of spare desks are others.
-# `desks` has these users' lines.
+# Read by the scripts of tests/ that put nginx before a `serve`, with `top`, `scratch` and `first`
+# set, the first of four ports: the files of examples/operate/, in which only ports, paths and the
+# users of spare desks are others. `desks` has these users' lines. `site` and `bare` name the ports
+# with and without TLS, and `held` the links that a process of nginx has; without them ports are
+# free ones, and links nginx's.
 
 module=/usr/lib/nginx/modules/ngx_http_js_module.so
 
@@ -18,8 +20,8 @@ placed() {
 proxying() {
     etc=${etc:-$scratch/etc}
     mkdir -p "$etc/tls" "$etc/page"
-    port=$(PYTHONPATH=$top/tests/lib python3 -c 'import doors; print(doors.free_ports(2))')
-    plain=$((port + 1))
+    port=${site:-$(PYTHONPATH=$top/tests/lib python3 -c 'import doors; print(doors.free_ports(2))')}
+    plain=${bare:-$((port + 1))}
     url=https://localhost:$port
     openssl req -x509 -newkey ec -pkeyopt ec_paramgen_curve:P-256 -nodes -days 1 -subj /CN=localhost -addext subjectAltName=DNS:localhost \
         -keyout "$etc/tls/key.pem" -out "$etc/tls/certificate.pem" 2> /dev/null
@@ -34,7 +36,7 @@ proxying() {
     placed nginx.conf > "$etc/cityfund.conf"
     {
         [ "$(id -u)" -ne 0 ] || echo "user root;"
-        echo "load_module $module; pid $scratch/nginx.pid; error_log $scratch/error.log; worker_processes 2; daemon off; events {}"
+        echo "load_module $module; pid $scratch/nginx.pid; error_log $scratch/error.log; worker_processes 2; daemon off; events { ${held:+worker_connections $held;} }"
         echo "http { access_log off; client_body_temp_path $scratch/temp; proxy_temp_path $scratch/temp; fastcgi_temp_path $scratch/temp;"
         echo "uwsgi_temp_path $scratch/temp; scgi_temp_path $scratch/temp; include $etc/cityfund.conf; }"
     } > "$etc/nginx.conf"

@@ -1,28 +1,42 @@
-# Read by tests/long/operate.sh, with `top` and `scratch` set: what docs/OPERATE.md makes with rights, by
-# its own lines.
+# Read by tests/long/operate.sh, with `top` and `scratch` set and `code` at hand: what
+# docs/OPERATE.md makes with rights, by its own lines.
 
-# lines TEXT: the lines of code of docs/OPERATE.md that have this text, with those that go on from
-# them.
-lines() {
-    awk -v text="$1" '/^    / { line = line substr($0, 5); if (sub(/\\$/, "", line)) next; if (index(line, text)) print line; line = "" }' docs/OPERATE.md |
-        sed -e "s|/opt/cityfund|$scratch/opt|g" -e "s|/etc/cityfund|$scratch/made|g" -e "s|/etc/nginx|$scratch/nginx|g"
-}
-
+opt=$scratch/opt
 mkdir -p "$scratch/made/tls" "$scratch/nginx/modules-enabled"
 
 # The programs that root runs belong to root, whoever built them.
 if [ "$(id -u)" -eq 0 ]; then
     mkdir "$scratch/opt" "$scratch/built"
     cp -R cityfund books page docs examples README.md CHANGELOG.md "$scratch/built/" && mkdir "$scratch/built/out" && chown -R nobody "$scratch/built"
-    (cd "$scratch/built" && eval "$(lines 'cityfund books out page')")
+    (cd "$scratch/built" && eval "$(code 'cityfund books out page')")
     said=$(find "$scratch/opt" ! -user root | head -n 3)
     [ -x "$scratch/opt/cityfund" ] && [ -z "$said" ]
     verdict "the programs belong to root: $said" $?
 fi
 
+# What guards the doors is read from there, and what the city chose stands in files that no upgrade
+# touches.
+guarded() {
+    eval "$(code "$1")"
+    file=$(grep -o '/[^"; ]*' "$2")
+    [ "${file#"$scratch/opt/"}" != "$file" ] && [ -f "$top${file#"$scratch/opt"}" ]
+    verdict "what $1 reads: $file" $?
+}
+
+mkdir -p "$scratch/nginx/conf.d"
+guarded 'nftables.conf' "$scratch/nftables.conf"
+guarded 'conf.d/cityfund.conf' "$scratch/nginx/conf.d/cityfund.conf"
+if [ -d "$scratch/opt" ]; then
+    echo "roads 20;" > "$scratch/made/desks.conf"
+    eval "$(code 'examples/operate/etc/')"
+    said=$(cat "$scratch/made/desks.conf")
+    [ "$said" = "roads 20;" ] && [ "$(ls "$scratch/made" | xargs)" = "desks.conf doors.conf doors.nft site.conf tls" ]
+    verdict "what the city chose: $said $(ls "$scratch/made" | xargs)" $?
+fi
+
 # The passwords are read by the proxy alone, at each moment.
 if [ "$(id -u)" -eq 0 ] && ! missing htpasswd; then
-    said=$(lines /passwords | while read -r line; do
+    said=$(code /passwords | while read -r line; do
         (umask 022; echo "a word" | eval "$(echo "$line" | sed 's/htpasswd /htpasswd -i /')" > /dev/null 2>&1) || echo "failed: $line"
         stat -c '%a %U %G' "$scratch/made/passwords"
     done | sort -u)
@@ -32,15 +46,15 @@ fi
 
 # The key is one with which many callers are greeted.
 if ! missing openssl; then
-    eval "$(lines 'openssl req')" 2> "$scratch/said"
+    eval "$(code 'openssl req')" 2> "$scratch/said"
     openssl x509 -noout -text -in "$scratch/made/tls/certificate.pem" | grep -q prime256v1 && [ "$(stat -c %a "$scratch/made/tls/key.pem")" = 600 ]
     verdict "the certificate: $(tail -n 1 "$scratch/said")" $?
 fi
 
 # nginx has links for many addresses, and as many files as they need.
 printf 'events {\n\tworker_connections 768;\n}\n' > "$scratch/nginx/nginx.conf"
-eval "$(lines worker_connections)"
-eval "$(lines worker_rlimit_nofile)"
+eval "$(code worker_connections)"
+eval "$(code worker_rlimit_nofile)"
 grep -q 'worker_connections 8192;' "$scratch/nginx/nginx.conf" && grep -q 'worker_rlimit_nofile 32768;' "$scratch"/nginx/modules-enabled/*
 verdict "the links that nginx has" $?
 
@@ -48,7 +62,7 @@ verdict "the links that nginx has" $?
 mkdir -p "$scratch/second"
 printf '#!/bin/sh\nexec cat > /dev/null\n' > "$scratch/second/follow"
 chmod +x "$scratch/second/follow"
-forced=$(lines restrict,command= | sed -e 's/.*command="\([^"]*\)".*/\1/' -e 's/timeout [0-9]*/timeout 1/' -e "s|/var/lib/cityfund|$scratch/second|" \
+forced=$(code restrict,command= | sed -e 's/.*command="\([^"]*\)".*/\1/' -e 's/timeout [0-9]*/timeout 1/' -e "s|/var/lib/cityfund|$scratch/second|" \
     -e "s|$scratch/opt/cityfund follow|./follow|")
 sleep 12 | timeout 6 sh -c "$forced; exit \$?"
 status=$?

@@ -1,9 +1,17 @@
 #!/bin/sh
-# Runs the files of examples/operate/ at a `serve` of this machine: nginx with TLS and passwords, in which only ports and paths are
-# others, asked by curl and by the clients of examples/clients/; the copy of a journal while it is
-# written to; the packet filter in a network of its own; what systemd says of the units; and what
-# docs/OPERATE.md makes with rights. What isn't installed is skipped, and said so. On Debian: nginx,
-# libnginx-mod-http-js, apache2-utils, curl, openssl, nftables, systemd.
+# Runs the files of examples/operate/ at a `serve` of this machine: nginx with TLS and passwords, in
+# which only ports and paths are others, asked by curl and by the clients of examples/clients/; the
+# copy of a journal while it is written to; the packet filter in a network of its own; what systemd
+# says of the units; and what docs/OPERATE.md makes with rights. What isn't installed is skipped,
+# and said so. On Debian: nginx, libnginx-mod-http-js, apache2-utils, curl, openssl, nftables,
+# systemd.
+#
+#     operate.sh [PART..]
+#
+# The parts: units wall links watch rights sheets doors copies; callers answers bodies page slow
+# clients rate log, for which nginx stands before the doors; trails drill. Without a word all are
+# run.
+parts=$*
 cd "$(dirname "$0")/../.." || exit 1
 top=$(pwd)
 PATH=$PATH:/usr/sbin
@@ -21,6 +29,14 @@ missing() {
     return 1
 }
 
+# part NAME..: whether one of these parts is asked for.
+part() {
+    for each in "$@"; do
+        case " ${parts:-$each} " in *" $each "*) return 0 ;; esac
+    done
+    return 1
+}
+
 # The programs' folder, as at a city without the sources.
 city=$scratch/city
 mkdir -p "$city/out"
@@ -32,7 +48,7 @@ cp examples/operate/trail examples/operate/trail.py "$city/examples/operate/"
 
 # ---- the units
 
-if ! missing systemd-analyze; then
+if part units && ! missing systemd-analyze; then
     units=$(cd examples/operate && ls ./*.service ./*.timer)
     for unit in $units; do
         sed "s|/opt/cityfund/|$city/|g" "examples/operate/$unit" > "$scratch/$unit"
@@ -51,24 +67,39 @@ has() {
     verdict "the unit $1 has $2" $?
 }
 
-has cityfund.service "Requires=nftables.service"
-has cityfund.service "After=local-fs.target nftables.service"
-has cityfund.service "TimeoutStartSec=15min"
-has cityfund-ship.service "StateDirectory=cityfund-ship"
-grep -q '^ExecStart=.* ssh .* -o ServerAliveInterval=15 ' examples/operate/cityfund-ship.service
-verdict "a link to the second machine that breaks without a word is noticed" $?
+if part units; then
+    has cityfund.service "Requires=nftables.service"
+    has cityfund.service "After=local-fs.target nftables.service"
+    has cityfund.service "TimeoutStartSec=15min"
+    has cityfund-ship.service "StateDirectory=cityfund-ship"
+    grep -q '^ExecStart=.* ssh .* -o ServerAliveInterval=15 ' examples/operate/cityfund-ship.service
+    verdict "a link to the second machine that breaks without a word is noticed" $?
+fi
 
 # ---- the packet filter, in a network of its own
 
-if missing curl python3; then
+# ended: the parts that are scripts of their own, and the sums.
+ended() {
+    ! part trails || { sh tests/long/trails.sh; verdict "the log without a proxy" $?; }
+    ! part drill || { sh tests/long/drill.sh; verdict "the drill" $?; }
     summary operate
     exit
+}
+
+. tests/lib/code.sh
+if missing curl python3; then
+    ended
 fi
-. tests/lib/walling.sh
-. tests/lib/setting-up.sh
+part wall links watch && . tests/lib/walling.sh
+part rights && . tests/lib/setting-up.sh
+if part sheets && ! missing node; then
+    cp page/site/cells.js "$scratch/cells.mjs"
+    node tests/lib/cells.mjs "$scratch/cells.mjs" > "$scratch/said" 2>&1
+    verdict "the cells of the page's sheets: $(head -n 3 "$scratch/said")" $?
+fi
 . tests/lib/serving.sh
 . tests/lib/proxying.sh
-serving 4 100000
+part doors copies && serving 4 100000
 
 # ---- the doors are counted: of this user's that listen, until all do or the program has ended
 
@@ -82,81 +113,25 @@ doors() {
     verdict "doors: status $status: $said" $?
 }
 
-doors 0 4 "$first" 4
-doors 1 1 "$((first + 3))" 2 1
-MAINPID=2147483647 doors 1 0 1 4
+if part doors; then
+    doors 0 4 "$first" 4
+    doors 1 1 "$((first + 3))" 2 1
+    MAINPID=2147483647 doors 1 0 1 4
+fi
 
 # ---- copies
 
-# copy STATUS TEXT: backup.sh ends so, and says a line that has the text. `clock` is a moment that
-# it takes for now.
-copy() {
-    said=$(PATH=$scratch/clock:$PATH clock=$clock CITYFUND=$city sh examples/operate/backup.sh "$scratch/serving" "$scratch/copies" 2>&1)
-    status=$?
-    [ "$status" -eq "$1" ] && echo "$said" | grep -q "$2"
-    verdict "a copy: status $status: $said" $?
-}
-
-mkdir "$scratch/copies" "$scratch/clock"
-cat > "$scratch/clock/date" << 'CLOCK'
-#!/bin/sh
-[ -z "$clock" ] || { echo "$clock"; exit; }
-exec /bin/date "$@"
-CLOCK
-chmod +x "$scratch/clock/date"
-url=http://127.0.0.1:$first
-examples/clients/desk.sh "$url" < examples/clients/council.jsonl > "$scratch/got"
-copy 0 "entries: 1 "
-sleep 1
-# The desks are at work meanwhile.
-for number in $(seq 500); do
-    echo '{"call":"voucher","desk":4,"key":"v'"$number"'","on":"2025-07-05","vendor":77,"items":[{"fund":1,"dept":20,"object":510,"amount":1}]}'
-done > "$scratch/many"
-CITYFUND_TRIES=1 examples/clients/desk.py "$url" < "$scratch/many" > "$scratch/got" &
-sending=$!
-copy 0 "last day"
-wait "$sending"
-verdict "the calls while it was copied: status $?" "$?"
-sleep 1
-copy 0 "entries: 501 "
-(cd "$scratch/copies" && sha256sum --check --status checksums && [ "$(ls | wc -l)" -eq 4 ])
-verdict "three copies, with their checksums" $?
-# The last copy, in its place: what was answered is there.
-mkdir "$scratch/restored"
-cp "$scratch/copies/$(tail -n 1 "$scratch/copies/checksums" | cut -d ' ' -f 3)" "$scratch/restored/fund.journal"
-said=$(echo '{"call":"line","line":3,"year":2026,"after":501}' | (cd "$scratch/restored" && "$program" desk))
-[ "$said" = '{"at":501,"is":{"appropriated":"100000","encumbered":"0","expended":"500","held":"0","original":"100000","room":"99500"}}' ]
-verdict "a restored journal: $said" $?
-# The clock is wrong for one copy. The next one is made all the same, and it is said once; the one
-# behind it is as ever.
-clock=2099-01-01T000000Z
-copy 0 "2099-01-01T000000Z.journal: .*entries: 501 "
-clock=
-copy 1 "the clock went back: the copy before this one is 2099-01-01T000000Z.journal"
-sleep 1
-copy 0 "entries: 501 "
-# Where nobody reads them these copies are lost entries, too.
-mv "$scratch/copies/checksums" "$scratch/checksums"
-copy 1 "has copies, and no line in checksums"
-mv "$scratch/checksums" "$scratch/copies/checksums"
-# A journal that lost its last entries: the closed gate of the first one ends it. The copies before
-# are more than it has.
-stop_serving
-(cd "$scratch/serving" && rm fund.journal && "$program" found > /dev/null && "$program" desk < "$top/examples/clients/council.jsonl" > /dev/null)
-sleep 1
-copy 1 "entries of .* aren't in the journal"
-echo no journal > "$scratch/serving/fund.journal"
-copy 1 "isn't sound"
+part copies && . tests/lib/copying.sh
 
 # ---- the proxy
 
-if missing nginx openssl; then
-    summary operate
-    exit
+if ! part callers answers bodies page slow clients rate log; then
+    ended
+elif missing nginx openssl; then
+    ended
 elif [ ! -e $module ]; then
     echo "operate: skipped: there is no $module"
-    summary operate
-    exit
+    ended
 fi
 serving 4 100000
 proxying council payables treasury auditor
@@ -173,163 +148,181 @@ asked() {
 
 adopt='"call":"adopt","key":"b1","on":"2025-07-01","fund":1,"year":2026,"lines":[{"line":3,"amount":100000}],"estimates":[]'
 calls=$url/calls
+# What `callers` enters at its end.
+part callers || curl --silent --output /dev/null --data "{\"desk\":1,$adopt}" "http://127.0.0.1:$first/calls"
 
-# Who may.
-asked "a look without a password" - 401 "" "$url/lines/3/2026"
-asked "a call without a password" - 401 "" "$calls" --data "{\"desk\":1,$adopt}"
-asked "a wrong password" - 401 "" --user "council:payables's word" "$calls" --data "{\"desk\":1,$adopt}"
-asked "an unknown user" - 401 "" --user "nobody:" "$url/lines/3/2026"
-asked "another desk's call" payables 403 '^{"proxy":"not your desk"}$' "$calls" --data "{\"desk\":1,$adopt}"
-asked "a call of a user without a desk" auditor 403 '^{"proxy":"not your desk"}$' "$calls" --data "{\"desk\":1,$adopt}"
-asked "desk 0 of a user without a desk" auditor 403 "" "$calls" --data "{\"desk\":0,$adopt}"
-asked "no desk of a user without a desk" auditor 403 "" "$calls" --data "{\"desk\":null,$adopt}"
-asked "its own desk after another's" payables 409 '"name":"NotThisDesk"' "$calls" --data "{\"desk\":1,$adopt,\"desk\":4}"
-asked "another's desk after its own" payables 403 "" "$calls" --data "{\"desk\":4,$adopt,\"desk\":1}"
-asked "another's desk, written otherwise" payables 403 "" "$calls" --data "{\"desk\":4,$adopt,\"\\u0064esk\":1}"
-asked "another's call in a list" payables 400 '^{"form":"json"}$' "$calls" --data "[{\"desk\":1,$adopt}]"
-asked "a desk that is a text" payables 403 "" "$calls" --data "{\"desk\":\"1\",$adopt}"
-asked "a desk that is a list" payables 403 "" "$calls" --data "{\"desk\":[4],$adopt}"
-asked "a desk behind a prototype" payables 400 '{"form":"fields","name":"desk"}' "$calls" --data "{\"__proto__\":{\"desk\":4},$adopt}"
-asked "another path to the calls" payables 403 "" --path-as-is "$url/lines/../calls" --data "{\"desk\":1,$adopt}"
-asked "a path in percents" payables 403 "" "$url/%63alls" --data "{\"desk\":1,$adopt}"
-asked "two slashes" payables 403 "" "$url//calls" --data "{\"desk\":1,$adopt}"
-asked "a call to a look's path" payables 403 "" "$url/lines/3/2026" --data "{\"desk\":1,$adopt}"
-asked "another's call in chunks" payables 403 "" "$calls" --header 'Transfer-Encoding: chunked' --data "{\"desk\":1,$adopt}"
-# A page of another site, in a browser that was told the council's password: its form of the type text/plain is JSON, since the = between
-# the field's name and its value stands in a text of the call, and of two keys the last one counts.
-printf '{"key":"=","desk":1,%s}\r\n' "$adopt" > "$scratch/forged"
-foreign='^{"proxy":"a foreign page"}$'
-set -- --header 'Content-Type: text/plain' --data-binary "@$scratch/forged" "$calls"
-asked "a foreign page's call" council 403 "$foreign" --header 'Origin: https://elsewhere.example' "$@"
-asked "a call of a page that hides its origin" council 403 "$foreign" --header 'Origin: null' "$@"
-asked "a call of a page without TLS" council 403 "$foreign" --header "Origin: http://localhost:$port" "$@"
-asked "a call of a page of another port" council 403 "$foreign" --header 'Origin: https://localhost' "$@"
-asked "a call of two origins" council 403 "$foreign" --header "Origin: $url" --header 'Origin: https://elsewhere.example' "$@"
-asked "a foreign page's call, by the other field" council 403 "$foreign" --header 'Sec-Fetch-Site: cross-site' "$@"
-asked "a call of a neighbour's page" council 403 "$foreign" --header 'Sec-Fetch-Site: same-site' "$@"
-asked "a foreign page's call with our origin" council 403 "$foreign" --header "Origin: $url" --header 'Sec-Fetch-Site: cross-site' "$@"
-asked "a call of a page that another user opened" council 403 '^{"proxy":"not this user"}$' --header 'Cityfund-User: payables' \
-    --data "{\"desk\":1,$adopt}" "$calls"
-asked "nothing was added" council 200 '^{"at":0,' "$url/lines/3/2026"
-asked "the council's own call" council 200 '^{"at":1,"ok":{}}$' "$calls" --data "{\"desk\":1,$adopt}"
+if part callers; then
+    # Who may.
+    asked "a look without a password" - 401 "" "$url/lines/3/2026"
+    asked "a call without a password" - 401 "" "$calls" --data "{\"desk\":1,$adopt}"
+    asked "a wrong password" - 401 "" --user "council:payables's word" "$calls" --data "{\"desk\":1,$adopt}"
+    asked "an unknown user" - 401 "" --user "nobody:" "$url/lines/3/2026"
+    asked "another desk's call" payables 403 '^{"proxy":"not your desk"}$' "$calls" --data "{\"desk\":1,$adopt}"
+    asked "a call of a user without a desk" auditor 403 '^{"proxy":"not your desk"}$' "$calls" --data "{\"desk\":1,$adopt}"
+    asked "desk 0 of a user without a desk" auditor 403 "" "$calls" --data "{\"desk\":0,$adopt}"
+    asked "no desk of a user without a desk" auditor 403 "" "$calls" --data "{\"desk\":null,$adopt}"
+    asked "its own desk after another's" payables 409 '"name":"NotThisDesk"' "$calls" --data "{\"desk\":1,$adopt,\"desk\":4}"
+    asked "another's desk after its own" payables 403 "" "$calls" --data "{\"desk\":4,$adopt,\"desk\":1}"
+    asked "another's desk, written otherwise" payables 403 "" "$calls" --data "{\"desk\":4,$adopt,\"\\u0064esk\":1}"
+    asked "another's call in a list" payables 400 '^{"form":"json"}$' "$calls" --data "[{\"desk\":1,$adopt}]"
+    asked "a desk that is a text" payables 403 "" "$calls" --data "{\"desk\":\"1\",$adopt}"
+    asked "a desk that is a list" payables 403 "" "$calls" --data "{\"desk\":[4],$adopt}"
+    asked "a desk behind a prototype" payables 400 '{"form":"fields","name":"desk"}' "$calls" --data "{\"__proto__\":{\"desk\":4},$adopt}"
+    asked "another path to the calls" payables 403 "" --path-as-is "$url/lines/../calls" --data "{\"desk\":1,$adopt}"
+    asked "a path in percents" payables 403 "" "$url/%63alls" --data "{\"desk\":1,$adopt}"
+    asked "two slashes" payables 403 "" "$url//calls" --data "{\"desk\":1,$adopt}"
+    asked "a call to a look's path" payables 403 "" "$url/lines/3/2026" --data "{\"desk\":1,$adopt}"
+    asked "another's call in chunks" payables 403 "" "$calls" --header 'Transfer-Encoding: chunked' --data "{\"desk\":1,$adopt}"
+    # A page of another site, in a browser that was told the council's password: its form of the type text/plain is JSON, since the = between
+    # the field's name and its value stands in a text of the call, and of two keys the last one counts.
+    printf '{"key":"=","desk":1,%s}\r\n' "$adopt" > "$scratch/forged"
+    foreign='^{"proxy":"a foreign page"}$'
+    set -- --header 'Content-Type: text/plain' --data-binary "@$scratch/forged" "$calls"
+    asked "a foreign page's call" council 403 "$foreign" --header 'Origin: https://elsewhere.example' "$@"
+    asked "a call of a page that hides its origin" council 403 "$foreign" --header 'Origin: null' "$@"
+    asked "a call of a page without TLS" council 403 "$foreign" --header "Origin: http://localhost:$port" "$@"
+    asked "a call of a page of another port" council 403 "$foreign" --header 'Origin: https://localhost' "$@"
+    asked "a call of two origins" council 403 "$foreign" --header "Origin: $url" --header 'Origin: https://elsewhere.example' "$@"
+    asked "a foreign page's call, by the other field" council 403 "$foreign" --header 'Sec-Fetch-Site: cross-site' "$@"
+    asked "a call of a neighbour's page" council 403 "$foreign" --header 'Sec-Fetch-Site: same-site' "$@"
+    asked "a foreign page's call with our origin" council 403 "$foreign" --header "Origin: $url" --header 'Sec-Fetch-Site: cross-site' "$@"
+    asked "a call of a page that another user opened" council 403 '^{"proxy":"not this user"}$' --header 'Cityfund-User: payables' \
+        --data "{\"desk\":1,$adopt}" "$calls"
+    asked "nothing was added" council 200 '^{"at":0,' "$url/lines/3/2026"
+    asked "the council's own call" council 200 '^{"at":1,"ok":{}}$' "$calls" --data "{\"desk\":1,$adopt}"
+fi
 
-# What passes.
-asked "a look as a call" auditor 200 '^{"at":1,"is":{"appropriated":"100000",' "$calls" --data '{"call":"line","line":3,"year":2026,"after":1}'
-asked "a report" auditor 200 '^{"at":1,"is":{"rows":' "$url/reports/2026/balance"
-asked "a body in chunks" council 200 '"was":1' --header 'Transfer-Encoding: chunked' "$calls" --data "{\"desk\":1,$adopt}"
-asked "many fields" council 200 '"was":1' $(seq -f '--header x%g:1' 60) "$calls" --data "{\"desk\":1,$adopt}"
-asked "a call of a page of its own" council 200 '"was":1' --header "Origin: $url" --header 'Sec-Fetch-Site: same-origin' "$calls" --data "{\"desk\":1,$adopt}"
-asked "a call of a page that its user opened" council 200 '"was":1' --header 'Cityfund-User: council' "$calls" --data "{\"desk\":1,$adopt}"
-asked "a call that waits for 100" council 200 '"was":1' --header 'Expect: 100-continue' "$calls" --data "{\"desk\":1,$adopt}"
-asked "no JSON" council 400 '^{"form":"json"}$' "$calls" --data hello
-asked "no JSON object" council 400 '^{"form":"json"}$' "$calls" --data null
-asked "nothing" council 400 '^{"form":"json"}$' "$calls" --data ''
-asked "no call" council 400 '^{"form":"call"}$' "$calls" --data '{"call":"x"}'
-printf '%262144s' '{"call":"line","line":3,"year":2026}' > "$scratch/long"
-asked "the longest body" council 200 '^{"at":1,' "$calls" --data-binary "@$scratch/long"
-asked "the longest body in chunks" council 200 '^{"at":1,' --header 'Transfer-Encoding: chunked' "$calls" --data-binary "@$scratch/long"
-echo >> "$scratch/long"
-asked "a body that is too long" council 413 '^{"form":"long"}$' "$calls" --data-binary "@$scratch/long"
-asked "a look at the calls" council 405 '^{"form":"method"}$' "$calls"
-asked "no route" council 404 '^{"form":"route"}$' "$url/nothing"
-asked "no TLS" - 400 "" "http://localhost:$port/lines/3/2026"
+if part answers; then
+    # What passes.
+    asked "a look as a call" auditor 200 '^{"at":1,"is":{"appropriated":"100000",' "$calls" --data '{"call":"line","line":3,"year":2026,"after":1}'
+    asked "a report" auditor 200 '^{"at":1,"is":{"rows":' "$url/reports/2026/balance"
+    asked "a body in chunks" council 200 '"was":1' --header 'Transfer-Encoding: chunked' "$calls" --data "{\"desk\":1,$adopt}"
+    asked "many fields" council 200 '"was":1' $(seq -f '--header x%g:1' 60) "$calls" --data "{\"desk\":1,$adopt}"
+    asked "a call of a page of its own" council 200 '"was":1' --header "Origin: $url" --header 'Sec-Fetch-Site: same-origin' "$calls" --data "{\"desk\":1,$adopt}"
+    asked "a call of a page that its user opened" council 200 '"was":1' --header 'Cityfund-User: council' "$calls" --data "{\"desk\":1,$adopt}"
+    asked "a call that waits for 100" council 200 '"was":1' --header 'Expect: 100-continue' "$calls" --data "{\"desk\":1,$adopt}"
+    asked "no JSON" council 400 '^{"form":"json"}$' "$calls" --data hello
+    asked "no JSON object" council 400 '^{"form":"json"}$' "$calls" --data null
+    asked "nothing" council 400 '^{"form":"json"}$' "$calls" --data ''
+    asked "no call" council 400 '^{"form":"call"}$' "$calls" --data '{"call":"x"}'
+    printf '%262144s' '{"call":"line","line":3,"year":2026}' > "$scratch/long"
+    asked "the longest body" council 200 '^{"at":1,' "$calls" --data-binary "@$scratch/long"
+    asked "the longest body in chunks" council 200 '^{"at":1,' --header 'Transfer-Encoding: chunked' "$calls" --data-binary "@$scratch/long"
+    echo >> "$scratch/long"
+    asked "a body that is too long" council 413 '^{"form":"long"}$' "$calls" --data-binary "@$scratch/long"
+    asked "a look at the calls" council 405 '^{"form":"method"}$' "$calls"
+    asked "no route" council 404 '^{"form":"route"}$' "$url/nothing"
+    asked "no TLS" - 400 "" "http://localhost:$port/lines/3/2026"
 
-# What browsers are told with each answer.
-for path in lines/3/2026 reports/2026/balance whoami desk/ nothing; do
-    said=$(curl --silent --output /dev/null --dump-header - --cacert "$etc/tls/certificate.pem" --netrc-file "$etc/auditor.netrc" "$url/$path" | tr -d '\r')
-    missed=$(for field in 'Strict-Transport-Security: max-age=31536000' 'X-Content-Type-Options: nosniff' \
-        'Cross-Origin-Resource-Policy: same-origin' 'Cache-Control: no-'; do
-        [ "$(echo "$said" | grep -c "^$field")" -eq 1 ] || echo "$field"
-    done)
-    [ -z "$missed" ]
-    verdict "the fields of /$path: without $missed" $?
-done
-said=$(curl --silent --output /dev/null --write-out '%{http_code} %{redirect_url}' "http://localhost:$plain/desk/?a=1")
-[ "$said" = "301 https://localhost/desk/?a=1" ]
-verdict "a bare name: $said" $?
+    # What browsers are told with each answer.
+    for path in lines/3/2026 reports/2026/balance whoami desk/ nothing; do
+        said=$(curl --silent --output /dev/null --dump-header - --cacert "$etc/tls/certificate.pem" --netrc-file "$etc/auditor.netrc" "$url/$path" | tr -d '\r')
+        missed=$(for field in 'Strict-Transport-Security: max-age=31536000' 'X-Content-Type-Options: nosniff' \
+            'Cross-Origin-Resource-Policy: same-origin' 'Cache-Control: no-'; do
+            [ "$(echo "$said" | grep -c "^$field")" -eq 1 ] || echo "$field"
+        done)
+        [ -z "$missed" ]
+        verdict "the fields of /$path: without $missed" $?
+    done
+    said=$(curl --silent --output /dev/null --write-out '%{http_code} %{redirect_url}' "http://localhost:$plain/desk/?a=1")
+    [ "$said" = "301 https://localhost/desk/?a=1" ]
+    verdict "a bare name: $said" $?
+fi
 
-# Bodies that take njs long to read, by the names of one object: none is read.
-names() { python3 -c 'import sys; print("{" + ",".join(f"\"n{i:06}\":1" for i in range(int(sys.argv[1]))) + "}")' "$1"; }
-names 10000 > "$scratch/wide"
-asked "an object of 10,000 names" council 400 '^{"proxy":"no call has this form"}$' "$calls" --data-binary "@$scratch/wide"
-{ printf '[1,{"a":'; names 10000; printf '}]'; } > "$scratch/wide"
-asked "an object of 10,000 names in another" council 400 '^{"proxy":"no call has this form"}$' "$calls" --data-binary "@$scratch/wide"
-{ printf '{"a":"\\"{}","b":{}'; names 10000 | sed 's/^{/,/'; } > "$scratch/wide"
-asked "an object of 10,000 names behind marks in a text" council 400 '^{"proxy":"no call has this form"}$' "$calls" --data-binary "@$scratch/wide"
-python3 -c 'print("{\"a\":" * 1000 + "1" + "}" * 1000)' > "$scratch/wide"
-asked "objects 1,000 deep" council 400 '^{"proxy":"no call has this form"}$' "$calls" --data-binary "@$scratch/wide"
-{ printf '{"desk":1,"key":"'; names 10000 | tr -d '"\n'; printf '",%s}' "$adopt"; } > "$scratch/wide"
-asked "marks in a text" council 200 '"was":1' "$calls" --data-binary "@$scratch/wide"
-python3 -c 'import json; print(json.dumps({"call": "adopt", "desk": 1, "key": "b2", "on": "2025-07-01", "fund": 1, "year": 2026, "lines": [{"line": n, "amount": 1} for n in range(4096)], "estimates": []}))' > "$scratch/wide"
-asked "an adoption of 4,096 lines" council 409 '"name":' "$calls" --data-binary "@$scratch/wide"
+if part bodies; then
+    # Bodies that take njs long to read, by the names of one object: none is read.
+    names() { python3 -c 'import sys; print("{" + ",".join(f"\"n{i:06}\":1" for i in range(int(sys.argv[1]))) + "}")' "$1"; }
+    names 10000 > "$scratch/wide"
+    asked "an object of 10,000 names" council 400 '^{"proxy":"no call has this form"}$' "$calls" --data-binary "@$scratch/wide"
+    { printf '[1,{"a":'; names 10000; printf '}]'; } > "$scratch/wide"
+    asked "an object of 10,000 names in another" council 400 '^{"proxy":"no call has this form"}$' "$calls" --data-binary "@$scratch/wide"
+    { printf '{"a":"\\"{}","b":{}'; names 10000 | sed 's/^{/,/'; } > "$scratch/wide"
+    asked "an object of 10,000 names behind marks in a text" council 400 '^{"proxy":"no call has this form"}$' "$calls" --data-binary "@$scratch/wide"
+    python3 -c 'print("{\"a\":" * 1000 + "1" + "}" * 1000)' > "$scratch/wide"
+    asked "objects 1,000 deep" council 400 '^{"proxy":"no call has this form"}$' "$calls" --data-binary "@$scratch/wide"
+    { printf '{"desk":1,"key":"'; names 10000 | tr -d '"\n'; printf '",%s}' "$adopt"; } > "$scratch/wide"
+    asked "marks in a text" council 200 '"was":1' "$calls" --data-binary "@$scratch/wide"
+    python3 -c 'import json; print(json.dumps({"call": "adopt", "desk": 1, "key": "b2", "on": "2025-07-01", "fund": 1, "year": 2026, "lines": [{"line": n, "amount": 1} for n in range(4096)], "estimates": []}))' > "$scratch/wide"
+    asked "an adoption of 4,096 lines" council 409 '"name":' "$calls" --data-binary "@$scratch/wide"
+fi
 
-# The page.
-echo '{}' > "$etc/page/chart.json"
-asked "the page without a password" - 401 "" "$url/desk/"
-asked "the page" auditor 200 "^Content-Security-Policy: default-src 'none'; script-src 'self'" --head "$url/desk/"
-asked "a file of the page" auditor 200 "^'use strict'\|import" "$url/desk/page.js"
-asked "a list of the page" auditor 200 '^{}$' "$url/desk/data/chart.json"
-asked "a list without a password" - 401 "" "$url/desk/data/chart.json"
-asked "a file that isn't the page's" auditor 404 "" --path-as-is "$url/desk/../desk.js"
-asked "a file above the page" auditor 404 "" "$url/desk/tables.py"
-asked "a change of the page" council 403 "" --request PUT --data x "$url/desk/page.js"
-# A file that the program's user puts there as a link isn't given out.
-ln -s "$etc/passwords" "$etc/page/linked.json"
-asked "a list that is a link" auditor 403 "" "$url/desk/data/linked.json"
-asked "who asks" payables 200 '^{"user":"payables","desk":4}$' "$url/whoami"
-asked "who asks without a desk" auditor 200 '^{"user":"auditor","desk":0}$' "$url/whoami"
-asked "who asks without a password" - 401 "" "$url/whoami"
-asked "signing out" payables 401 "You are signed out" "$url/signout"
+if part page; then
+    # The page.
+    echo '{}' > "$etc/page/chart.json"
+    asked "the page without a password" - 401 "" "$url/desk/"
+    asked "the page" auditor 200 "^Content-Security-Policy: default-src 'none'; script-src 'self'" --head "$url/desk/"
+    asked "a file of the page" auditor 200 "^'use strict'\|import" "$url/desk/page.js"
+    asked "a list of the page" auditor 200 '^{}$' "$url/desk/data/chart.json"
+    asked "a list without a password" - 401 "" "$url/desk/data/chart.json"
+    asked "a file that isn't the page's" auditor 404 "" --path-as-is "$url/desk/../desk.js"
+    asked "a file above the page" auditor 404 "" "$url/desk/tables.py"
+    asked "a change of the page" council 403 "" --request PUT --data x "$url/desk/page.js"
+    # A file that the program's user puts there as a link isn't given out.
+    ln -s "$etc/passwords" "$etc/page/linked.json"
+    asked "a list that is a link" auditor 403 "" "$url/desk/data/linked.json"
+    asked "who asks" payables 200 '^{"user":"payables","desk":4}$' "$url/whoami"
+    asked "who asks without a desk" auditor 200 '^{"user":"auditor","desk":0}$' "$url/whoami"
+    asked "who asks without a password" - 401 "" "$url/whoami"
+    asked "signing out" payables 401 "You are signed out" "$url/signout"
+fi
 
-# A caller that sends slowly holds up nobody: nginx takes a door once it has the whole call.
-for slow in 1 2 3 4 5 6 7 8; do
-    (printf '{"call":"x'; sleep 4) | curl --silent --max-time 10 --output /dev/null --cacert "$etc/tls/certificate.pem" \
-        --netrc-file "$etc/council.netrc" --header 'Transfer-Encoding: chunked' --upload-file - --request POST "$calls" &
-done
-sleep 0.5
-asked "a look beside eight slow callers" auditor 200 '^{"at":1,' --max-time 2 "$url/lines/3/2026"
+if part slow; then
+    # A caller that sends slowly holds up nobody: nginx takes a door once it has the whole call.
+    for slow in 1 2 3 4 5 6 7 8; do
+        (printf '{"call":"x'; sleep 4) | curl --silent --max-time 10 --output /dev/null --cacert "$etc/tls/certificate.pem" \
+            --netrc-file "$etc/council.netrc" --header 'Transfer-Encoding: chunked' --upload-file - --request POST "$calls" &
+    done
+    sleep 0.5
+    asked "a look beside eight slow callers" auditor 200 '^{"at":1,' --max-time 2 "$url/lines/3/2026"
+    # A link that asks nothing more is one of the 200 that its address may hold.
+    said=$(python3 tests/lib/holding.py idle "$port" 25)
+    [ "$said" -le 20 ]
+    verdict "a link that asks nothing: ended after $said seconds" $?
+fi
 
-# A day by each client, over TLS with a password.
-export CITYFUND_CA="$etc/tls/certificate.pem" CITYFUND_NETRC="$etc/payables.netrc"
-for client in examples/clients/desk.sh examples/clients/desk.py; do
-    "$client" "$url" < examples/clients/payables.jsonl > "$scratch/$(basename "$client")"
-    status=$?
-    [ "$status" -eq 1 ]
-    verdict "the day by $client: status $status" $?
-done
-diff "$scratch/desk.sh" examples/clients/payables.replies
-verdict "the replies of the day by desk.sh" $?
-[ "$(grep -c '"ok".*"was"' "$scratch/desk.py")" -eq 3 ]
-verdict "the replies of the day again by desk.py" $?
-for client in examples/clients/desk.sh examples/clients/desk.py; do
-    "$client" "$url" < examples/clients/council.jsonl > "$scratch/got" 2> "$scratch/said"
-    status=$?
-    [ "$status" -eq 2 ] && [ ! -s "$scratch/got" ] && grep -q '403 {"proxy":"not your desk"}' "$scratch/said"
-    verdict "another desk's day by $client: status $status: $(cat "$scratch/said")" $?
-done
+if part clients; then
+    # A day by each client, over TLS with a password.
+    export CITYFUND_CA="$etc/tls/certificate.pem" CITYFUND_NETRC="$etc/payables.netrc"
+    for client in examples/clients/desk.sh examples/clients/desk.py; do
+        "$client" "$url" < examples/clients/payables.jsonl > "$scratch/$(basename "$client")"
+        status=$?
+        [ "$status" -eq 1 ]
+        verdict "the day by $client: status $status" $?
+    done
+    diff "$scratch/desk.sh" examples/clients/payables.replies
+    verdict "the replies of the day by desk.sh" $?
+    [ "$(grep -c '"ok".*"was"' "$scratch/desk.py")" -eq 3 ]
+    verdict "the replies of the day again by desk.py" $?
+    for client in examples/clients/desk.sh examples/clients/desk.py; do
+        "$client" "$url" < examples/clients/council.jsonl > "$scratch/got" 2> "$scratch/said"
+        status=$?
+        [ "$status" -eq 2 ] && [ ! -s "$scratch/got" ] && grep -q '403 {"proxy":"not your desk"}' "$scratch/said"
+        verdict "another desk's day by $client: status $status: $(cat "$scratch/said")" $?
+    done
+fi
 
-# One user asks for more than its rate. Another one at the same address goes on.
-said=$(python3 tests/lib/asking.py "$url" "$etc")
-[ "$said" = "bounded 200" ]
-verdict "a user's rate: $said" $?
-sleep 3
+if part rate; then
+    # One user asks for more than its rate. Another one at the same address goes on.
+    said=$(python3 tests/lib/asking.py "$url" "$etc")
+    [ "$said" = "bounded 200" ]
+    verdict "a user's rate: $said" $?
+    sleep 3
+fi
 
-# The program starts anew under the proxy: a client tries again until it is there.
-stop_serving
-asked "no door" auditor 502 '^{"proxy":"no door"}$' "$url/lines/3/2026"
-"examples/clients/desk.py" "$url" < examples/clients/payables.jsonl > "$scratch/got" &
-sending=$!
-sleep 1
-start_serving 4 100000
-wait "$sending"
-[ "$(grep -c '"ok".*"was"' "$scratch/got")" -eq 3 ]
-verdict "a day across a start" $?
+if part clients; then
+    # The program starts anew under the proxy: a client tries again until it is there.
+    stop_serving
+    asked "no door" auditor 502 '^{"proxy":"no door"}$' "$url/lines/3/2026"
+    "examples/clients/desk.py" "$url" < examples/clients/payables.jsonl > "$scratch/got" &
+    sending=$!
+    sleep 1
+    start_serving 4 100000
+    wait "$sending"
+    [ "$(grep -c '"ok".*"was"' "$scratch/got")" -eq 3 ]
+    verdict "a day across a start" $?
+fi
 
 # ---- who entered what, and the second machine
 
-. tests/lib/trailing.sh
-sh tests/long/trails.sh
-verdict "the log without a proxy" $?
-sh tests/long/drill.sh
-verdict "the drill" $?
-summary operate
+part log && . tests/lib/trailing.sh
+ended
