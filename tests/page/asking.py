@@ -120,7 +120,7 @@ def found(stand, clerk):
     ):
         rows = search(clerk, text)
         mine = [each for each in rows if each[:3] == wanted]
-        became = f"paid, last paid on {row['paid']} by {row['run']}"
+        became = f"paid on {row['paid']} by {row['run']}"
         stand.holds(
             f"a paid invoice by {what}",
             len(mine) == 1 and mine[0][5] == became and mine[0][4] == money(cents(row["amount"])),
@@ -428,11 +428,12 @@ def statements(stand, clerk):
                 amounts,
             )
             said = clerk.page.do("document.querySelector('#report .span').textContent")
+            if (kind, span) == ("balance", "day"):
+                stand.picture(clerk.page, "statement-through")
             stand.holds(
                 f"its entries: {kind} {at}", said.endswith(f"entries 1 to {entries}."), said
             )
     stand.same("each span", sorted(spans), ["day", "now", "place"])
-    stand.picture(clerk.page, "statement-through")
 
 
 def closed(stand, month_):
