@@ -71,6 +71,8 @@ def room(stand, clerk):
     stand.holds("lines that lack room", said.startswith("3 lines lack room") and "Human Resources, Office supplies lacks" in said and "Finance" not in said, said)
     if stand.pictures:
         clerk.page.do("document.getElementById('said').replaceChildren()")
+        # The picture is as high as the page was when it was drawn last.
+        clerk.page.do("new Promise(go => requestAnimationFrame(() => requestAnimationFrame(() => go(true))))")
         stand.picture(clerk.page, "room", whole=True)
     before = stand.entries()
     said = clerk.send()

@@ -155,7 +155,7 @@ def names(stand):
         kept = clerk.page.do("fetch('/desk/data/vendors.json').then(answer => answer.json()).then(found => found.vendors.length)")
         stand.same("the old names stay", kept, 2)
     with open(path, "w", encoding="utf-8") as file:
-        file.write(NAMES)
+        file.write(named(stand, NAMES))
     stand.make_lists()
     clerk.page.close()
 
