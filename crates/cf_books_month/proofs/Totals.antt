@@ -6,10 +6,11 @@ use Rattle.cf_books_month.specs.declared.amounts.Amounts.{Amounts}
 use Rattle.cf_books_month.specs.declared.amounts.Column.{Column}
 use Rattle.cf_books_month.specs.declared.amounts.Column.TheVariants as column
 use Rattle.cf_books_month.specs.declared.rows.MonthRow.{MonthRow}
-use Rattle.cf_books_month.specs.Amounts.{held}
+use Rattle.cf_books_month.specs.Amounts.{held, total}
 use Rattle.cf_books_month.specs.Month.{IsTotal}
 
 pub total_is : (c : Column) (amounts : List Amounts) → IsTotal c amounts
+unfolding total
 total_is column.Budget amounts = refl
 total_is column.Month amounts = refl
 total_is column.Year amounts = refl

@@ -23,7 +23,7 @@ amount_of column.YearAgo a = a.year_ago
 abbrev pub total_of : Column → List Amounts → ℤ
 total_of c amounts = held (int_sum (amount_of c) amounts)
 
-abbrev pub total : List Amounts → Amounts
+unfoldable pub total : List Amounts → Amounts
 total amounts = record {
   budget = total_of column.Budget amounts;
   month = total_of column.Month amounts;

@@ -24,10 +24,10 @@ state_word true = codes " closed"
 state_word false = codes " open"
 
 -- the month, and whether it is still open
-abbrev pub month_state : Plan → List Entry → Month → List ℕ
+unfoldable pub month_state : Plan → List Entry → Month → List ℕ
 month_state plan history m = codes "month " ++ (text_of_month m ++ state_word (is_month_closed plan history m))
 
-abbrev pub first_fields : Plan → List Entry → Month → List (List ℕ)
+unfoldable pub first_fields : Plan → List Entry → Month → List (List ℕ)
 first_fields plan history m =
     month_state plan history m ∷ [] ∷ [] ∷ [] ∷ [] ∷ [] ∷ [] ∷ [] ∷ [] ∷ [] ∷ [] ∷ [] ∷ [] ∷ [] ∷ [] ∷ [] ∷ [] ∷ [] ∷ [] ∷ []
 

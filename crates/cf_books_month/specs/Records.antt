@@ -20,7 +20,7 @@ is_small amount = nat_lt (unsigned_abs amount) 519229685853482762853049632922009
 abbrev pub percent : ℤ → ℤ → ℤ
 percent budget left = int_div (left *ℤ pos 10000) budget
 
-abbrev pub percent_text : ℤ → ℤ → List ℕ
+unfoldable pub percent_text : ℤ → ℤ → List ℕ
 percent_text budget left = if int_lt (pos 0) budget && is_small left then money_of (percent budget left) else []
 
 -- ---- names
@@ -58,7 +58,7 @@ source_text plan (Some n) = source_name (source_at plan n)
 
 -- ---- a row
 
-abbrev pub row_fields : Plan → MonthRow → List (List ℕ)
+unfoldable pub row_fields : Plan → MonthRow → List (List ℕ)
 row_fields plan r =
     part_word r.part ∷ decimal r.fund ∷ fund_name (fund_at plan r.fund) ∷ number_text r.dept ∷ dept_text plan r.dept ∷ number_text r.line
     ∷ row_part plan (line_of plan r.line) ∷ row_part_name plan (line_of plan r.line) ∷ number_text r.source ∷ source_text plan r.source

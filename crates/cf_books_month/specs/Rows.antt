@@ -89,11 +89,11 @@ abbrev pub with_totals : Plan → ℕ → List MonthRow → List MonthRow → Li
 with_totals plan fund lines sources =
     lines ++ (department_rows fund lines plan.departments ++ (total_row part.Fund fund None (amounts_in lines) ∷ (sources ++ total_row part.Sources fund None (amounts_in sources) ∷ [])))
 
-abbrev pub fund_rows : Plan → List Entry → Month → ℕ → ℕ → List MonthRow
+unfoldable pub fund_rows : Plan → List Entry → Month → ℕ → ℕ → List MonthRow
 fund_rows plan history m year fund = with_totals plan fund (lines_of plan history m year fund) (sources_of plan history m year fund)
 
 abbrev pub funds_rows : Plan → List Entry → Month → ℕ → List Fund → List MonthRow
 funds_rows plan history m year funds = flat_map (λ f. fund_rows plan history m year f.id) funds
 
-abbrev pub month_rows : Plan → List Entry → Month → ℕ → List MonthRow
+unfoldable pub month_rows : Plan → List Entry → Month → ℕ → List MonthRow
 month_rows plan history m year = funds_rows plan history m year plan.funds

@@ -32,7 +32,7 @@ day_at at.BeforeAgo m = last_day (month_before (year_before m))
 -- ---- through a day: as `statement budget --through DAY` has it
 
 -- the numbers of a control line in a fiscal year
-abbrev pub numbers_through : Plan → List Entry → ℕ → ℕ → Day → LineNumbers
+unfoldable pub numbers_through : Plan → List Entry → ℕ → ℕ → Day → LineNumbers
 numbers_through plan history line year day = (sums_through plan day history).numbers line year
 
 -- what a line spent in a fiscal year
@@ -40,15 +40,15 @@ abbrev pub spent : Plan → List Entry → ℕ → ℕ → Day → ℤ
 spent plan history line year day = (numbers_through plan history line year day).expended
 
 -- what a source received in a fiscal year, and what is estimated of it
-abbrev pub received : Plan → List Entry → RevenueSource → ℕ → Day → ℤ
+unfoldable pub received : Plan → List Entry → RevenueSource → ℕ → Day → ℤ
 received plan history source year day = fund_revenue (sums_through plan day history) year source
 
-abbrev pub estimated : Plan → List Entry → RevenueSource → ℕ → Day → ℤ
+unfoldable pub estimated : Plan → List Entry → RevenueSource → ℕ → Day → ℤ
 estimated plan history source year day = pos ((sums_through plan day history).estimate year source.id)
 
 -- ---- a month of a fiscal year
 
-abbrev pub line_amounts : Plan → List Entry → Month → ℕ → ℕ → Amounts
+unfoldable pub line_amounts : Plan → List Entry → Month → ℕ → ℕ → Amounts
 line_amounts plan history m year line =
     let n = numbers_through plan history line year (last_day m) in
     record {
@@ -62,7 +62,7 @@ line_amounts plan history m year line =
       year_ago = through_month (spent plan history line (year - 1)) (year_before m);
     }
 
-abbrev pub source_amounts : Plan → List Entry → Month → ℕ → RevenueSource → Amounts
+unfoldable pub source_amounts : Plan → List Entry → Month → ℕ → RevenueSource → Amounts
 source_amounts plan history m year s = record {
   budget = through_month (estimated plan history s year) m;
   month = held (in_month (received plan history s year) m);

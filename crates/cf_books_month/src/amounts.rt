@@ -91,6 +91,7 @@ fn total_of(amounts: &[Amounts], column: Column) -> i128
 }
 
 /// What these come to, column by column.
+#[tactic(auto, unfolding(crate::specs::Amounts::total))]
 pub fn total(amounts: &[Amounts]) -> Amounts
     ensures { result ≡ spec.total amounts.now }
 {

@@ -31,6 +31,7 @@ fn state_word(is_closed: bool) -> &'static str
 }
 
 /// The month, and whether it is still open.
+#[tactic(auto, unfolding(crate::specs::Month::month_state))]
 fn month_state(alloc: Global, rest: &Rest, month: Month) -> Result<Vec<u8>, AllocError>
     requires { is_call_month month ≡ true }
     ensures { IfOk result (λ t. t.items ≡ spec.month_state rest.now.plan rest.now.entries month) }
@@ -42,6 +43,7 @@ fn month_state(alloc: Global, rest: &Rest, month: Month) -> Result<Vec<u8>, Allo
 }
 
 /// Writes the row that says whether the month is still open.
+#[tactic(auto, unfolding(crate::specs::Month::first_fields))]
 fn put_first(alloc: Global, out: &mut Rows, rest: &Rest, month: Month) -> Result<(), AllocError>
     requires { is_call_month month ≡ true }
     ensures { OnOk result (out.new ≡ added out.old (record_text out.old.csv (spec.first_fields rest.now.plan rest.now.entries month))) }

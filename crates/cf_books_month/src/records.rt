@@ -46,6 +46,7 @@ fn percent(budget: i128, left: i128) -> i128
 }
 
 /// What is left of a budget, in per cent with two decimals. It is empty where there is no budget.
+#[tactic(auto, unfolding(crate::specs::Records::percent_text))]
 fn percent_text(alloc: Global, budget: i128, left: i128) -> Result<String, AllocError>
     ensures { IfOk result (λ t. string_bytes t ≡ spec.percent_text budget left) }
 {
@@ -223,6 +224,7 @@ fn moneys_of(alloc: Global, amounts: &Amounts) -> Result<Moneys, AllocError>
 }
 
 /// Writes the record of a row.
+#[tactic(auto, unfolding(crate::specs::Records::row_fields))]
 fn put_row(alloc: Global, out: &mut Rows, chart: &Chart, row: &MonthRow) -> Result<(), AllocError>
     ensures { OnOk result (out.new ≡ added out.old (record_text out.old.csv (spec.row_fields chart.now row.now))) }
 {

@@ -229,6 +229,7 @@ fn put_total(
 
 /// Appends the rows of a fund: its control lines, the totals of departments, the fund's total, its revenue sources, and their
 /// total.
+#[tactic(auto, unfolding(crate::specs::Rows::fund_rows))]
 fn put_fund(
     alloc: Global,
     out: &mut Vec<MonthRow>,
@@ -269,6 +270,7 @@ fn put_funds(
 }
 
 /// The rows of a month and a fiscal year.
+#[tactic(auto, unfolding(crate::specs::Rows::month_rows))]
 pub fn month_rows(alloc: Global, sums: &MonthSums, year: u16) -> Result<Vec<MonthRow>, AllocError>
     requires from { 2 ≤ year }
     requires to { year < 2201 }

@@ -77,6 +77,7 @@ pub enum At {
 }
 
 /// The numbers of a control line in a fiscal year.
+#[tactic(auto, unfolding(crate::specs::Sums::numbers_through))]
 fn numbers_in(rest: &Rest, sums: &DaySums, line: u16, year: u16) -> LineNumbers
     requires same { sums.now.rest.now ≡ rest.now }
     requires line { line < length rest.now.plan.lines }
@@ -87,6 +88,7 @@ fn numbers_in(rest: &Rest, sums: &DaySums, line: u16, year: u16) -> LineNumbers
 }
 
 /// What a revenue source received in a fiscal year.
+#[tactic(auto, unfolding(crate::specs::Sums::received))]
 fn received_in(sums: &DaySums, source: &RevenueSource, year: u16) -> i128
     requires { 1 ≤ year }
     ensures { result ≡ spec.received sums.now.rest.now.plan sums.now.rest.now.entries source.now year sums.now.day }
@@ -95,6 +97,7 @@ fn received_in(sums: &DaySums, source: &RevenueSource, year: u16) -> i128
 }
 
 /// What is estimated of a revenue source for a fiscal year.
+#[tactic(auto, unfolding(crate::specs::Sums::estimated))]
 fn estimated_in(sums: &DaySums, source: &RevenueSource, year: u16) -> i128
     ensures { result ≡ spec.estimated sums.now.rest.now.plan sums.now.rest.now.entries source.now year sums.now.day }
 {
@@ -146,6 +149,7 @@ impl<'a> MonthSums<'a> {
     }
 
     /// The amounts of a control line in the month and in a fiscal year, 2 to 2200, with those of the year before.
+    #[tactic(auto, unfolding(crate::specs::Sums::line_amounts))]
     pub fn line_amounts(&self, year: u16, line: u16) -> Amounts
         requires line { line < length self.now.rest.now.plan.lines }
         requires from { 2 ≤ year }
@@ -169,6 +173,7 @@ impl<'a> MonthSums<'a> {
     }
 
     /// The amounts of a revenue source in the month and in a fiscal year, 2 to 2200, with those of the year before.
+    #[tactic(auto, unfolding(crate::specs::Sums::source_amounts))]
     pub fn source_amounts(&self, year: u16, source: &RevenueSource) -> Amounts
         requires from { 2 ≤ year }
         ensures { result ≡ spec.source_amounts self.now.rest.now.plan self.now.rest.now.entries self.now.month year source.now }

@@ -2,10 +2,11 @@ use Rattle.std.proofs.Common.{◌≡◌, ◌∙◌, ap, decimal}
 use Rattle.cf_base.specs.Amounts.{money_of}
 use Rattle.cf_chart.specs.Plan.{fund_at}
 use Rattle.cf_books_lists.specs.Names.{fund_name}
-use Rattle.cf_books_month.specs.Records.{dept_text, line_of, number_text, part_word, percent_text, row_part, row_part_name, source_text}
+use Rattle.cf_books_month.specs.Records.{dept_text, line_of, number_text, part_word, percent_text, row_fields, row_part, row_part_name, source_text}
 use Rattle.cf_books_month.proofs.records.put_row.Goals as goal
 
 pub returns : goal.returns
+unfolding row_fields
 returns c =
     let plan = c.args.chart.now in
     let r = c.args.row.now in

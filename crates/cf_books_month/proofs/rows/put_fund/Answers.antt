@@ -6,7 +6,7 @@ use Rattle.cf_chart.specs.declared.rows.Line.{Line}
 use Rattle.cf_chart.specs.declared.rows.RevenueSource.{RevenueSource}
 use Rattle.cf_books_month.specs.declared.rows.MonthRow.{MonthRow}
 use Rattle.cf_books_month.specs.declared.rows.Part.TheVariants as part
-use Rattle.cf_books_month.specs.Rows.{amounts_in, department_rows, line_rows, lines_of, source_rows, sources_of, total_row}
+use Rattle.cf_books_month.specs.Rows.{amounts_in, department_rows, fund_rows, line_rows, lines_of, source_rows, sources_of, total_row}
 use Rattle.cf_books_month.proofs.Totals.{joined}
 use Rattle.cf_books_month.proofs.rows.put_fund.Goals as goal
 
@@ -14,6 +14,7 @@ pub line_rows-requires-clause-all : goal.line_rows-requires-clause-all
 line_rows-requires-clause-all c = c.lines.ensures.value ∙ ap (λ (p : Plan). p.lines) c.chart-chart.ensures
 
 pub returns : goal.returns
+unfolding fund_rows
 returns c =
     let s = c.args.sums.now in
     let plan = s.rest.now.plan in

@@ -7,6 +7,7 @@ pub numbers-requires-clause-line : goal.numbers-requires-clause-line
 numbers-requires-clause-line c = subst (λ (r : RestState). c.args.line < length r.plan.lines) (sym c.requires.same) c.requires.line
 
 pub returns : goal.returns
+unfolding numbers_through
 returns c =
     let s = c.args.sums.now in
     c.numbers.ensures ∙ ap (λ (r : RestState). numbers_through r.plan r.entries c.args.line c.args.year s.day) c.requires.same
