@@ -22,6 +22,7 @@ DAYS = ["2025-%02d-%02d" % (month, day) for month in range(7, 13) for day in ran
 HALF = str(ENTRIES // 2)
 LISTS = [
     ["posts", "--through", "2025-12-31"], ["balances", "2026", "--through", "2025-12-31"], ["balances", "2026", "--alone"],
+    *(["statement", "2026", kind, "--through", "2025-12-31"] for kind in ("balance", "operating", "budget", "position", "activities")),
     ["statement", "2026", "balance", "--entries", HALF], ["open", "--entries", HALF], ["list", "--entries", HALF], ["calls", "--entries", HALF],
     ["ledger"], ["ledger", "--csv"], ["ledger", "--line", "30"], ["ledger", "--vendor", "7"], ["ledger", "--through", "2025-12-31"], ["ledger", "--entries", HALF],
     ["documents"], ["documents", "--csv"], ["documents", "--kind", "order"], ["documents", "--key", "99"], ["documents", "--amount", "1000"],

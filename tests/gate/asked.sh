@@ -96,7 +96,7 @@ refused() {
     verdict "$*: status $status: $said" $?
 }
 
-for words in "ledger --through" "ledger --from" "posts --through" "balances 2026 --through"; do
+for words in "ledger --through" "ledger --from" "posts --through" "balances 2026 --through" "statement 2026 balance --through"; do
     for day in 1970-12-31 2025-02-29 2025-7-01 2200-01-01 today; do
         refused 20 "no such day" $words $day
     done
@@ -104,7 +104,10 @@ done
 for words in list calls check lines open documents "paid 2025" posts "balances 2026" "statement 2026 classes" ledger; do
     refused 22 "entries refused: 7 asked, the journal has 6" $words --entries 7
 done
-for words in "open --through 2026-01-01" "documents --fund 1" "documents --kind cheque" "statement 2026 classes --through 2026-01-01" "ledger --kind bill" \
+for kind in reconcile changes classes components major; do
+    refused 2 "bad words" statement 2026 $kind --through 2026-01-01
+done
+for words in "open --through 2026-01-01" "documents --fund 1" "documents --kind cheque" "statement 1970 balance --through 2026-01-01" "ledger --kind bill" \
     "paid 1970" "paid 2200" "list --through 2026-01-01" "chart --entries 1" "posts --alone"; do
     refused 2 "bad words" $words
 done

@@ -26,6 +26,7 @@ from statements import COMMAND_TITLES, money  # noqa: E402
 from streams import journal_of, payloads_of  # noqa: E402
 from talks import Talk, toml_of  # noqa: E402
 
+THROUGH = ("balance", "operating", "budget", "position", "activities")  # statements that go through a day
 BALANCES = "basis fund fund_name account account_name balance".split()
 OPEN = "call number item day desk key party year line fund_name dept_name open next closed".split()
 
@@ -151,6 +152,8 @@ class Asked:
         of, through = history.through(day), ["--through", day, *at]
         fiscal = history.year_of(datetime.date.fromisoformat(day))
         self.ask(["balances", fiscal, *through], BALANCES, list(balances_of(of, fiscal)))
+        for kind in THROUGH:
+            self.of_statement(history, of, fiscal, kind, through)
         self.ask(["ledger", *through], LEDGER, list(ledger(history, LedgerFilter(through=day))))
         self.ask(["ledger", "--from", day, *at], LEDGER, list(ledger(history, LedgerFilter(first=day))))
         self.of_posts(history, through, lambda row: row[1] <= day, len(history.entries))

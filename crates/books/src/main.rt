@@ -18,7 +18,8 @@ books balances YEAR [FILE]  prints the balance of each account through a fiscal 
                             (--through DAY; or --alone: of the year alone, with what it began with)
 books open [FILE]           prints what is open, and what is closed
 books statement YEAR KIND [FILE]
-                            prints a statement with the names of funds and lines (KIND: as for cityfund report)
+                            prints a statement with the names of funds and lines (KIND: as for cityfund report;
+                            --through DAY: balance, operating, budget, position, activities)
 books ledger [FILE]         prints what each entry moved of control lines and sources (--fund F, --dept D,
                             --object O, --line L, --source S, --vendor V, --year Y, --from DAY, --through DAY)
 books documents [FILE]      prints each document that ever was, and what became of it (--kind KIND, --party P,

@@ -4,8 +4,10 @@ use Rattle.std.specs.Io.KnownBytes.{Appends, IsAtEnd}
 use Rattle.std.specs.Prelude.{Vec}
 use Rattle.std.specs.declared.alloc.Global.{Global}
 use Rattle.cf_base.specs.Limits.{last_year}
+use Rattle.cf_base.specs.declared.calendar.Day.{Day}
 use Rattle.cf_base.specs.declared.calendar.Month.{Month}
 use Rattle.cf_book.specs.Recovery.{recovered}
+use Rattle.cf_books_days.specs.declared.statement.DatedKind.{DatedKind}
 use Rattle.cf_book.specs.declared.refused.BookRefused.{BookRefused}
 use Rattle.cf_book.specs.declared.refused.BookRefused.TheVariants as book_refused
 use Rattle.cf_books_front.specs.Front.{front_in}
@@ -34,7 +36,7 @@ use Rattle.cf_model.specs.State.{OfficeState}
 use Rattle.cf_words.specs.declared.words.ReportKind.{ReportKind}
 use Rattle.cf_books.specs.declared.status.Status.{Status}
 use Rattle.cf_books.specs.declared.status.Status.TheVariants.{Done, BadWords, ChartRefused, GrantsRefused, ReadFault, WriteFault, NotFounded, Damaged, NoMemory, Cut, NoSuchDay, EntriesRefused}
-use Rattle.cf_books.specs.Answers.{AreLeft, Ends, Gave, IsBeside, Said, answered, chart_lines_said, chart_said, document_said, documents_said, end_of, entry_at, grants_said, is_asked_month, lines_in, lines_said, month_said, month_told, nothing, office_said, over_office, refusal_of, refused_entry, refused_in, refused_said, rows_said, said, said_at, said_by, said_first, said_with, statement_said, text_of, under_chart, vouchers_said, whole_said}
+use Rattle.cf_books.specs.Answers.{AreLeft, Ends, Gave, IsBeside, Said, answered, chart_lines_said, chart_said, dated_kind, dated_said, dated_told, document_said, documents_said, end_of, entry_at, grants_said, lines_in, lines_said, nothing, office_said, over_office, refusal_of, refused_entry, refused_in, refused_said, rows_said, said, said_at, said_by, said_first, said_with, statement_said, text_of, under_chart, vouchers_said, whole_said, is_asked_month, month_said, month_told}
 
 -- bytes that are fewer than could have been taken were read to the end
 whole : (most : ℕ) (left left' : Option (List ℕ)) (bytes : List ℕ) → IsRead most left left' bytes → length bytes < most → IsAtEnd left'
@@ -159,6 +161,16 @@ claims_fit : (id : ℕ) (csv : Bool) (bytes journal : List ℕ) (r : Result Offi
 claims_fit id csv bytes journal (Ok s) = rows_fit csv bytes (vouchers_of_grant s.plan s.entries bytes id)
 claims_fit id csv bytes journal (Err e) = refused_fit journal e
 
+dated_office_fit : (csv : Bool) (day : Day) (year : ℕ) (k : DatedKind) (bytes : List ℕ) (r : Result OfficeState BookRefused) → IsFit (over_office (dated_told csv day year k) bytes r)
+dated_office_fit csv day year k bytes (Ok s) = tt
+dated_office_fit csv day year k bytes (Err e) = refused_fit bytes e
+
+dated_fit : (year : ℕ) (k : Option DatedKind) (day : Day) (csv : Bool) (bytes : List ℕ) → IsFit (dated_said year k day csv bytes)
+dated_fit year None day csv bytes = tt
+dated_fit year (Some k) day csv bytes =
+    either_fit (nat_le 1971 year && nat_le year last_year) (over_office (dated_told csv day year k) bytes (recovered bytes)) (nothing BadWords)
+    (dated_office_fit csv day year k bytes (recovered bytes)) tt
+
 documents_fit : (filter : DocumentFilter) (key : Option (List ℕ)) (csv : Bool) (bytes : List ℕ) (r : Result OfficeState BookRefused) → IsFit (documents_said filter key csv bytes r)
 documents_fit filter key csv bytes (Ok s) = tt
 documents_fit filter key csv bytes (Err e) = refused_fit bytes e
@@ -180,7 +192,7 @@ fit key (asked.Balances year (Some day) false csv) bytes = office_fit (asked.Bal
 fit key (asked.Balances year (Some day) true csv) bytes = tt
 fit key (asked.Open csv) bytes = office_fit (asked.Open csv) bytes (recovered bytes)
 fit key (asked.Statement year kind None csv) bytes = statement_fit year kind csv bytes
-fit key (asked.Statement year kind (Some day) csv) bytes = tt
+fit key (asked.Statement year kind (Some day) csv) bytes = dated_fit year (dated_kind kind) day csv bytes
 fit key (asked.Ledger filter csv) bytes = office_fit (asked.Ledger filter csv) bytes (recovered bytes)
 fit key (asked.Documents filter csv) bytes = documents_fit filter key csv bytes (recovered bytes)
 fit key (asked.Month month csv) bytes = month_fit month csv bytes

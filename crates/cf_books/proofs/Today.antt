@@ -3,6 +3,8 @@ use Rattle.std.proofs.Common.{◌≡◌, ◌∙◌, ℕ, ◌≤◌, Bool, true, 
 use Rattle.std.proofs.lemmas.Bool.Decides.{nat_tests}
 use Rattle.std.specs.Prelude.{◌&&◌, IfOk}
 use Rattle.cf_base.specs.Limits.{last_year}
+use Rattle.cf_base.specs.declared.calendar.Day.{Day}
+use Rattle.cf_books_days.specs.declared.statement.DatedKind.{DatedKind}
 use Rattle.cf_book.specs.Recovery.{of_frames, recovered}
 use Rattle.cf_book.specs.declared.refused.BookRefused.{BookRefused}
 use Rattle.cf_book.specs.declared.refused.BookRefused.TheVariants as book_refused
@@ -17,7 +19,7 @@ use Rattle.cf_journal.specs.Frames.{frames}
 use Rattle.cf_journal.specs.declared.refused.OpenRefused.{OpenRefused}
 use Rattle.cf_journal.specs.declared.refused.OpenRefused.TheVariants.{Damaged, Disk, NoMemory, NotFounded}
 use Rattle.cf_model.specs.State.{OfficeState}
-use Rattle.cf_books.specs.Answers.{Answers, IsToday, Said, is_asked_month, is_of_entries, lines_said, month_told, nothing, office_said, office_text, over_office, refused_in, refused_said, said, said_first, statement_said, view, whole_said}
+use Rattle.cf_books.specs.Answers.{Answers, IsToday, Said, dated_kind, dated_said, dated_told, is_of_entries, lines_said, nothing, office_said, office_text, over_office, refused_in, refused_said, said, said_first, statement_said, view, whole_said, is_asked_month, month_told}
 use Rattle.cf_books.specs.declared.answers.Answer.{Answer}
 use Rattle.cf_books.specs.declared.status.Status.TheVariants.{BadWords}
 
@@ -84,6 +86,11 @@ module _ (a b : List ℕ) (x : List ℕ × List Entry) (first : frames a ≡ Ok 
   same_statement true one other none same = same
   same_statement false one other none same = refl
 
+  same_dated : (year : ℕ) (k : Option DatedKind) (day : Day) (csv : Bool) → dated_said year k day csv a ≡ dated_said year k day csv b
+  same_dated year None day csv = refl
+  same_dated year (Some k) day csv =
+      same_statement (nat_le 1971 year && nat_le year last_year) (over_office (dated_told csv day year k) a (recovered a)) (over_office (dated_told csv day year k) b (recovered b)) (nothing BadWords) (same_book _ _ (λ s. refl))
+
   -- what is said of the entries is the same
   same_said : (key : Option (List ℕ)) (command : Command) → is_of_entries command ≡ true → said key command a ≡ said key command b
   same_said key asked.CheckChart is = absurd (cc is)
@@ -103,7 +110,7 @@ module _ (a b : List ℕ) (x : List ℕ × List Entry) (first : frames a ≡ Ok 
   same_said key (asked.Open csv) is = same_book _ _ (λ s. refl)
   same_said key (asked.Statement year kind None csv) is =
       same_statement (nat_le 1971 year && nat_le year last_year) (office_said (asked.Statement year kind None csv) a (recovered a)) (office_said (asked.Statement year kind None csv) b (recovered b)) (nothing BadWords) (same_book _ _ (λ s. refl))
-  same_said key (asked.Statement year kind (Some day) csv) is = refl
+  same_said key (asked.Statement year kind (Some day) csv) is = same_dated year (dated_kind kind) day csv
   same_said key (asked.Ledger filter csv) is = same_book _ _ (λ s. refl)
   same_said key (asked.Documents filter csv) is = same_book _ _ (λ s. refl)
   same_said key (asked.Month month csv) is =

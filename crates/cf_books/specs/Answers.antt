@@ -26,6 +26,8 @@ use Rattle.cf_journal.specs.declared.refused.OpenRefused.{OpenRefused}
 use Rattle.cf_journal.specs.declared.refused.OpenRefused.TheVariants as open_refused
 use Rattle.cf_model.specs.State.{OfficeState}
 use Rattle.cf_words.specs.declared.words.ReportKind.{ReportKind}
+use Rattle.cf_words.specs.declared.words.ReportKind.TheVariants.{Look}
+use Rattle.cf_base.specs.declared.statement.Kind.TheVariants as kind
 use Rattle.cf_books_words.specs.Words.{Asked}
 use Rattle.cf_books_words.specs.declared.words.Command.{Command}
 use Rattle.cf_books_words.specs.declared.words.DocumentFilter.{DocumentFilter}
@@ -40,6 +42,9 @@ use Rattle.cf_books.specs.declared.status.Status.TheVariants as status
 use Rattle.cf_books.specs.Calls.{call_line, calls_text}
 use Rattle.cf_books_days.specs.Balances.{balances_through}
 use Rattle.cf_books_days.specs.Posts.{posts_text_through}
+use Rattle.cf_books_days.specs.Statement.{through_text}
+use Rattle.cf_books_days.specs.declared.statement.DatedKind.{DatedKind}
+use Rattle.cf_books_days.specs.declared.statement.DatedKind.TheVariants as dated
 use Rattle.cf_books_documents.specs.Text.{text as documents_of}
 use Rattle.cf_books_ledger.specs.Ledger.{text_of as ledger_of}
 use Rattle.cf_ledger_rows.specs.History.{history_rows}
@@ -182,6 +187,28 @@ statement_said year kind csv bytes =
     if nat_le 1971 year && nat_le year last_year then office_said (Statement year kind None csv) bytes (recovered bytes)
     else nothing status.BadWords
 
+-- the statements that are made of sums alone can be made of the entries through a day
+abbrev pub dated_kind : ReportKind → Option DatedKind
+dated_kind (Look kind.Balance) = Some dated.Balance
+dated_kind (Look kind.Operating) = Some dated.Operating
+dated_kind (Look kind.Budget) = Some dated.Budget
+dated_kind (Look kind.Position) = Some dated.Position
+dated_kind (Look kind.Activities) = Some dated.Activities
+dated_kind _ = None
+
+-- a statement of the entries that are dated through a day
+unfoldable pub dated_text : Bool → Day → ℕ → DatedKind → Plan → List Entry → List ℕ
+dated_text csv day year k plan entries = through_text csv day year k plan entries
+
+abbrev pub dated_told : Bool → Day → ℕ → DatedKind → OfficeState → Said
+dated_told csv day year k s = record { out = dated_text csv day year k s.plan s.entries; status = status.Done }
+
+abbrev pub dated_said : ℕ → Option DatedKind → Day → Bool → List ℕ → Said
+dated_said year None day csv bytes = nothing status.BadWords
+dated_said year (Some k) day csv bytes =
+    if nat_le 1971 year && nat_le year last_year then over_office (dated_told csv day year k) bytes (recovered bytes)
+    else nothing status.BadWords
+
 -- a month is one from 1971-01 to 2199-12: words with another are refused
 abbrev pub is_asked_month : MonthOfYear → Bool
 is_asked_month m = nat_le 1971 m.year && (nat_le m.year last_year && (nat_le 1 m.month && nat_le m.month 12))
@@ -237,7 +264,7 @@ balances_said year (Some day) true csv bytes = nothing status.BadWords
 
 abbrev pub statement_through_said : ℕ → ReportKind → Option Day → Bool → List ℕ → Said
 statement_through_said year kind None csv bytes = statement_said year kind csv bytes
-statement_through_said year kind (Some day) csv bytes = nothing status.BadWords
+statement_through_said year kind (Some day) csv bytes = dated_said year (dated_kind kind) day csv bytes
 
 abbrev pub said : Option (List ℕ) → Command → List ℕ → Said
 said key CheckChart bytes = chart_said bytes (chart_of bytes)

@@ -12,7 +12,7 @@ ghost use Rattle.cf_books_words.specs.declared.words.Command.TheVariants.{Balanc
 use crate::answers::{Answer, nothing};
 use crate::office::{open_book, refused_answer};
 use crate::status::Status;
-use crate::through::{balances_through, posts_through};
+use crate::through::{balances_through, posts_through, statement_through};
 use cf_base::{Day, LAST_YEAR};
 use cf_book::{Book, BookRefused, NotOpened};
 use cf_books_lists::{
@@ -196,6 +196,6 @@ pub fn statement_answer(
 {
     match through {
         None => whole_statement(layout, year, kind, bytes),
-        Some(_) => Ok(nothing(layout.alloc, Status::BadWords)),
+        Some(day) => statement_through(layout, year, kind, day, bytes),
     }
 }

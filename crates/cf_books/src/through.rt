@@ -1,4 +1,4 @@
-//! Posts and balances of the entries that are dated through a day.
+//! Lists and statements of the entries that are dated through a day.
 
 ghost use Rattle.std.specs.Prelude.{◌≡◌, Some, false, IfOk};
 ghost use Rattle.cf_book.specs.Recovery.{recovered};
@@ -7,16 +7,22 @@ ghost use Rattle.cf_books.specs.Answers as spec;
 ghost use Rattle.cf_books.specs.Answers.{Answers, OpensWith};
 ghost use Rattle.cf_books_days.specs.Gathered.{IsOf};
 ghost use Rattle.cf_books_words.specs.declared.words.Command.TheVariants.{Balances, Posts};
+ghost use Rattle.cf_calls.specs.Form.{IsYear};
 
-use crate::answers::Answer;
+use crate::answers::{Answer, nothing};
 use crate::lists::{done, open_posts};
 use crate::office::refused_answer;
-use cf_base::Day;
+use crate::status::Status;
+use cf_base::{Day, Kind, LAST_YEAR};
 use cf_book::{Book, BookRefused, NotOpened};
-use cf_books_days::{Dated, balances_through_text, open_dated, posts_through_text};
+use cf_books_days::{
+    Dated, DatedKind, balances_through_text, open_dated, posts_through_text, statement_through_text,
+};
 use cf_books_lists::Layout;
 use cf_books_words::PostFilter;
 use cf_disk::MemDisk;
+use cf_office::Rest;
+use cf_words::ReportKind;
 use std::alloc::{AllocError, Global};
 
 /// The book of a journal's bytes with what its entries post and move, each with its day, or why
@@ -74,5 +80,84 @@ pub fn balances_through(
             Ok(done(balances_through_text(layout, archive.rest(), &dated, day, year)?))
         }
         Err(why) => refused_answer(layout.alloc, bytes, why),
+    }
+}
+
+/// The statement that is made of sums alone, where this kind is.
+fn dated_kind(kind: ReportKind) -> Option<DatedKind>
+    ensures { result ≡ spec.dated_kind kind }
+{
+    match kind {
+        ReportKind::Look(Kind::Balance) => Some(DatedKind::Balance),
+        ReportKind::Look(Kind::Operating) => Some(DatedKind::Operating),
+        ReportKind::Look(Kind::Budget) => Some(DatedKind::Budget),
+        ReportKind::Look(Kind::Position) => Some(DatedKind::Position),
+        ReportKind::Look(Kind::Activities) => Some(DatedKind::Activities),
+        ReportKind::Look(Kind::Reconcile | Kind::Changes)
+        | ReportKind::Classes
+        | ReportKind::Components
+        | ReportKind::Major => None,
+    }
+}
+
+/// The text of a statement of a fiscal year, of the entries through a day.
+#[tactic(auto, unfolding(crate::specs::Answers::dated_text))]
+fn text_through(
+    layout: Layout,
+    rest: &Rest,
+    dated: &Dated,
+    day: Day,
+    year: u16,
+    kind: DatedKind,
+) -> Result<Vec<u8>, AllocError>
+    requires year { IsYear year }
+    requires dated { IsOf rest.now.plan (all_posted rest.now.plan rest.now.entries) dated.now }
+    ensures { IfOk result
+        (λ v. v.items ≡ spec.dated_text layout.csv day year kind rest.now.plan rest.now.entries) }
+{
+    statement_through_text(layout, rest, dated, day, year, kind)
+}
+
+/// A statement of a fiscal year from 1971 to 2199, of the entries through a day, or why the journal
+/// has none.
+fn statement_of_days(
+    layout: Layout,
+    year: u16,
+    kind: DatedKind,
+    day: Day,
+    bytes: &[u8],
+) -> Result<Answer, AllocError>
+    requires { IsYear year }
+    ensures { Answers result
+        (spec.over_office (spec.dated_told layout.csv day year kind) bytes.now (recovered bytes.now)) }
+{
+    let copy = Vec::from_slice(layout.alloc, bytes)?;
+    match open_days(layout.alloc, copy) {
+        Ok((book, dated)) => {
+            let (_, archive) = book.into_parts();
+            Ok(done(text_through(layout, archive.rest(), &dated, day, year, kind)?))
+        }
+        Err(why) => refused_answer(layout.alloc, bytes, why),
+    }
+}
+
+/// A statement of a fiscal year, of the entries through a day, or why the journal has none. Words
+/// with a year that isn't from 1971 to 2199, or with a statement that isn't made of sums alone, are
+/// refused.
+pub fn statement_through(
+    layout: Layout,
+    year: u16,
+    kind: ReportKind,
+    day: Day,
+    bytes: &[u8],
+) -> Result<Answer, AllocError>
+    ensures { Answers result
+        (spec.dated_said year (spec.dated_kind kind) day layout.csv bytes.now) }
+{
+    match dated_kind(kind) {
+        Some(kind) if 1971 <= year && year <= LAST_YEAR => {
+            statement_of_days(layout, year, kind, day, bytes)
+        }
+        Some(_) | None => Ok(nothing(layout.alloc, Status::BadWords)),
     }
 }
