@@ -19,7 +19,7 @@ from collections import Counter
 
 sys.path.insert(0, os.path.join(os.path.dirname(os.path.abspath(__file__)), "..", "office"))
 from answers import chart_of  # noqa: E402
-from asked_of import LEDGER, PAID, LedgerFilter, guarded, ledger, open_rows, paid  # noqa: E402
+from asked_of import LEDGER, MONTH, PAID, LedgerFilter, Month, guarded, ledger, open_rows, paid  # noqa: E402
 from documented import DOCUMENTS, KINDS, Documents, DocumentFilter, documents  # noqa: E402
 from lists import HEADS, balances_of, city_accounts, fund_accounts, named_rows  # noqa: E402
 from statements import COMMAND_TITLES, money  # noqa: E402
@@ -121,11 +121,16 @@ class Asked:
         self.ask(["open", *at], OPEN, list(open_rows(history)))
         if year >= 1971:  # the least that can be asked for
             self.ask(["paid", year, *at], PAID, list(paid(history, year)))
+            self.of_month(history, year, month, at)
         fiscal = history.fiscal_year(year, month)
         self.ask(["balances", fiscal, *at], BALANCES, list(balances_of(history, fiscal)))
         self.ask(["balances", fiscal, "--alone", *at], BALANCES, list(alone(history, fiscal)))
         for kind in COMMAND_TITLES:
             self.of_statement(history, history, fiscal, kind, at)
+
+    def of_month(self, history, year, month, at=()):
+        name = "%04d-%02d" % (year, month)
+        self.ask(["month", name, *at], MONTH, list(Month(history, name).rows()))
 
     def of_front(self, history, place):
         """What needs no office: the first entries as calls and rows, the lines, and what `check` counts."""
@@ -215,6 +220,14 @@ class Asked:
         first = max("1971-01-01", str(datetime.date(*self.whole.month_at(0), 1)))
         return sorted({max(first, days[round((len(days) - 1) * part / max(1, count - 1))]) for part in range(count)})
 
+    def at_months(self, most=24):
+        """The months from that of the first entry to the one behind that of the last."""
+        days = [call["on"] for call in self.taken]
+        first, last = ((int(day[:4]), int(day[5:7])) for day in (min(days), max(days)))
+        for number in range(self.whole.number_of(*first), min(self.whole.number_of(*last) + 2, self.whole.number_of(*first) + most)):
+            if self.whole.month_at(number)[0] >= 1971:
+                self.of_month(self.whole, *self.whole.month_at(number))
+
     def at_days(self, count):
         for day in self.some_days(count):
             self.of_day(self.whole, day, [])
@@ -240,6 +253,7 @@ def compared(asked, *counts):
         places, days = map(int, counts or (10, 10))
         asked.at_places(places)
         asked.at_days(days)
+        asked.at_months()
         asked.of_filters()
     count, differing = asked.answers()
     return count, faults + differing

@@ -10,7 +10,7 @@ from statements import money
 
 LEDGER = "place day desk key call document item party fund dept object line source year".split() + [*MOVED, "running"]
 MONTH = (
-    "kind fund fund_name dept dept_name line part part_name source appropriated month year on_order held left percent"
+    "part fund fund_name dept dept_name line line_part line_name source source_name budget month year on_order held left percent_left"
     " month_before year_before"
 ).split()
 PAID = "vendor document number key day run amount".split()
@@ -103,12 +103,12 @@ def part_of(history, number):
     return part, history.row("object", its["object"])["name"] if "object" in its else ""
 
 
-def percent(left, appropriated):
-    """Tenths of a per cent, rounded to the nearest below."""
-    if not appropriated:
+def percent(left, budget):
+    """Hundredths of a per cent, cut off. There are none where the budget isn't above zero."""
+    if budget <= 0:
         return ""
-    tenths = left * 1000 // appropriated
-    return "%s%d.%d" % ("-" if tenths < 0 else "", *divmod(abs(tenths), 10))
+    size = abs(left) * 10000 // budget
+    return money(-size if left < 0 else size)
 
 
 class Month:
@@ -121,48 +121,56 @@ class Month:
         self.this, self.last = MonthOf(history, year, month), MonthOf(history, year - 1, month)
 
     def rows(self):
-        yield self.row("month", part=self.text, part_name="closed" if self.is_closed else "open")
-        for fund in self.history.chart["fund"]:
+        yield self.row("month %s %s" % (self.text, "closed" if self.is_closed else "open"))
+        for fund in self.history.by_id("fund"):
             yield from self.of_fund(fund)
 
-    def row(self, kind, amounts=None, **fields):
-        """Amounts are appropriated, month, year, on order, held, month before and year before."""
-        found = dict.fromkeys(MONTH, "") | {"kind": kind} | {name: text(value) for name, value in fields.items()}
+    def row(self, part, amounts=None, **fields):
+        """Amounts are the budget, month, year, on order, held, left, month before and year before."""
+        found = dict.fromkeys(MONTH, "") | {"part": part} | {name: text(value) for name, value in fields.items()}
         if amounts:
-            appropriated, month, year, on_order, held, month_before, year_before = amounts
-            left = appropriated - on_order - held - year
-            shown = dict(appropriated=appropriated, month=month, year=year, on_order=on_order, held=held, left=left)
-            shown |= dict(month_before=month_before, year_before=year_before)
-            found |= {name: money(amount) for name, amount in shown.items()} | {"percent": percent(left, appropriated)}
+            names = "budget month year on_order held left month_before year_before".split()
+            found |= {name: money(amount) for name, amount in zip(names, amounts)}
+            found["percent_left"] = percent(amounts[5], amounts[0])
         return [found[name] for name in MONTH]
 
     def of_line(self, number):
         now, month = self.this.line(number)
         before, month_before = self.last.line(number)
-        return [now["appropriated"], month, now["expended"], now["encumbered"], now["held"], month_before, before["expended"]]
+        left = now["appropriated"] - now["encumbered"] - now["held"] - now["expended"]
+        return [now["appropriated"], month, now["expended"], now["encumbered"], now["held"], left, month_before, before["expended"]]
+
+    def of_source(self, number):
+        estimate, month, year = self.this.source(number)
+        _, month_before, year_before = self.last.source(number)
+        return [estimate, month, year, 0, 0, estimate - year, month_before, year_before]
+
+    def is_shown(self, number, fund):
+        """A line of the fund at its level in the fiscal year, or in the one before."""
+        line, year = self.history.chart["line"][number], self.this.year
+        return line["fund"] == fund["id"] and any(self.history.is_line_of_year(number, each) for each in (year, year - 1))
 
     def of_fund(self, fund):
-        head, sums = dict(fund=fund["id"], fund_name=fund["name"]), [0] * 7
-        for dept in self.history.chart["department"]:
-            its = dict(dept=dept["id"], dept_name=dept["name"])
-            numbers = [
-                number for number, line in enumerate(self.history.chart["line"])
-                if (line["fund"], line["dept"]) == (fund["id"], dept["id"]) and self.history.is_line_of_year(number, self.this.year)
-            ]
-            amounts = [self.of_line(number) for number in numbers]
-            for number, each in zip(numbers, amounts):
-                part, name = part_of(self.history, number)
-                yield self.row("line", each, **head, **its, line=number, part=part, part_name=name)
-            if numbers:
-                of_dept = [sum(column) for column in zip(*amounts)]
-                sums = [a + b for a, b in zip(sums, of_dept)]
-                yield self.row("department", of_dept, **head, **its)
-        for source in self.history.chart["source"]:
-            if source["fund"] == fund["id"]:
-                estimate, month, year = self.this.source(source["id"])
-                _, month_before, year_before = self.last.source(source["id"])
-                yield self.row("source", [estimate, month, year, 0, 0, month_before, year_before], **head, source=source["id"], part_name=source["name"])
-        yield self.row("fund", sums, **head)
+        head = dict(fund=fund["id"], fund_name=fund["name"])
+        lines = {number: self.of_line(number) for number in range(len(self.history.chart["line"])) if self.is_shown(number, fund)}
+        depts = {number: self.history.row("department", self.history.chart["line"][number]["dept"]) for number in lines}
+        for number, amounts in lines.items():
+            part, name = part_of(self.history, number)
+            its = dict(dept=depts[number]["id"], dept_name=depts[number]["name"], line=number, line_part=part, line_name=name)
+            yield self.row("line", amounts, **head, **its)
+        for dept in self.history.by_id("department"):
+            of_dept = [amounts for number, amounts in lines.items() if depts[number]["id"] == dept["id"]]
+            if of_dept:
+                yield self.row("department", sums_of(of_dept), **head, dept=dept["id"], dept_name=dept["name"])
+        yield self.row("fund", sums_of(lines.values()), **head)
+        sources = {source["id"]: self.of_source(source["id"]) for source in self.history.by_id("source") if source["fund"] == fund["id"]}
+        for number, amounts in sources.items():
+            yield self.row("source", amounts, **head, source=number, source_name=self.history.row("source", number)["name"])
+        yield self.row("sources", sums_of(sources.values()), **head)
+
+
+def sums_of(rows):
+    return [sum(column) for column in zip([0] * 8, *rows)]
 
 
 # ---- what is open

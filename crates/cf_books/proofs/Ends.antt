@@ -5,6 +5,7 @@ use Rattle.std.specs.Prelude.{Vec}
 use Rattle.std.specs.declared.alloc.Global.{Global}
 use Rattle.cf_base.specs.Limits.{last_year}
 use Rattle.cf_base.specs.declared.calendar.Day.{Day}
+use Rattle.cf_base.specs.declared.calendar.Month.{Month}
 use Rattle.cf_book.specs.Recovery.{recovered}
 use Rattle.cf_books_days.specs.declared.statement.DatedKind.{DatedKind}
 use Rattle.cf_book.specs.declared.refused.BookRefused.{BookRefused}
@@ -35,7 +36,7 @@ use Rattle.cf_model.specs.State.{OfficeState}
 use Rattle.cf_words.specs.declared.words.ReportKind.{ReportKind}
 use Rattle.cf_books.specs.declared.status.Status.{Status}
 use Rattle.cf_books.specs.declared.status.Status.TheVariants.{Done, BadWords, ChartRefused, GrantsRefused, ReadFault, WriteFault, NotFounded, Damaged, NoMemory, Cut, NoSuchDay, EntriesRefused}
-use Rattle.cf_books.specs.Answers.{AreLeft, Ends, Gave, IsBeside, Said, answered, chart_lines_said, chart_said, dated_kind, dated_said, dated_told, document_said, documents_said, end_of, entry_at, grants_said, lines_in, lines_said, nothing, office_said, over_office, refusal_of, refused_entry, refused_in, refused_said, rows_said, said, said_at, said_by, said_first, said_with, statement_said, text_of, under_chart, vouchers_said, whole_said}
+use Rattle.cf_books.specs.Answers.{AreLeft, Ends, Gave, IsBeside, Said, answered, chart_lines_said, chart_said, dated_kind, dated_said, dated_told, document_said, documents_said, end_of, entry_at, grants_said, lines_in, lines_said, nothing, office_said, over_office, refusal_of, refused_entry, refused_in, refused_said, rows_said, said, said_at, said_by, said_first, said_with, statement_said, text_of, under_chart, vouchers_said, whole_said, is_asked_month, month_said, month_told}
 
 -- bytes that are fewer than could have been taken were read to the end
 whole : (most : ℕ) (left left' : Option (List ℕ)) (bytes : List ℕ) → IsRead most left left' bytes → length bytes < most → IsAtEnd left'
@@ -131,6 +132,15 @@ statement_fit year kind csv bytes =
     either_fit (nat_le 1971 year && nat_le year last_year) (office_said (asked.Statement year kind None csv) bytes (recovered bytes)) (nothing BadWords)
     (office_fit (asked.Statement year kind None csv) bytes (recovered bytes)) tt
 
+month_office_fit : (csv : Bool) (month : Month) (bytes : List ℕ) (r : Result OfficeState BookRefused) → IsFit (over_office (month_told csv month) bytes r)
+month_office_fit csv month bytes (Ok s) = tt
+month_office_fit csv month bytes (Err e) = refused_fit bytes e
+
+month_fit : (month : Month) (csv : Bool) (bytes : List ℕ) → IsFit (month_said month csv bytes)
+month_fit month csv bytes =
+    either_fit (is_asked_month month) (over_office (month_told csv month) bytes (recovered bytes)) (nothing BadWords)
+    (month_office_fit csv month bytes (recovered bytes)) tt
+
 document_fit : (bytes : List ℕ) (r : Checked (List Grant)) → IsFit (document_said bytes r)
 document_fit bytes (Ok grants) = tt
 document_fit bytes (Err f) = tt
@@ -185,7 +195,7 @@ fit key (asked.Statement year kind None csv) bytes = statement_fit year kind csv
 fit key (asked.Statement year kind (Some day) csv) bytes = dated_fit year (dated_kind kind) day csv bytes
 fit key (asked.Ledger filter csv) bytes = office_fit (asked.Ledger filter csv) bytes (recovered bytes)
 fit key (asked.Documents filter csv) bytes = documents_fit filter key csv bytes (recovered bytes)
-fit key (asked.Month month csv) bytes = tt
+fit key (asked.Month month csv) bytes = month_fit month csv bytes
 fit key (asked.Paid year csv) bytes = office_fit (asked.Paid year csv) bytes (recovered bytes)
 
 first_fit : (n : ℕ) (key : Option (List ℕ)) (command : Command) (r : Result (List ℕ) FrontRefused) → IsFit (said_first n key command r)

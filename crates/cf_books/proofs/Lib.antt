@@ -3,3 +3,4 @@ pub mod CallsAgain
 pub mod Steps
 pub mod Ends
 pub mod Today
+pub mod Months

@@ -19,7 +19,7 @@ use Rattle.cf_journal.specs.Frames.{frames}
 use Rattle.cf_journal.specs.declared.refused.OpenRefused.{OpenRefused}
 use Rattle.cf_journal.specs.declared.refused.OpenRefused.TheVariants.{Damaged, Disk, NoMemory, NotFounded}
 use Rattle.cf_model.specs.State.{OfficeState}
-use Rattle.cf_books.specs.Answers.{Answers, IsToday, Said, dated_kind, dated_said, dated_told, is_of_entries, lines_said, nothing, office_said, office_text, over_office, refused_in, refused_said, said, said_first, statement_said, view, whole_said}
+use Rattle.cf_books.specs.Answers.{Answers, IsToday, Said, dated_kind, dated_said, dated_told, is_of_entries, lines_said, nothing, office_said, office_text, over_office, refused_in, refused_said, said, said_first, statement_said, view, whole_said, is_asked_month, month_told}
 use Rattle.cf_books.specs.declared.answers.Answer.{Answer}
 use Rattle.cf_books.specs.declared.status.Status.TheVariants.{BadWords}
 
@@ -113,7 +113,8 @@ module _ (a b : List ℕ) (x : List ℕ × List Entry) (first : frames a ≡ Ok 
   same_said key (asked.Statement year kind (Some day) csv) is = same_dated year (dated_kind kind) day csv
   same_said key (asked.Ledger filter csv) is = same_book _ _ (λ s. refl)
   same_said key (asked.Documents filter csv) is = same_book _ _ (λ s. refl)
-  same_said key (asked.Month month csv) is = refl
+  same_said key (asked.Month month csv) is =
+      same_statement (is_asked_month month) (over_office (month_told csv month) a (recovered a)) (over_office (month_told csv month) b (recovered b)) (nothing BadWords) (same_book _ _ (λ s. refl))
   same_said key (asked.Paid year csv) is = same_book _ _ (λ s. refl)
 
 -- ---- the front of all entries

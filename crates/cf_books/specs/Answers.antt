@@ -3,6 +3,7 @@ use Rattle.std.specs.Prelude.{◌≡◌, ⊤, ℕ, zero, suc, ◌+◌, ◌-◌, 
 use Rattle.std.specs.Io.KnownBytes.{Appends}
 use Rattle.cf_base.specs.Limits.{last_year}
 use Rattle.cf_base.specs.declared.calendar.Day.{Day}
+use Rattle.cf_base.specs.declared.calendar.Month.{Month as MonthOfYear}
 use Rattle.cf_book.specs.DurableState.{DurableBook}
 use Rattle.cf_book.specs.Recovery.{recovered}
 use Rattle.cf_book.specs.declared.refused.BookRefused.{BookRefused}
@@ -51,6 +52,7 @@ use Rattle.cf_books_lists.specs.Balances.{balances_of}
 use Rattle.cf_books_lists.specs.Open.{open_text}
 use Rattle.cf_books_lists.specs.Posts.{posts_of}
 use Rattle.cf_books_lists.specs.Statement.{statement_text}
+use Rattle.cf_books_month.specs.Month.{month_text}
 use Rattle.cf_books_year.specs.YearBalances.{year_text}
 use Rattle.cf_books_year.specs.Paid.{paid_text}
 use Rattle.cf_books.specs.FaultRows.{fault_id}
@@ -207,6 +209,20 @@ dated_said year (Some k) day csv bytes =
     if nat_le 1971 year && nat_le year last_year then over_office (dated_told csv day year k) bytes (recovered bytes)
     else nothing status.BadWords
 
+-- a month is one from 1971-01 to 2199-12: words with another are refused
+abbrev pub is_asked_month : MonthOfYear → Bool
+is_asked_month m = nat_le 1971 m.year && (nat_le m.year last_year && (nat_le 1 m.month && nat_le m.month 12))
+
+unfoldable pub month_list : Bool → MonthOfYear → Plan → List Entry → List ℕ
+month_list csv month plan entries = month_text csv month plan entries
+
+abbrev pub month_told : Bool → MonthOfYear → OfficeState → Said
+month_told csv month s = record { out = month_list csv month s.plan s.entries; status = status.Done }
+
+abbrev pub month_said : MonthOfYear → Bool → List ℕ → Said
+month_said month csv bytes =
+    if is_asked_month month then over_office (month_told csv month) bytes (recovered bytes) else nothing status.BadWords
+
 -- ---- a document of grants, under the chart or over the history of a journal
 
 -- its first fault, with the id of the grant that it is in
@@ -260,7 +276,7 @@ said key (Open csv) bytes = office_said (Open csv) bytes (recovered bytes)
 said key (Statement year kind through csv) bytes = statement_through_said year kind through csv bytes
 said key (Ledger filter csv) bytes = office_said (Ledger filter csv) bytes (recovered bytes)
 said key (Documents filter csv) bytes = documents_said filter key csv bytes (recovered bytes)
-said key (Month month csv) bytes = nothing status.BadWords
+said key (Month month csv) bytes = month_said month csv bytes
 said key (Paid year csv) bytes = office_said (Paid year csv) bytes (recovered bytes)
 said key command bytes = whole_said command (length bytes) (whole_of bytes)
 

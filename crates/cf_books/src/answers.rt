@@ -20,6 +20,7 @@ use crate::ledger::ledger_answer;
 use crate::lines::lines_text;
 use crate::listing::list_text;
 use crate::lists::{balances_answer, open_answer, paid_answer, posts_answer, statement_answer};
+use crate::month::month_answer;
 use crate::office::office_answer;
 use crate::status::Status;
 use crate::summary::put_chart;
@@ -229,7 +230,7 @@ fn command_answer(
             documents_answer(Layout { alloc, csv }, filter, key, bytes)
         }
         Command::Paid { year, csv } => paid_answer(Layout { alloc, csv }, year, bytes),
-        Command::Month { .. } => Ok(nothing(alloc, Status::BadWords)),
+        Command::Month { month, csv } => month_answer(Layout { alloc, csv }, month, bytes),
         Command::CheckGrants
         | Command::Claims { .. }
         | Command::List { .. }

@@ -11,6 +11,7 @@ mod ledger;
 mod lines;
 mod listing;
 mod lists;
+mod month;
 mod notices;
 mod office;
 mod refused;
