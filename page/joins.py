@@ -16,10 +16,8 @@ LEDGER = (
     "place day desk key call kind document item word party fund dept object line source year"
     " appropriated ordered held spent received"
 ).split()
-NUMBERS = (
-    "number item desk party fund dept object line source year place document second"
-).split()
-AMOUNTS = "amount left open appropriated ordered held spent received".split()
+NUMBERS = set("number item desk party fund dept object line source year place document".split())
+AMOUNTS = set("amount left open appropriated ordered held spent received".split())
 OPEN = ("requisition", "order", "voucher", "bill", "bond", "asset")
 # What the page calls what `books` lists under these words.
 PAGE = {"issue": "bond", "lease": "bond"}
@@ -32,10 +30,15 @@ ITEMS = ("requisition", "voucher")
 
 def typed(row):
     """A row with its numbers as integers, its amounts as cents, and nothing in an empty field."""
-    found = {name: (field or None) for name, field in row.items()}
-    found.update((name, int(row[name])) for name in NUMBERS if row.get(name))
-    found.update((name, int(row[name].replace(".", ""))) for name in AMOUNTS if row.get(name))
-    return found
+    return {name: value_of(name, field) for name, field in row.items()}
+
+
+def value_of(name, field):
+    if not field:
+        return None
+    if name in NUMBERS:
+        return int(field)
+    return int(field.replace(".", "")) if name in AMOUNTS else field
 
 
 def compact(value):
@@ -63,9 +66,9 @@ class Joins:
     def entry(self, row):
         self.days.append(row["day"])
         its = typed(row)
-        numbers = {"close": its["place"], "issue": its["number"], "lease": its["second"]}
+        numbers = {"close": row["place"], "issue": row["number"], "lease": row["second"]}
         if its["call"] in numbers:
-            self.numbers[its["desk"], its["key"]] = numbers[its["call"]]
+            self.numbers[its["desk"], its["key"]] = int(numbers[its["call"]])
         if its["call"] == "collect":
             self.collected.append(its)
         self.put("entries", its, ENTRY)

@@ -34,6 +34,7 @@ from books import Books, Fault
 from joins import compact, Joins
 from kept import Calendar, Kept
 
+FORM = 2  # of the files; another number makes all of them anew
 SECONDS = 45  # since lists are made each minute
 SKIPS = 100  # of rows that can't be read, so many are said; all are counted
 TABLES = ("function", "fund", "department", "object", "source", "line", "desk")
@@ -141,9 +142,9 @@ def state_of(joins, calendar):
 
 
 def stamp(journal):
-    """What tells whether the journal changed."""
+    """What tells whether the journal changed, or what is made of it."""
     found = os.stat(journal)
-    return [found.st_size, found.st_mtime_ns, found.st_ino]
+    return [found.st_size, found.st_mtime_ns, found.st_ino, FORM]
 
 
 def name_vendors(folder, path=None):
@@ -164,8 +165,8 @@ def main():
     seconds = int(sys.argv[5]) if len(sys.argv) == 6 else SECONDS
     name_vendors(folder, *sys.argv[4:5])
     began = time.monotonic()
-    now, done = stamp(books.journal), folder.value("stamp")
-    if done == [now, True]:
+    now = stamp(books.journal)
+    if folder.value("stamp") == [now, True]:
         return
     chart, days, closed = lists_of(books, folder)
     # The stamp was taken before the journal was read, so what was added since is found next time.

@@ -11,6 +11,7 @@ const KINDS = {
 const MOVED = [['appropriated', 'Appropriated'], ['ordered', 'Ordered'], ['held', 'Held'],
     ['spent', 'Spent'], ['received', 'Received']];
 const HEADS = ['Entry', 'Day', 'What', 'Key', 'Document', 'Vendor or payer'];
+const PAID = 'paid';
 // How many rows of a ledger are shown, the last ones. The sheet and the totals have all.
 const MOST = 500;
 
@@ -37,7 +38,9 @@ export class Documents {
     /** What became of a document, in the words of the books. */
     became({state, left, cents, paid, run}) {
         const rest = left && left !== cents ? `, ${money(left)} left` : '';
-        return state + rest + (paid ? `, last paid on ${paid} by ${run}` : '');
+        if (!paid) return state + rest;
+        return state === PAID ? `${state} on ${paid} by ${run}`
+            : `${state}${rest}, last paid on ${paid} by ${run}`;
     }
 
     /** A way to each entry of a document. */

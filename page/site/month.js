@@ -9,8 +9,7 @@ import {cents, money} from './money.js';
 
 const AMOUNTS = [['budget', 'Appropriated'], ['month', 'In the month'],
     ['year', 'In the year'], ['on_order', 'On order'], ['held', 'Held'], ['left', 'Left']];
-const BEFORE = [['month_before', 'The month a year before'],
-    ['year_before', 'The year before, to that month']];
+const BEFORE = [['month_before', 'Last year’s month'], ['year_before', 'Last year to then']];
 
 const amountOf = (each, part) => each[part] ? cents(each[part]) : 0n;
 

@@ -1,7 +1,7 @@
 """The lists of the page (page/lists.py) of the journal in a folder, beside what `books` says:
 
     listed.py books BOOKS FOLDER           what is open, each document, and the ledger of each line
-    listed.py skips BOOKS FOLDER WHAT..    the same, where rows can't be read, which is said with the time
+    listed.py skips BOOKS FOLDER WHAT..    where rows can't be read, that is said, with the time
 
 It says the first difference, with status 1.
 """

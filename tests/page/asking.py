@@ -1,5 +1,7 @@
-"""What the page finds and adds up: documents, entries, ledgers, a line's documents, months, and the ten statements as of now, through a day
-and at an entry; and an order that a void opens again behind the close of its year."""
+"""What the page finds and adds up: documents, entries, ledgers, a line's documents, months, and the
+ten statements as of now, through a day and at an entry; and an order that a void opens again behind
+the close of its year.
+"""
 import csv
 import io
 import json
@@ -17,7 +19,9 @@ LOOK = {
     "held": "held",
     "spent": "expended",
 }
-ROWS = "[...document.querySelectorAll('{} tbody tr')].map(row => [...row.children].map(cell => cell.textContent))"
+CELLS = ".map(row => [...row.children].map(cell => cell.textContent))"
+ROWS = "[...document.querySelectorAll('{} tbody tr')]" + CELLS
+TEXT = "document.getElementById('{}').textContent"
 
 
 def run(stand):
@@ -94,11 +98,18 @@ def go(clerk, address, until):
     return clerk.page.until(until)
 
 
+def said_with(words, name):
+    """The text of a part of the page, once it has these words."""
+    text = TEXT.format(name)
+    return f"/{words}/.test({text}) && {text}"
+
+
 def search(clerk, text):
     clerk.view("find")
     clerk.choose("find-text", text)
     clerk.page.do(
-        "document.getElementById('find-said').textContent = ''; document.getElementById('find-form').requestSubmit()"
+        "document.getElementById('find-said').textContent = ''; "
+        "document.getElementById('find-form').requestSubmit()"
     )
     clerk.page.until("/found/.test(document.getElementById('find-said').textContent)")
     return clerk.page.do(ROWS.format("#find-table"))
@@ -120,14 +131,16 @@ def found(stand, clerk):
     ):
         rows = search(clerk, text)
         mine = [each for each in rows if each[:3] == wanted]
-        became = f"paid, last paid on {row['paid']} by {row['run']}"
+        became = f"paid on {row['paid']} by {row['run']}"
         stand.holds(
             f"a paid invoice by {what}",
             len(mine) == 1 and mine[0][5] == became and mine[0][4] == money(cents(row["amount"])),
             mine or rows[:3],
         )
     ways = clerk.page.do(
-        f"[...[...document.querySelectorAll('#find-table tbody tr')].find(row => row.children[0].textContent === '{name}').querySelectorAll('a')].map(a => a.hash)"
+        "[...[...document.querySelectorAll('#find-table tbody tr')]"
+        f".find(row => row.children[0].textContent === '{name}')"
+        ".querySelectorAll('a')].map(a => a.hash)"
     )
     stand.same(
         "a way to each of its entries",
@@ -160,7 +173,7 @@ def entry(stand, clerk):
     said = go(
         clerk,
         f"#entry/{place}",
-        "/Documents of this entry/.test(document.getElementById('entry-sheet').textContent) && document.getElementById('entry-sheet').textContent",
+        said_with("Documents of this entry", "entry-sheet"),
     )
     stand.holds(
         "an entry",
@@ -170,7 +183,7 @@ def entry(stand, clerk):
     said = go(
         clerk,
         "#entry/1",
-        "/What it moved/.test(document.getElementById('entry-sheet').textContent) && document.getElementById('entry-sheet').textContent",
+        said_with("What it moved", "entry-sheet"),
     )
     stand.holds(
         "what an entry moved",
@@ -186,7 +199,7 @@ def entry(stand, clerk):
 
 
 def line(stand, clerk):
-    """The documents of each line of a year come to the line's numbers, with what was freed, and with payments of debts."""
+    """The documents of a line come to its numbers, with what was freed and payments of debts."""
     for number in (44, 46, 53, 63, 64):
         clerk.view(
             "lines", f"Boolean(document.querySelector('#lines-table button[title$=\" {number}\"]'))"
@@ -292,11 +305,15 @@ def sheets(stand, clerk, button, name, count):
     return sheet
 
 
-WIDER = "[...document.querySelectorAll('#{0}, #{0} *')].filter(node => node.getBoundingClientRect().right > {1} + 1).map(node => node.tagName + ' ' + node.textContent.slice(0, 30)).slice(0, 3)"
+WIDER = (
+    "[...document.querySelectorAll('#{0}, #{0} *')]"
+    ".filter(node => node.getBoundingClientRect().right > {1} + 1)"
+    ".map(node => node.tagName + ' ' + node.textContent.slice(0, 30)).slice(0, 3)"
+)
 
 
 def printed(stand, clerk, name, address, count):
-    """On A4 and Letter nothing is wider than the sheet; and the city and the entries stand on it."""
+    """On A4 and Letter nothing is wider than the sheet, which has the city and the entries."""
     go(clerk, address, f"document.querySelectorAll('#{name} tbody tr').length > {count}")
     said = clerk.text(name)
     stand.holds(
@@ -333,18 +350,18 @@ def month(stand, clerk):
     said = go(
         clerk,
         "#month/2025-07",
-        "/July 2025 by department/.test(document.getElementById('month-table').textContent) && document.getElementById('month-table').textContent",
+        said_with("July 2025 by department", "month-table"),
     )
     rows = books(stand, "month", "2025-07")
     shown = clerk.page.do(
-        "[...document.querySelectorAll('#month-table tr.part')].map(row => [...row.children].map(cell => cell.textContent.replace('▼ ', '')))"
+        "[...document.querySelectorAll('#month-table tr.part')]" + CELLS
     )
     of = lambda row: [
         row[name] if name == "percent_left" else money(cents(row[name])) for name in AMOUNTS
     ]
     stand.same(
         "a month by department",
-        [[row[0], *row[2:]] for row in shown],
+        [[row[0], *(cell.replace("▼ ", "") for cell in row[2:])] for row in shown],
         [[row["dept_name"], *of(row)] for row in rows if row["part"] == "department"],
     )
     stand.holds(
@@ -428,11 +445,12 @@ def statements(stand, clerk):
                 amounts,
             )
             said = clerk.page.do("document.querySelector('#report .span').textContent")
+            if (kind, span) == ("balance", "day"):
+                stand.picture(clerk.page, "statement-through")
             stand.holds(
                 f"its entries: {kind} {at}", said.endswith(f"entries 1 to {entries}."), said
             )
     stand.same("each span", sorted(spans), ["day", "now", "place"])
-    stand.picture(clerk.page, "statement-through")
 
 
 def closed(stand, month_):
@@ -470,7 +488,9 @@ def closed(stand, month_):
 
 
 def reopened(stand):
-    """An order's last invoice, the closes of its year, its void, and another invoice of the year before on the item that is open again."""
+    """An order's last invoice, the closes of its year, its void, and another invoice of the year
+    before on the item that is open again.
+    """
     order = stand.ask(
         {
             "call": "order",
@@ -528,7 +548,25 @@ def reopened(stand):
     stand.holds(
         "and is open", "40.00 open" in clerk.text("open-table"), clerk.text("open-table")[-200:]
     )
+    rolled(stand, clerk)
     stand.same(
         "no row was skipped", clerk.page.do("document.getElementById('skipped').textContent"), ""
     )
     clerk.page.close()
+
+
+def rolled(stand, clerk):
+    """What the close of a year carried or let lapse stands among the documents of its line."""
+    rows = [row for row in books(stand, "ledger") if row["call"] == "close" and row["line"]]
+    number = rows[0]["line"]
+    for year in sorted({int(row["year"]) for row in rows if row["line"] == number}):
+        go(clerk, f"#lines/{year}", f"/fiscal year {year}/.test({TEXT.format('lines-table')})")
+        clerk.page.do(f"document.querySelector('#lines-table button[title$=\" {number}\"]').click()")
+        clerk.page.until("Boolean(document.querySelector('#line-table tr.sum'))")
+        shown = clerk.page.do(ROWS.format("#line-table"))
+        look = stand.ask({"call": "line", "line": int(number), "year": year})["is"]
+        wanted = [money(look[LOOK[name]]) for name in MOVED]
+        stand.same(f"line {number} of {year} behind the roll", shown[-1][-4:], wanted)
+        words = {row[2].rpartition(": ")[2] for row in shown}
+        stand.holds(f"carried or lapsed in {year}", words & {"carried", "lapsed"}, sorted(words))
+        clerk.page.do("document.getElementById('line').close()")
