@@ -26,14 +26,11 @@ class Lists:
         os.makedirs(self.out, exist_ok=True)
         for name in os.listdir(self.out):
             os.remove(os.path.join(self.out, name))
-        words = [
-            sys.executable,
-            os.path.join(TOP, "page", "lists.py"),
-            books,
-            os.path.join(folder, "fund.journal"),
-            self.out,
-        ]
-        done = subprocess.run(words, capture_output=True, text=True)
+        words = [os.path.join(TOP, "page", "lists.py"), books, os.path.join(folder, "fund.journal")]
+        # Without names of vendors, and with a single statement.
+        done = subprocess.run(
+            [sys.executable, *words, self.out, "", "0"], capture_output=True, text=True
+        )
         if done.returncode:
             sys.exit(f"listed: lists.py ended with {done.returncode}: {done.stderr.strip()}")
         self.said = [line for line in done.stderr.splitlines() if "can't be read" in line]

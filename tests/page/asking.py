@@ -548,7 +548,25 @@ def reopened(stand):
     stand.holds(
         "and is open", "40.00 open" in clerk.text("open-table"), clerk.text("open-table")[-200:]
     )
+    rolled(stand, clerk)
     stand.same(
         "no row was skipped", clerk.page.do("document.getElementById('skipped').textContent"), ""
     )
     clerk.page.close()
+
+
+def rolled(stand, clerk):
+    """What the close of a year carried or let lapse stands among the documents of its line."""
+    rows = [row for row in books(stand, "ledger") if row["call"] == "close" and row["line"]]
+    number = rows[0]["line"]
+    for year in sorted({int(row["year"]) for row in rows if row["line"] == number}):
+        go(clerk, f"#lines/{year}", f"/fiscal year {year}/.test({TEXT.format('lines-table')})")
+        clerk.page.do(f"document.querySelector('#lines-table button[title$=\" {number}\"]').click()")
+        clerk.page.until("Boolean(document.querySelector('#line-table tr.sum'))")
+        shown = clerk.page.do(ROWS.format("#line-table"))
+        look = stand.ask({"call": "line", "line": int(number), "year": year})["is"]
+        wanted = [money(look[LOOK[name]]) for name in MOVED]
+        stand.same(f"line {number} of {year} behind the roll", shown[-1][-4:], wanted)
+        words = {row[2].rpartition(": ")[2] for row in shown}
+        stand.holds(f"carried or lapsed in {year}", words & {"carried", "lapsed"}, sorted(words))
+        clerk.page.do("document.getElementById('line').close()")

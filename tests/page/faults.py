@@ -139,6 +139,7 @@ def killed(stand, clerk):
     clerk.page.do("document.getElementById('form').requestSubmit()")
     said = clerk.page.until("/sent again in/.test(document.getElementById('waiting').textContent) && document.getElementById('waiting').textContent")
     stand.holds("the program is away", "Not answered yet: killed-1 (the program isn’t there). It is sent again in" in said and "taken once only" in said, said)
+    clerk.page.do("scrollTo(0, 0)")
     stand.picture(clerk.page, "waiting")
     stand.start()
     stand.holds("the program is there again", stand.waited(lambda: keys(stand).count("killed-1") == 1))

@@ -16,7 +16,7 @@ DONE = {"enter": "true", "lines": "document.querySelectorAll('#lines-table tr').
 
 
 def run(stand):
-    stand.make_lists()
+    stand.make_lists(30)
     clerk = stand.clerk("auditor")
     alone = "may look alone" in clerk.text("who") and clerk.page.do("document.querySelector('nav [data-view=enter]').hidden")
     stand.holds("who has no desk may look alone", alone, clerk.text("who"))

@@ -7,7 +7,7 @@ from slips import AHEAD, DAY, HOUR, SAID, SUBMIT, prepared
 COUNT = 150
 BUTTON = "[...document.querySelectorAll('#form button')].find(each => each.textContent === '{}').click()"
 TICKED = "document.querySelectorAll('#form .run input:checked').length"
-NAMES = 'vendor,name,address\n650,"Acme <b>& Sons</b>","12 Mill Road\nHarborview"\n651,Ü. Olsen,\n'
+NAMES = 'vendor,name,address\n650,"Acme <b>& Sons</b>","12 Mill Road\nHarborview"\n651,Ü. Olsen,\n612,Acme Paving,\n700,Harbor Fuel,\n'
 # In pictures a name is as a city has it.
 PLAIN = {"Acme <b>& Sons</b>": "Acme & Sons"}
 
@@ -153,7 +153,7 @@ def names(stand):
         said = clerk.page.until("document.getElementById('skipped').textContent")
         stand.holds(f"vendors: {wanted}", wanted in said and "The names that were read before stay" in said, said)
         kept = clerk.page.do("fetch('/desk/data/vendors.json').then(answer => answer.json()).then(found => found.vendors.length)")
-        stand.same("the old names stay", kept, 2)
+        stand.same("the old names stay", kept, 4)
     with open(path, "w", encoding="utf-8") as file:
         file.write(named(stand, NAMES))
     stand.make_lists()
