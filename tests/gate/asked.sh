@@ -74,6 +74,18 @@ done
 for words in list calls check lines open documents "paid 2025" posts "balances 2026" "statement 2026 classes" ledger; do
     refused 22 "entries refused: 7 asked, the journal has 6" $words --entries 7
 done
+for words in "posts --fund 9" "ledger --fund 9" "ledger --source 9999 --fund 9" "posts --fund 9 --through 2025-07-03" "posts --fund 9 --entries 0"; do
+    refused 21 "no such fund: 9" $words
+done
+refused 21 "no such department: 9999" ledger --dept 9999 --line 0
+refused 21 "no such object: 9999" ledger --object 9999 --csv
+refused 21 "no such line: 4095" ledger --line 4095
+refused 21 "no such source: 9999" ledger --source 9999 --from 2025-07-01
+for words in "posts --through" "balances 2026 --through" "statement 2026 balance --through" "ledger --through" "ledger --from"; do
+    refused 23 "before the first fiscal year: 2025-06-30" $words 2025-06-30
+done
+(cd "$scratch" && "$books" posts --fund 0 --through 2025-07-01 && "$books" ledger --from 2025-07-01 --through 2025-07-01) > "$scratch/printed"
+verdict "the fund 0 of posts, and the first day" $?
 for kind in reconcile changes classes components major; do
     refused 2 "bad words" statement 2026 $kind --through 2026-01-01
 done

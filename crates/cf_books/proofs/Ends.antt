@@ -35,8 +35,10 @@ use Rattle.cf_journal.specs.declared.refused.OpenRefused.TheVariants as open_ref
 use Rattle.cf_model.specs.State.{OfficeState}
 use Rattle.cf_words.specs.declared.words.ReportKind.{ReportKind}
 use Rattle.cf_books.specs.declared.status.Status.{Status}
-use Rattle.cf_books.specs.declared.status.Status.TheVariants.{Done, BadWords, ChartRefused, GrantsRefused, ReadFault, WriteFault, NotFounded, Damaged, NoMemory, Cut, NoSuchDay, EntriesRefused}
-use Rattle.cf_books.specs.Answers.{AreLeft, Ends, Gave, IsBeside, Said, answered, chart_lines_said, chart_said, dated_kind, dated_said, dated_told, document_said, documents_said, end_of, entry_at, grants_said, lines_in, lines_said, nothing, office_said, over_office, refusal_of, refused_entry, refused_in, refused_said, rows_said, said, said_at, said_by, said_first, said_with, statement_said, text_of, under_chart, vouchers_said, whole_said, is_asked_month, month_said, month_told}
+use Rattle.cf_books.specs.declared.status.Status.TheVariants.{Done, BadWords, ChartRefused, GrantsRefused, ReadFault, WriteFault, NotFounded, Damaged, NoMemory, Cut, NoSuchDay, NotInChart, EntriesRefused}
+use Rattle.cf_books.specs.Unknown.{early, unknown_in}
+use Rattle.cf_books.specs.declared.unknown.Unknown.{Unknown}
+use Rattle.cf_books.specs.Answers.{AreLeft, Ends, Gave, IsBeside, Said, answered, chart_lines_said, chart_said, dated_kind, dated_text, dated_said, dated_told, document_said, documents_said, end_of, entry_at, grants_said, lines_in, lines_said, nothing, office_said, office_text, over_office, refusal_of, refused_entry, refused_in, refused_said, rows_said, said, said_at, said_by, said_first, said_with, statement_said, text_of, told_of, under_chart, vouchers_said, whole_said, is_asked_month, month_said, month_told}
 
 -- bytes that are fewer than could have been taken were read to the end
 whole : (most : ℕ) (left left' : Option (List ℕ)) (bytes : List ℕ) → IsRead most left left' bytes → length bytes < most → IsAtEnd left'
@@ -119,8 +121,12 @@ refused_fit bytes (book_refused.Damaged at (Some number)) = refused_in_fit at nu
 refused_fit bytes book_refused.Disk = refl
 refused_fit bytes book_refused.NoMemory = refl
 
+told_fit : (unknown : Option Unknown) (text : List ℕ) → IsFit (told_of unknown text)
+told_fit None text = tt
+told_fit (Some what) text = tt
+
 office_fit : (command : Command) (bytes : List ℕ) (r : Result OfficeState BookRefused) → IsFit (office_said command bytes r)
-office_fit command bytes (Ok s) = tt
+office_fit command bytes (Ok s) = told_fit (unknown_in s.plan command) (office_text command bytes s)
 office_fit command bytes (Err e) = refused_fit bytes e
 
 either_fit : (here : Bool) (one other : Said) → IsFit one → IsFit other → IsFit (if here then one else other)
@@ -162,7 +168,7 @@ claims_fit id csv bytes journal (Ok s) = rows_fit csv bytes (vouchers_of_grant s
 claims_fit id csv bytes journal (Err e) = refused_fit journal e
 
 dated_office_fit : (csv : Bool) (day : Day) (year : ℕ) (k : DatedKind) (bytes : List ℕ) (r : Result OfficeState BookRefused) → IsFit (over_office (dated_told csv day year k) bytes r)
-dated_office_fit csv day year k bytes (Ok s) = tt
+dated_office_fit csv day year k bytes (Ok s) = told_fit (early s.plan (Some day)) (dated_text csv day year k s.plan s.entries)
 dated_office_fit csv day year k bytes (Err e) = refused_fit bytes e
 
 dated_fit : (year : ℕ) (k : Option DatedKind) (day : Day) (csv : Bool) (bytes : List ℕ) → IsFit (dated_said year k day csv bytes)
@@ -247,4 +253,5 @@ gave_ends a left beside held held' (Damaged at entry) g = g
 gave_ends a left beside held held' NoMemory g = subst (Appends held held') (subst (Fits (answered g.inputs).out) g.is (fit_with a g.inputs.bytes g.inputs.journal)) g.put
 gave_ends a left beside held held' (Cut at lost) g = g
 gave_ends a left beside held held' NoSuchDay g = g
+gave_ends a left beside held held' (NotInChart what) g = g
 gave_ends a left beside held held' (EntriesRefused n entries) g = g

@@ -60,6 +60,8 @@ use Rattle.cf_books.specs.Lines.{lines_text}
 use Rattle.cf_books.specs.Listing.{list_text}
 use Rattle.cf_books.specs.Room.{room_text}
 use Rattle.cf_books.specs.Summary.{chart_text, journal_text}
+use Rattle.cf_books.specs.Unknown.{early, unknown_in}
+use Rattle.cf_books.specs.declared.unknown.Unknown.{Unknown}
 use Rattle.cf_books_front.specs.Front.{front_in}
 use Rattle.cf_books_front.specs.Whole.{Parts, whole_of}
 use Rattle.cf_books_front.specs.declared.front.FrontRefused.{FrontRefused}
@@ -168,8 +170,13 @@ abbrev pub over_office : (OfficeState → Said) → List ℕ → Result OfficeSt
 over_office told bytes (Ok s) = told s
 over_office told bytes (Err e) = refused_said bytes e
 
+-- what the words name that the chart doesn't have is told in place of a list
+abbrev pub told_of : Option Unknown → List ℕ → Said
+told_of None text = record { out = text; status = status.Done }
+told_of (Some what) text = nothing (status.NotInChart what)
+
 abbrev pub office_told : Command → List ℕ → OfficeState → Said
-office_told command bytes s = record { out = office_text command bytes s; status = status.Done }
+office_told command bytes s = told_of (unknown_in s.plan command) (office_text command bytes s)
 
 abbrev pub office_said : Command → List ℕ → Result OfficeState BookRefused → Said
 office_said command bytes x = over_office (office_told command bytes) bytes x
@@ -201,7 +208,7 @@ unfoldable pub dated_text : Bool → Day → ℕ → DatedKind → Plan → List
 dated_text csv day year k plan entries = through_text csv day year k plan entries
 
 abbrev pub dated_told : Bool → Day → ℕ → DatedKind → OfficeState → Said
-dated_told csv day year k s = record { out = dated_text csv day year k s.plan s.entries; status = status.Done }
+dated_told csv day year k s = told_of (early s.plan (Some day)) (dated_text csv day year k s.plan s.entries)
 
 abbrev pub dated_said : ℕ → Option DatedKind → Day → Bool → List ℕ → Said
 dated_said year None day csv bytes = nothing status.BadWords

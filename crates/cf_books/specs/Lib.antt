@@ -5,5 +5,6 @@ pub mod Lines
 pub mod Summary
 pub mod Room
 pub mod FaultRows
+pub mod Unknown
 pub mod Notices
 pub mod Answers

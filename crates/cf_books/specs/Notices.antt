@@ -4,12 +4,17 @@ use Rattle.cf_chart.specs.Faults.{table_word, word_of}
 use Rattle.cf_chart.specs.declared.fault.ChartFault.{ChartFault}
 use Rattle.cf_chart.specs.declared.fault.ChartFault.TheVariants as fault
 use Rattle.cf_chart.specs.declared.fault.TableName.{TableName}
+use Rattle.cf_base.specs.Calendar.{day_text}
 use Rattle.cf_calls.specs.Refusals.{refusal_names}
 use Rattle.cf_books_grants.specs.FaultIds.{id_text}
 use Rattle.cf_books_grants.specs.Faults.{fault_text as grant_fault_text}
 use Rattle.cf_books.specs.declared.status.RefusedEntry.{RefusedEntry}
 use Rattle.cf_books.specs.declared.status.Status.{Status}
-use Rattle.cf_books.specs.declared.status.Status.TheVariants.{Done, BadWords, ChartRefused, GrantsRefused, ReadFault, WriteFault, NotFounded, Damaged, NoMemory, Cut, NoSuchDay, EntriesRefused}
+use Rattle.cf_books.specs.declared.status.Status.TheVariants.{Done, BadWords, ChartRefused, GrantsRefused, ReadFault, WriteFault, NotFounded, Damaged, NoMemory, Cut, NoSuchDay, NotInChart, EntriesRefused}
+use Rattle.cf_books.specs.declared.unknown.NameKind.{NameKind}
+use Rattle.cf_books.specs.declared.unknown.NameKind.TheVariants as kind
+use Rattle.cf_books.specs.declared.unknown.Unknown.{Unknown}
+use Rattle.cf_books.specs.declared.unknown.Unknown.TheVariants.{Early, Name}
 
 -- ---- a chart's fault, in the words of `docs/CHART.md`
 
@@ -46,6 +51,19 @@ at_text offset = codes "damaged at " ++ (decimal offset ++ codes ": ")
 abbrev pub asked_text : ℕ → List ℕ
 asked_text asked = codes "entries refused: " ++ (decimal asked ++ codes " asked, the journal has ")
 
+-- ---- what the chart doesn't have
+
+abbrev pub kind_word : NameKind → List ℕ
+kind_word kind.Fund = codes "fund"
+kind_word kind.Department = codes "department"
+kind_word kind.Line = codes "line"
+kind_word kind.Object = codes "object"
+kind_word kind.Source = codes "source"
+
+abbrev pub unknown_text : Unknown → List ℕ
+unknown_text (Name k n) = codes "no such " ++ (kind_word k ++ (codes ": " ++ decimal n))
+unknown_text (Early day) = codes "before the first fiscal year: " ++ day_text day
+
 -- ---- what is said of each end
 
 abbrev pub code_of : Status → ℕ
@@ -60,6 +78,8 @@ code_of NoMemory = 12
 code_of (Cut offset lost) = 13
 code_of (GrantsRefused f id) = 19
 code_of NoSuchDay = 20
+code_of (NotInChart (Name k n)) = 21
+code_of (NotInChart (Early day)) = 23
 code_of (EntriesRefused asked entries) = 22
 
 abbrev pub status_text : Status → List ℕ
@@ -74,6 +94,7 @@ status_text (Damaged offset entry) = at_text offset ++ damage_text entry
 status_text NoMemory = codes "no memory"
 status_text (Cut offset lost) = at_text offset ++ (codes "what stands before is given, and " ++ (decimal lost ++ codes " bytes are lost"))
 status_text NoSuchDay = codes "no such day"
+status_text (NotInChart what) = unknown_text what
 status_text (EntriesRefused asked entries) = asked_text asked ++ decimal entries
 
 abbrev pub line_of : List ℕ → List ℕ

@@ -4,12 +4,16 @@ ghost use Rattle.std.specs.Prelude.{◌≡◌, IfOk};
 ghost use Rattle.cf_book.specs.Recovery.{recovered};
 ghost use Rattle.cf_books.specs.Answers as spec;
 ghost use Rattle.cf_books.specs.Answers.{Answers, OpensWith};
+ghost use Rattle.cf_books.specs.Unknown as named;
+ghost use Rattle.cf_books_ledger.specs.Ledger.{text_of};
 ghost use Rattle.cf_books_words.specs.declared.words.Command.TheVariants.{Ledger};
 ghost use Rattle.cf_ledger_rows.specs.History.{history_rows};
 
-use crate::answers::Answer;
+use crate::answers::{Answer, nothing};
 use crate::lists::done;
 use crate::office::refused_answer;
+use crate::status::Status;
+use crate::unknown::unknown_in_ledger;
 use cf_book::{Book, BookRefused, NotOpened};
 use cf_books_ledger::{ledger_text, open_with_ledger};
 use cf_books_lists::Layout;
@@ -35,6 +39,22 @@ fn open_ledger(
     }
 }
 
+/// The rows of a book's ledger that are wanted, or what its chart doesn't have.
+fn ledger_told(
+    layout: Layout,
+    filter: LedgerFilter,
+    book: &Book<MemDisk>,
+    rows: &[LedgerRow],
+) -> Result<Answer, AllocError>
+    ensures { Answers result
+        (spec.told_of (named.unknown_in_ledger book.now.plan filter) (text_of layout.csv filter book.now.entries rows.now)) }
+{
+    match unknown_in_ledger(book.chart(), filter) {
+        None => Ok(done(ledger_text(layout, &filter, book.entries(), rows)?)),
+        Some(what) => Ok(nothing(layout.alloc, Status::NotInChart { what })),
+    }
+}
+
 /// The rows of the ledger that are wanted, or why the journal has none.
 pub fn ledger_answer(
     layout: Layout,
@@ -46,12 +66,7 @@ pub fn ledger_answer(
 {
     let copy = Vec::from_slice(layout.alloc, bytes)?;
     match open_ledger(layout.alloc, copy) {
-        Ok((book, rows)) => Ok(done(ledger_text(
-            layout,
-            &filter,
-            book.entries(),
-            rows.as_slice(),
-        )?)),
+        Ok((book, rows)) => ledger_told(layout, filter, &book, rows.as_slice()),
         Err(why) => refused_answer(layout.alloc, bytes, why),
     }
 }

@@ -20,7 +20,9 @@ mod running;
 mod status;
 mod summary;
 mod through;
+mod unknown;
 
 pub use answers::{Answer, answer_of};
 pub use running::{run, tell};
 pub use status::{RefusedEntry, Status};
+pub use unknown::{NameKind, Unknown};

@@ -6,13 +6,15 @@ ghost use Rattle.cf_book.specs.Watching.{all_posted};
 ghost use Rattle.cf_calls.specs.Form.{IsYear};
 ghost use Rattle.cf_books.specs.Answers as spec;
 ghost use Rattle.cf_books.specs.Answers.{Answers, OpensWith};
-ghost use Rattle.cf_books_lists.specs.Posts.{placed_in};
+ghost use Rattle.cf_books.specs.Unknown as named;
+ghost use Rattle.cf_books_lists.specs.Posts.{placed_in, posts_of};
 ghost use Rattle.cf_books_words.specs.declared.words.Command.TheVariants.{Balances, Open, Paid, Posts, Statement};
 
 use crate::answers::{Answer, nothing};
 use crate::office::{open_book, refused_answer};
 use crate::status::Status;
 use crate::through::{balances_through, posts_through, statement_through};
+use crate::unknown::unknown_in_posts;
 use cf_base::{Day, LAST_YEAR};
 use cf_book::{Book, BookRefused, NotOpened};
 use cf_books_lists::{
@@ -51,13 +53,30 @@ pub(crate) fn open_posts(
     }
 }
 
+/// The posts of a book that are wanted, or what its chart doesn't have.
+fn posts_told(
+    layout: Layout,
+    filter: PostFilter,
+    book: &Book<MemDisk>,
+    posts: &[PlacedPost],
+) -> Result<Answer, AllocError>
+    requires { posts.now ≡ placed_in (all_posted book.now.plan book.now.entries) }
+    ensures { Answers result
+        (spec.told_of (named.unknown_in_posts book.now.plan filter None) (posts_of layout.csv filter book.now.plan book.now.entries)) }
+{
+    match unknown_in_posts(book.chart(), filter, None) {
+        None => Ok(done(posts_text(layout, filter, book, posts)?)),
+        Some(what) => Ok(nothing(layout.alloc, Status::NotInChart { what })),
+    }
+}
+
 /// The posts of all entries that are wanted, or why the journal has none.
 fn all_posts(layout: Layout, filter: PostFilter, bytes: &[u8]) -> Result<Answer, AllocError>
     ensures { Answers result (spec.office_said (Posts filter None layout.csv) bytes.now (recovered bytes.now)) }
 {
     let copy = Vec::from_slice(layout.alloc, bytes)?;
     match open_posts(layout.alloc, copy) {
-        Ok((book, posts)) => Ok(done(posts_text(layout, filter, &book, posts.as_slice())?)),
+        Ok((book, posts)) => posts_told(layout, filter, &book, posts.as_slice()),
         Err(why) => refused_answer(layout.alloc, bytes, why),
     }
 }

@@ -1,10 +1,13 @@
 //! What is said on standard error.
 
 ghost use Rattle.std.specs.Prelude.{◌≡◌, ◌++◌, Some, OnOk};
+ghost use Rattle.cf_base.specs.Calendar.{day_text as day_words};
 ghost use Rattle.cf_chart.specs.Faults.{word_of};
 ghost use Rattle.cf_books.specs.Notices as spec;
 
 use crate::status::{RefusedEntry, Status};
+use crate::unknown::{NameKind, Unknown};
+use cf_base::{Day, day_text};
 use cf_books_grants::put_id;
 use cf_books_lists::{put_between, put_text};
 use cf_calls::refusal_name;
@@ -102,6 +105,54 @@ fn put_entries(out: &mut Vec<u8>, asked: u64, entries: u64) -> Result<(), AllocE
     put_number(out, entries)
 }
 
+/// What the words name by a number, in a word.
+fn kind_word(kind: NameKind) -> &'static str
+    ensures { result.now ≡ spec.kind_word kind }
+{
+    match kind {
+        NameKind::Fund => "fund",
+        NameKind::Department => "department",
+        NameKind::Line => "line",
+        NameKind::Object => "object",
+        NameKind::Source => "source",
+    }
+}
+
+/// Appends that a chart has no row of this kind with this number.
+fn put_name(out: &mut Vec<u8>, kind: NameKind, number: u16) -> Result<(), AllocError>
+    ensures { OnOk result (out.new.items ≡ out.old.items ++ spec.unknown_text (Unknown.Name kind number)) }
+{
+    out.extend_from_slice(b"no such ")?;
+    out.extend_from_slice(kind_word(kind).as_bytes())?;
+    out.extend_from_slice(b": ")?;
+    put_number(out, number as u64)
+}
+
+/// Appends a day.
+fn put_day(out: &mut Vec<u8>, day: Day) -> Result<(), AllocError>
+    ensures { OnOk result (out.new.items ≡ out.old.items ++ day_words day) }
+{
+    out.extend_from_slice(&day_text(day))
+}
+
+/// Appends that a day lies before a chart's first fiscal year.
+fn put_early(out: &mut Vec<u8>, day: Day) -> Result<(), AllocError>
+    ensures { OnOk result (out.new.items ≡ out.old.items ++ spec.unknown_text (Unknown.Early day)) }
+{
+    put_text(out, "before the first fiscal year: ")?;
+    put_day(out, day)
+}
+
+/// Appends what the words name that a chart doesn't have.
+fn put_unknown(out: &mut Vec<u8>, what: Unknown) -> Result<(), AllocError>
+    ensures { OnOk result (out.new.items ≡ out.old.items ++ spec.unknown_text what) }
+{
+    match what {
+        Unknown::Name { kind, number } => put_name(out, kind, number),
+        Unknown::Early { day } => put_early(out, day),
+    }
+}
+
 /// Appends what is said of how a run ended.
 fn put_status(out: &mut Vec<u8>, status: Status) -> Result<(), AllocError>
     ensures { OnOk result (out.new.items ≡ out.old.items ++ spec.status_text status) }
@@ -134,6 +185,7 @@ fn put_status(out: &mut Vec<u8>, status: Status) -> Result<(), AllocError>
             )
         }
         Status::NoSuchDay => out.extend_from_slice(b"no such day"),
+        Status::NotInChart { what } => put_unknown(out, what),
         Status::EntriesRefused { asked, entries } => put_entries(out, asked, entries),
     }
 }

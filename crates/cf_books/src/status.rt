@@ -3,6 +3,7 @@
 ghost use Rattle.std.specs.Prelude.{◌≡◌};
 ghost use Rattle.cf_books.specs.Notices.{code_of};
 
+use crate::unknown::Unknown;
 use cf_chart::ChartFault;
 use cf_grants::GrantFault;
 
@@ -57,6 +58,10 @@ pub enum Status {
     },
     /// A day or a month of the words is none from 1971 to 2199.
     NoSuchDay,
+    /// The words name something that the chart of the journal doesn't have.
+    NotInChart {
+        what: Unknown,
+    },
     /// So many of the first entries were asked for, and the journal has fewer.
     EntriesRefused {
         asked: u64,
@@ -81,6 +86,12 @@ impl Status {
             Status::Cut { .. } => 13,
             Status::GrantsRefused { .. } => 19,
             Status::NoSuchDay => 20,
+            Status::NotInChart {
+                what: Unknown::Name { .. },
+            } => 21,
+            Status::NotInChart {
+                what: Unknown::Early { .. },
+            } => 23,
             Status::EntriesRefused { .. } => 22,
         }
     }

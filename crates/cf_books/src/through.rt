@@ -5,7 +5,11 @@ ghost use Rattle.cf_book.specs.Recovery.{recovered};
 ghost use Rattle.cf_book.specs.Watching.{all_posted};
 ghost use Rattle.cf_books.specs.Answers as spec;
 ghost use Rattle.cf_books.specs.Answers.{Answers, OpensWith};
+ghost use Rattle.cf_books.specs.Unknown as named;
+ghost use Rattle.cf_books_days.specs.Balances as balances;
 ghost use Rattle.cf_books_days.specs.Gathered.{IsOf};
+ghost use Rattle.cf_books_days.specs.Posts.{posts_text_through};
+ghost use Rattle.cf_books_lists.specs.Posts.{placed_in};
 ghost use Rattle.cf_books_words.specs.declared.words.Command.TheVariants.{Balances, Posts};
 ghost use Rattle.cf_calls.specs.Form.{IsYear};
 
@@ -13,12 +17,13 @@ use crate::answers::{Answer, nothing};
 use crate::lists::{done, open_posts};
 use crate::office::refused_answer;
 use crate::status::Status;
+use crate::unknown::{early, unknown_in_posts};
 use cf_base::{Day, Kind, LAST_YEAR};
 use cf_book::{Book, BookRefused, NotOpened};
 use cf_books_days::{
     Dated, DatedKind, balances_through_text, open_dated, posts_through_text, statement_through_text,
 };
-use cf_books_lists::Layout;
+use cf_books_lists::{Layout, PlacedPost};
 use cf_books_words::PostFilter;
 use cf_disk::MemDisk;
 use cf_office::Rest;
@@ -40,6 +45,26 @@ pub(crate) fn open_days(alloc: Global, bytes: Vec<u8>) -> Result<(Book<MemDisk>,
     }
 }
 
+/// The posts of a book that are wanted of the entries through a day, or what its chart doesn't
+/// have.
+fn posts_told(
+    layout: Layout,
+    filter: PostFilter,
+    day: Day,
+    book: &Book<MemDisk>,
+    posts: &[PlacedPost],
+) -> Result<Answer, AllocError>
+    requires { posts.now ≡ placed_in (all_posted book.now.plan book.now.entries) }
+    ensures { Answers result
+        (spec.told_of (named.unknown_in_posts book.now.plan filter (Some day))
+        (posts_text_through layout.csv filter day book.now.plan book.now.entries)) }
+{
+    match unknown_in_posts(book.chart(), filter, Some(day)) {
+        None => Ok(done(posts_through_text(layout, filter, day, book, posts)?)),
+        Some(what) => Ok(nothing(layout.alloc, Status::NotInChart { what })),
+    }
+}
+
 /// The posts that are wanted of the entries through a day, or why the journal has none.
 pub fn posts_through(
     layout: Layout,
@@ -52,14 +77,28 @@ pub fn posts_through(
 {
     let copy = Vec::from_slice(layout.alloc, bytes)?;
     match open_posts(layout.alloc, copy) {
-        Ok((book, posts)) => Ok(done(posts_through_text(
-            layout,
-            filter,
-            day,
-            &book,
-            posts.as_slice(),
-        )?)),
+        Ok((book, posts)) => posts_told(layout, filter, day, &book, posts.as_slice()),
         Err(why) => refused_answer(layout.alloc, bytes, why),
+    }
+}
+
+/// The balances of a history through a fiscal year, of the entries through a day, or what its chart
+/// doesn't have.
+fn balances_told(
+    layout: Layout,
+    year: u16,
+    day: Day,
+    rest: &Rest,
+    dated: &Dated,
+) -> Result<Answer, AllocError>
+    requires { IsOf rest.now.plan (all_posted rest.now.plan rest.now.entries) dated.now }
+    ensures { Answers result
+        (spec.told_of (named.early rest.now.plan (Some day))
+        (balances.balances_through layout.csv day year rest.now.plan rest.now.entries)) }
+{
+    match early(rest.chart(), Some(day)) {
+        None => Ok(done(balances_through_text(layout, rest, dated, day, year)?)),
+        Some(what) => Ok(nothing(layout.alloc, Status::NotInChart { what })),
     }
 }
 
@@ -77,7 +116,7 @@ pub fn balances_through(
     match open_days(layout.alloc, copy) {
         Ok((book, dated)) => {
             let (_, archive) = book.into_parts();
-            Ok(done(balances_through_text(layout, archive.rest(), &dated, day, year)?))
+            balances_told(layout, year, day, archive.rest(), &dated)
         }
         Err(why) => refused_answer(layout.alloc, bytes, why),
     }
@@ -118,6 +157,27 @@ fn text_through(
     statement_through_text(layout, rest, dated, day, year, kind)
 }
 
+/// A statement of a history, of the entries through a day, or what its chart doesn't have.
+fn statement_told(
+    layout: Layout,
+    year: u16,
+    kind: DatedKind,
+    day: Day,
+    rest: &Rest,
+    dated: &Dated,
+) -> Result<Answer, AllocError>
+    requires year { IsYear year }
+    requires dated { IsOf rest.now.plan (all_posted rest.now.plan rest.now.entries) dated.now }
+    ensures { Answers result
+        (spec.told_of (named.early rest.now.plan (Some day))
+        (spec.dated_text layout.csv day year kind rest.now.plan rest.now.entries)) }
+{
+    match early(rest.chart(), Some(day)) {
+        None => Ok(done(text_through(layout, rest, dated, day, year, kind)?)),
+        Some(what) => Ok(nothing(layout.alloc, Status::NotInChart { what })),
+    }
+}
+
 /// A statement of a fiscal year from 1971 to 2199, of the entries through a day, or why the journal
 /// has none.
 fn statement_of_days(
@@ -135,7 +195,7 @@ fn statement_of_days(
     match open_days(layout.alloc, copy) {
         Ok((book, dated)) => {
             let (_, archive) = book.into_parts();
-            Ok(done(text_through(layout, archive.rest(), &dated, day, year, kind)?))
+            statement_told(layout, year, kind, day, archive.rest(), &dated)
         }
         Err(why) => refused_answer(layout.alloc, bytes, why),
     }

@@ -1,0 +1,6 @@
+use Rattle.std.proofs.lemmas.Result.{on_ok_weaker}
+use Rattle.cf_books.proofs.Steps.{two_texts}
+use Rattle.cf_books.proofs.notices.put_early.Goals as goal
+
+pub returns : goal.returns
+returns c = on_ok_weaker c.put_day.result (two_texts _ _ _ _ _ c.in_ok-put_text.ensures) c.put_day.ensures
