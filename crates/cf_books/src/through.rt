@@ -32,7 +32,10 @@ use std::alloc::{AllocError, Global};
 
 /// The book of a journal's bytes with what its entries post and move, each with its day, or why
 /// they aren't those of an office.
-pub(crate) fn open_days(alloc: Global, bytes: Vec<u8>) -> Result<(Book<MemDisk>, Dated), BookRefused>
+pub(crate) fn open_days(
+    alloc: Global,
+    bytes: Vec<u8>,
+) -> Result<(Book<MemDisk>, Dated), BookRefused>
     ensures book { OpensWith result (recovered bytes.items) }
     ensures dated { IfOk result (λ x. IsOf x.0.plan (all_posted x.0.plan x.0.entries) x.1) }
 {
