@@ -54,8 +54,8 @@ returns-clause-received c =
 pub returns-clause-totals : goal.returns-clause-totals
 returns-clause-totals c = total_is
 
-pub fiscal_year-requires : goal.fiscal_year-requires
-fiscal_year-requires c = let at = call_month c.args.month c.requires.month in omega (arith, at.0)
+pub fiscal_year-year-requires : goal.fiscal_year-year-requires
+fiscal_year-year-requires c = let at = call_month c.args.month c.requires.month in omega (arith, at.0)
 
 pub month_sums-requires-clause-from : goal.month_sums-requires-clause-from
 month_sums-requires-clause-from c = omega (arith, c.requires.from)
