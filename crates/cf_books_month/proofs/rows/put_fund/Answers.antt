@@ -31,7 +31,7 @@ returns c =
     c.in_ok-lines.ensures ∙ ap (λ (ls : List Line). line_rows plan entries s.month year fund 0 ls) (c.lines.ensures.value ∙ ap (λ (p : Plan). p.lines) c.chart-chart.ensures) in
     let source_is : c.in_ok-sources.sources.items ≡ sources =
     c.in_ok-sources.ensures ∙ ap (λ (ss : List RevenueSource). source_rows plan entries s.month year fund ss) (c.sources.ensures.value ∙ ap (λ (p : Plan). p.sources) c.chart-chart.ensures) in
-    let one : c.extend_from_slice.new.self.items ≡ old ++ lines = c.in_ok-extend_from_slice.ensures ∙ ap (λ (rs : List MonthRow). old ++ rs) (c.as_slice.ensures.value ∙ line_is) in
+    let one : c.extend_from_slice.new.self.items ≡ old ++ lines = c.in_ok-extend_from_slice.ensures.items ∙ ap (λ (rs : List MonthRow). old ++ rs) (c.as_slice.ensures.value ∙ line_is) in
     let two : c.put_departments.new.out.items ≡ c.extend_from_slice.new.self.items ++ depts =
     c.in_ok-put_departments.ensures
     ∙ ap (λ (rs : List MonthRow). c.extend_from_slice.new.self.items ++ department_rows fund rs c.depts.result.now) (c.as_slice-2.ensures.value ∙ line_is)
@@ -39,7 +39,7 @@ returns c =
     let three : c.put_total.new.out.items ≡ c.put_departments.new.out.items ++ lines_total ∷ [] =
     c.in_ok-put_total.ensures ∙ ap (λ (rs : List MonthRow). c.put_departments.new.out.items ++ total_row part.Fund fund None (amounts_in rs) ∷ []) (c.as_slice-3.ensures.value ∙ line_is) in
     let four : c.extend_from_slice-2.new.self.items ≡ c.put_total.new.out.items ++ sources =
-    c.in_ok-extend_from_slice-2.ensures ∙ ap (λ (rs : List MonthRow). c.put_total.new.out.items ++ rs) (c.as_slice-4.ensures.value ∙ source_is) in
+    c.in_ok-extend_from_slice-2.ensures.items ∙ ap (λ (rs : List MonthRow). c.put_total.new.out.items ++ rs) (c.as_slice-4.ensures.value ∙ source_is) in
     let all : c.extend_from_slice-2.new.self.items ≡ (((old ++ lines) ++ depts) ++ lines_total ∷ []) ++ sources =
     four ∙ ap (λ (x : List MonthRow). x ++ sources) (three ∙ ap (λ (x : List MonthRow). x ++ lines_total ∷ []) (two ∙ ap (λ (x : List MonthRow). x ++ depts) one)) in
     on_ok_weaker c.put_total-2.result
