@@ -24,6 +24,7 @@ books ledger [FILE]         prints what each entry moved of control lines and so
                             --object O, --line L, --source S, --vendor V, --year Y, --from DAY, --through DAY)
 books documents [FILE]      prints each document that ever was, and what became of it (--kind KIND, --party P,
                             --key TEXT, --amount CENTS)
+books month YYYY-MM [FILE]  prints what each line spent and each source received in a month, and what is left
 books paid YEAR [FILE]      prints what each vendor was paid in a calendar year
 books chart [FILE]          prints the chart that a journal keeps
 books lines [FILE]          prints its control lines, or those of a chart, with numbers and names
@@ -33,9 +34,9 @@ books --help                prints this
 books --version             prints the version
 
 --entries N says all of a journal's first N entries: check, list, calls, lines, posts, balances, open, statement,
-ledger, documents and paid have it.
-list, posts, balances, open, statement, ledger, documents, paid and claims print records below a row of names with
---csv.
+ledger, documents, month and paid have it.
+list, posts, balances, open, statement, ledger, documents, month, paid and claims print records below a row of
+names with --csv.
 Each command only reads. docs/BOOKS.md says how a run ends, and what to do then.
 ";
 

@@ -101,6 +101,16 @@ fn put_head(out: &mut Rows) -> Result<(), AllocError>
     out.put_names(names.as_slice())
 }
 
+/// The months of a history add up, and each amount of a total is the sum of those of its rows. It does nothing: its clauses
+/// are the laws.
+fn months_add_up(rest: &Rest)
+    ensures spent { (line year : ℕ) → AddUp (spent rest.now.plan rest.now.entries line year) }
+    ensures received { (source : RevenueSource) (year : ℕ) → AddUp (received rest.now.plan rest.now.entries source year) }
+    ensures totals { (c : Column) (amounts : List Amounts) → spec.IsTotal c amounts }
+{
+    let _entries = rest.entries();
+}
+
 /// A month of a history, from 1971-01 to 2199-12, as records below the names of the columns. The first says whether the month is
 /// still open. Then come, of each fund, its control lines by number, the totals of its departments and of the fund, its revenue
 /// sources by id and their total. Each has what is appropriated of it (or estimated), what was spent (or received) in the month and
@@ -125,6 +135,7 @@ pub fn month_text(
     // Each amount of a total is the sum of those of its rows.
     ensures totals { (c : Column) (amounts : List Amounts) → spec.IsTotal c amounts }
 {
+    months_add_up(rest);
     let alloc = layout.alloc;
     let year = fiscal_year(rest.chart().first_month(), month);
     let sums = month_sums(alloc, rest, dated, month)?;

@@ -1,5 +1,4 @@
-use Rattle.std.proofs.Common.{◌≡◌, ◌∙◌, ap, ℕ, List, ◌++◌, codes}
-use Rattle.std.proofs.lemmas.List.{append_assoc}
+use Rattle.std.proofs.Common.{◌≡◌, ◌∙◌, ◌++◌, ap, ap₂, append_assoc, codes, List, ℕ}
 use Rattle.cf_base.specs.Calendar.{month_of_day, month_text as text_of_month}
 use Rattle.cf_base.specs.declared.calendar.Day.{Day}
 use Rattle.cf_model.specs.Calendar.{is_month_closed}
@@ -15,12 +14,9 @@ unfolding month_state
 returns c =
     let rest = c.args.rest.now in
     let m = c.args.month in
-    let said : List ℕ = state_word (is_month_closed rest.plan rest.entries m) in
-    let word : c.as_bytes.result.now ≡ said =
-    c.as_bytes.ensures.value ∙ c.state_word.ensures
-    ∙ ap state_word (c.is_closed.ensures ∙ ap (λ (d : Day). is_month_closed rest.plan rest.entries (month_of_day d)) c.first_day.ensures) in
-    let month : c.extend_from_slice.new.self.items ≡ codes "month " ++ text_of_month m =
-    c.in_ok-extend_from_slice.ensures.items ∙ ap (λ (t : List ℕ). t ++ c.month_text.result) c.in_ok-text.ensures.items
-    ∙ ap (λ (t : List ℕ). codes "month " ++ t) c.month_text.ensures in
-    c.in_ok-extend_from_slice-2.ensures.items ∙ ap (λ (t : List ℕ). c.extend_from_slice.new.self.items ++ t) word
-    ∙ ap (λ (t : List ℕ). t ++ said) month ∙ append_assoc (codes "month ") (text_of_month m) said
+    let closed : c.as_bytes.result.now ≡ state_word (is_month_closed rest.plan rest.entries m) =
+    c.as_bytes.ensures.value ∙ c.state_word.ensures ∙ ap state_word (c.is_closed.ensures ∙ ap (λ (d : Day). is_month_closed rest.plan rest.entries (month_of_day d)) c.first_day.ensures) in
+    let begun : c.extend_from_slice.new.self.items ≡ codes "month " ++ text_of_month m =
+    c.in_ok-extend_from_slice.ensures.items ∙ ap₂ (λ (a b : List ℕ). a ++ b) c.in_ok-text.ensures.items c.month_text.ensures in
+    c.in_ok-extend_from_slice-2.ensures.items ∙ ap₂ (λ (a b : List ℕ). a ++ b) begun closed
+    ∙ append_assoc (codes "month ") (text_of_month m) (state_word (is_month_closed rest.plan rest.entries m))

@@ -11,9 +11,7 @@ use Rattle.cf_books_month.specs.declared.rows.MonthRow.{MonthRow}
 use Rattle.cf_books_month.specs.Month.{first_fields, head}
 use Rattle.cf_books_month.specs.Records.{rows_text}
 use Rattle.cf_books_month.specs.Rows.{month_rows}
-use Rattle.cf_books_month.specs.Sums.{received, spent}
-use Rattle.cf_books_month.proofs.Months.{call_month, months_add, year_between}
-use Rattle.cf_books_month.proofs.Totals.{total_is}
+use Rattle.cf_books_month.proofs.Months.{call_month, year_between}
 use Rattle.cf_books_month.proofs.month.month_text.Goals as goal
 
 pub returns-clause-text : goal.returns-clause-text
@@ -40,19 +38,6 @@ returns-clause-text c =
     added_two names (λ b. first b ++ below b) empty named all c.in_ok-put_head.ensures (added_two first below named begun all c.in_ok-put_first.ensures third) in
     let from : empty ≡ none_written c.args.layout.csv = c.new-out.ensures in
     IfOk-weaker c.into_text.result _ _ (λ bytes is. is ∙ ap (λ (w : Written). w.text) (wrote ∙ ap (λ (w : Written). added w (names w.csv ++ (first w.csv ++ below w.csv))) from)) c.into_text.ensures
-
-pub returns-clause-spent : goal.returns-clause-spent
-returns-clause-spent c =
-    let rest = c.args.rest.now in
-    λ line year. months_add (spent rest.plan rest.entries line year)
-
-pub returns-clause-received : goal.returns-clause-received
-returns-clause-received c =
-    let rest = c.args.rest.now in
-    λ source year. months_add (received rest.plan rest.entries source year)
-
-pub returns-clause-totals : goal.returns-clause-totals
-returns-clause-totals c = total_is
 
 pub fiscal_year-year-requires : goal.fiscal_year-year-requires
 fiscal_year-year-requires c = let at = call_month c.args.month c.requires.month in omega (arith, at.0)
