@@ -6,6 +6,12 @@
 # of docs/PAGE.md are made anew.
 cd "$(dirname "$0")/../.." || exit 1
 top=$(pwd)
+if [ -z "$PARTS" ]; then
+    # What is asked of the books has a city of its own, whose first months are open.
+    PARTS="entering faults slips runs looking traps words" sh "$top/tests/long/page.sh" &&
+        PARTS=asking sh "$top/tests/long/page.sh"
+    exit
+fi
 PATH=$PATH:/usr/sbin
 PYTHONDONTWRITEBYTECODE=1
 export PYTHONDONTWRITEBYTECODE

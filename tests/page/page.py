@@ -3,8 +3,8 @@
     page.py URL JOURNAL LISTS PROGRAM FIRSTPORT [PICTURES]
 
 URL is the proxy's, JOURNAL the folder of a journal that is founded with Harborview's chart, LISTS the folder of the page's lists, PROGRAM is
-served from FIRSTPORT on at four doors. With PICTURES the pictures of docs/PAGE.md are written there. The variable PARTS names some of the
-parts alone; without the first one the month is sent to a door.
+served from FIRSTPORT on at four doors. With PICTURES the pictures of docs/PAGE.md are written there. The variable PARTS names the
+parts; without the first one the month is sent to a door.
 """
 import os
 import sys
@@ -25,7 +25,7 @@ from stand import Stand
 def main():
     stand = Stand(*sys.argv[1:])
     try:
-        parts = os.environ.get("PARTS", "entering faults slips runs looking traps words asking").split()
+        parts = os.environ.get("PARTS", "entering faults slips runs looking traps words").split()
         if "entering" not in parts:
             entering.send(stand)
         for part in (entering, faults, slips, runs, looking, traps, words, asking):
