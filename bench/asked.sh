@@ -27,6 +27,7 @@ LISTS = [
     ["ledger"], ["ledger", "--csv"], ["ledger", "--line", "30"], ["ledger", "--vendor", "7"], ["ledger", "--through", "2025-12-31"], ["ledger", "--entries", HALF],
     ["documents"], ["documents", "--csv"], ["documents", "--kind", "order"], ["documents", "--key", "99"], ["documents", "--amount", "1000"],
     ["paid", "2025"], ["paid", "2026", "--csv"],
+    ["month", "2025-12"], ["month", "2026-06", "--csv"],
 ]
 
 def calls():
