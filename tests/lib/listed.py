@@ -5,14 +5,14 @@
 
 It says the first difference, with status 1.
 """
-import csv
 import datetime
-import io
 import json
 import os
 import subprocess
 import sys
 from collections import Counter
+
+from records import rows_of
 
 HERE = os.path.dirname(os.path.abspath(__file__))
 TOP = os.path.dirname(os.path.dirname(HERE))
@@ -41,13 +41,7 @@ class Lists:
             return json.load(file)
 
     def rows(self, *words):
-        ran = subprocess.run(
-            [self.books, *words, os.path.join(self.folder, "fund.journal"), "--csv"],
-            check=True,
-            capture_output=True,
-            text=True,
-        )
-        return list(csv.DictReader(io.StringIO(ran.stdout)))
+        return rows_of(self.books, os.path.join(self.folder, "fund.journal"), *words)
 
     def of_years(self, kind):
         return [

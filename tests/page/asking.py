@@ -3,14 +3,13 @@ ten statements as of now, through a day and at an entry; and an order that a voi
 the close of its year.
 """
 import csv
-import io
 import json
 import os
 import shutil
-import subprocess
 import tempfile
 
 from looking import money, ON_PAPER, SHEETS
+from records import rows_of
 
 MOVED = ("appropriated", "ordered", "held", "spent")
 LOOK = {
@@ -80,13 +79,7 @@ def debt(stand):
 
 def books(stand, *words):
     """The rows of a list as dictionaries."""
-    ran = subprocess.run(
-        [stand.books, *words, os.path.join(stand.journal, "fund.journal"), "--csv"],
-        check=True,
-        capture_output=True,
-        text=True,
-    )
-    return list(csv.DictReader(io.StringIO(ran.stdout)))
+    return rows_of(stand.books, os.path.join(stand.journal, "fund.journal"), *words)
 
 
 def cents(text):
