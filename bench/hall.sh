@@ -1,5 +1,5 @@
 #!/bin/sh
-# What a call costs in the office that threads share. The program of crates/scenes keeps the journal in its own memory
+# What a call costs in the office that threads share. The program of crates/cases_runs keeps the journal in its own memory
 # (cf_disk's MemDisk, no file, link or pipe), opens the office, and times all calls together by its own clock: each is read from its line of
 # JSON, answered, and its reply written as text. Finding the journal and opening it isn't counted.
 #  - vouchers one after another through `post` by one thread, beside the same calls settled by the book of a desk over the same
@@ -7,12 +7,12 @@
 #  - the same of vouchers of 32 items over four lines
 #  - the vouchers of one item by four threads, each on a line of its own: all together no slower than by one thread
 #  - a voucher after 1,000 entries and after 100,000: at most 1.3 times as long
-# What is compared is timed in turn, and the least time of each counts. Build the program first: rt run in crates/scenes. PROGRAM
+# What is compared is timed in turn, and the least time of each counts. Build the program first: rt run in crates/cases_runs. PROGRAM
 # names another one, by its whole path.
 top=$(cd "$(dirname "$0")/.." && pwd)
-program=${PROGRAM:-$top/crates/scenes/out/scenes}
+program=${PROGRAM:-$top/crates/cases_runs/out/cases_runs}
 if [ ! -x "$program" ]; then
-    echo "there is no program: rt run in crates/scenes builds it" >&2
+    echo "there is no program: rt run in crates/cases_runs builds it" >&2
     exit 1
 fi
 scratch=$(mktemp -d) || exit 1

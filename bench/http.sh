@@ -3,8 +3,8 @@
 # bytes, and calls with a body of 36. The time has the making of the requests in it; the peak is the link's own bytes, the
 # requests twice and the answers, and what serving takes beside. Prints two rows.
 top=$(cd "$(dirname "$0")/.." && pwd)
-(cd "$top/crates/http_cases" && rt run < /dev/null > /dev/null 2>&1) || exit 1 # builds it where it is out of date
-python3 - "$top/crates/http_cases/out/http_cases" <<'PY'
+(cd "$top/crates/cases_http" && rt run < /dev/null > /dev/null 2>&1) || exit 1 # builds it where it is out of date
+python3 - "$top/crates/cases_http/out/cases_http" <<'PY'
 import resource, subprocess, sys, time
 program, count = sys.argv[1], 900_000
 end = r"\r\n"

@@ -15,7 +15,7 @@ import tempfile
 
 TOP = os.path.join(os.path.dirname(os.path.abspath(__file__)), "..", "..")
 # By the program, the words of lines with which a case begins anew; a case of another program rests on all above it.
-ANEW = {"scenes": ("empty", "chart"), "charts": ("chart", "clear")}
+ANEW = {"cases_runs": ("empty", "chart"), "cases_texts": ("chart", "clear")}
 # Such a line holds for all below it, until the next one with its word.
 HOLDS = ("chart", "answer")
 

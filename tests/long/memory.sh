@@ -14,7 +14,7 @@ done
 . "$top/tests/lib/program.sh"
 scratch=$(mktemp -d) || exit 1
 trap 'rm -rf "$scratch"' EXIT
-cp "$top/crates/scenes/data/elm.toml" "$scratch/chart.toml"
+cp "$top/crates/cases_runs/data/elm.toml" "$scratch/chart.toml"
 cc -O1 -shared -fPIC -o "$scratch/refuse.so" "$top/tests/lib/refuse.c" || { echo "memory: cc makes no library"; exit 1; }
 cd "$scratch" && PYTHONPATH=$top/tests/lib timeout 1800 python3 - "$program" "$scratch/refuse.so" <<'PY'
 import collections, contextlib, itertools, os, pathlib, struct, subprocess, sys

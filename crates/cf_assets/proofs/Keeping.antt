@@ -12,14 +12,14 @@ use Rattle.cf_assets.specs.Inventory.{AreKept, accumulated_at}
 use Rattle.cf_assets.specs.InventoryView.{AreAccumulated}
 use Rattle.cf_assets.specs.Rows.{view_asset, view_stage, IsRow, IsStage, AreRows, no_row, view_origin}
 use Rattle.cf_assets.specs.Years.{bought_in, given_in, book_in}
-use Rattle.cf_rows.specs.Years.{AreYears, cell_of, with_cell}
+use Rattle.cf_register_parts.specs.Years.{AreYears, cell_of, with_cell}
 use Rattle.cf_assets.proofs.Cells.{sum_push, sum_set, sum_small, push_adds, push_same, set_same, set_adds, set_takes, enough_there}
-use Rattle.cf_rows.proofs.Cells.{years_same}
+use Rattle.cf_register_parts.proofs.Cells.{years_same}
 use Rattle.cf_assets.proofs.Charging.{not_yet, never_falls, total_next, total_first, total_most}
 use Rattle.cf_model.specs.Assets.{Asset, held, counted, depreciated, depreciation, charge, Origin, purchase, gift, lease, voucher_of, is_given}
 use Rattle.cf_model.specs.Changes.{is_void, is_disposed_in}
 use Rattle.cf_base.specs.Limits.{most_cents}
-use Rattle.cf_rows.specs.Limits.{most_items, most_total}
+use Rattle.cf_register_parts.specs.Limits.{most_items, most_total}
 
 pub less_or_not : (a b : ℕ) → (a < b) ⊎ (b ≤ a)
 less_or_not a b = grind arith

@@ -9,9 +9,9 @@ use Rattle.cf_assets.specs.Inventory.{AreCheap, accumulated_at, staged}
 use Rattle.cf_assets.specs.Leases.{AreAmortized, amortization}
 use Rattle.cf_assets.specs.Steps.{voids, disposes}
 use Rattle.cf_assets.specs.Years.{let_in}
-use Rattle.cf_rows.specs.Years.{AreYears, with_cell, cell_of}
+use Rattle.cf_register_parts.specs.Years.{AreYears, with_cell, cell_of}
 use Rattle.cf_assets.proofs.Cells.{push_adds, sum_push}
-use Rattle.cf_rows.proofs.Cells.{years_same}
+use Rattle.cf_register_parts.proofs.Cells.{years_same}
 use Rattle.cf_assets.proofs.Charging.{depreciation_most, never_falls, not_yet}
 use Rattle.cf_base.specs.declared.calendar.Day.{Day}
 use Rattle.cf_calls.specs.declared.items.VoucherItem.{VoucherItem}

@@ -5,7 +5,7 @@ use Rattle.std.proofs.lemmas.Bool.Decides.{leb_tells}
 use Rattle.std.proofs.lemmas.Int.{ints}
 use Rattle.std.proofs.lemmas.List.Sums.{sum_by-cons}
 use Rattle.cf_assets.specs.Years.{bought_in, given_in, let_in, book_in}
-use Rattle.cf_rows.specs.Years.{sum_to}
+use Rattle.cf_register_parts.specs.Years.{sum_to}
 use Rattle.cf_assets.proofs.Charging.{depreciation_most, total_first}
 use Rattle.cf_chart.specs.Plan.{Plan}
 use Rattle.cf_model.specs.Assets.{Asset, Origin, purchase, gift, lease, Stage, held, void, disposed, depreciation, net, is_there, voucher_of, is_given, is_leased, leased, owned}

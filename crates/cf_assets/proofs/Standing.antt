@@ -5,12 +5,12 @@ use Rattle.std.proofs.lemmas.Grind.{common_steps}
 use Rattle.std.proofs.lemmas.List.{length-append, length-map, get_or_append_left, get_or-append_right, get_or_past, get_or_push, get_or-map}
 use Rattle.std.specs.List.{filter}
 use Rattle.cf_assets.specs.Extents.{is_within, IsExtent, AreExtents}
-use Rattle.cf_rows.specs.Extents.{no_extent, extent_at}
+use Rattle.cf_register_parts.specs.Extents.{no_extent, extent_at}
 use Rattle.cf_assets.specs.Inventory.{Inventory, AreNumbered, StagesOne, staged}
 use Rattle.cf_assets.specs.Rows.{view_asset, no_row}
 use Rattle.cf_assets.specs.Steps.{CanVoid, voids, disposes}
 use Rattle.cf_base.specs.declared.calendar.Day.{Day}
-use Rattle.cf_rows.specs.declared.extents.Extent.{Extent}
+use Rattle.cf_register_parts.specs.declared.extents.Extent.{Extent}
 use Rattle.cf_assets.proofs.Finding.{rest, rest_first, rest_more, rest_last, none_refused}
 use Rattle.cf_calls.specs.declared.refusal.Refusal.{Refusal}
 use Rattle.cf_calls.specs.declared.refusal.AssetFault.TheVariants as fault

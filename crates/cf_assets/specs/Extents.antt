@@ -2,8 +2,8 @@
 use Rattle.std.specs.Prelude.{◌≡◌, ℕ, ◌<◌, ◌≤◌, Bool, ◌&&◌, nat_le, nat_lt, List, length, slice_index_or}
 use Rattle.cf_model.specs.Assets.{Asset, voucher_of}
 use Rattle.cf_model.specs.Documents.{is_number}
-use Rattle.cf_rows.specs.Extents.{extent_at}
-use Rattle.cf_rows.specs.declared.extents.Extent.{Extent}
+use Rattle.cf_register_parts.specs.Extents.{extent_at}
+use Rattle.cf_register_parts.specs.declared.extents.Extent.{Extent}
 
 -- the places from first up to end, and no others
 abbrev pub is_within : Extent → ℕ → Bool

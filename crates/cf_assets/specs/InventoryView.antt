@@ -8,8 +8,8 @@ use Rattle.cf_assets.specs.Rows.{view_asset, AreRows}
 use Rattle.cf_assets.specs.Serving.{ServeAll}
 use Rattle.cf_model.specs.Assets.{Asset, depreciation}
 use Rattle.cf_assets.specs.Years.{bought_in, given_in, book_in}
-use Rattle.cf_rows.specs.Years.{AreYears}
-use Rattle.cf_rows.specs.Limits.{most_items}
+use Rattle.cf_register_parts.specs.Years.{AreYears}
+use Rattle.cf_register_parts.specs.Limits.{most_items}
 
 abbrev pub inventory_of : Inside → Inventory
 inventory_of a = record {

@@ -7,7 +7,7 @@ use Rattle.cf_assets.specs.Extents.{AreExtents}
 use Rattle.cf_assets.specs.Leases.{AreAmortized}
 use Rattle.cf_assets.specs.Register.{Register}
 use Rattle.cf_assets.specs.Years.{let_in}
-use Rattle.cf_rows.specs.Years.{AreYears}
+use Rattle.cf_register_parts.specs.Years.{AreYears}
 
 abbrev pub register_of : Inside → Register
 register_of a = record {

@@ -9,7 +9,7 @@ ghost use Rattle.cf_model.specs.AssetsShown as shown;
 ghost use Rattle.cf_assets.specs.Charges.{AreCharges, of_kind};
 ghost use Rattle.cf_assets.specs.Register.{asset_draws};
 ghost use Rattle.cf_model.specs.RegisterRules.{asset_at};
-ghost use Rattle.cf_rows.specs.Limits.{most_items, most_total};
+ghost use Rattle.cf_register_parts.specs.Limits.{most_items, most_total};
 
 use crate::charges::{MonthCharges, depreciation_of};
 use crate::inventory::Inventory;
@@ -18,7 +18,7 @@ use cf_calls::acts::AssetAct;
 use cf_calls::shown::AssetState;
 use cf_calls::{Act, Drawn, Read, Shown};
 use cf_chart::Chart;
-use cf_rows::{Extent, YEARS, no_years};
+use cf_register_parts::{Extent, YEARS, no_years};
 use std::alloc::Global;
 use std::marker::Model;
 

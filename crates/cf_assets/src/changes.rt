@@ -8,18 +8,18 @@ ghost use Rattle.cf_assets.specs.Changes.{asset_changes};
 ghost use Rattle.cf_calls.specs.Form.{IsYear};
 ghost use Rattle.cf_assets.specs.Inventory.{AreKept};
 ghost use Rattle.cf_assets.specs.Years.{let_in};
-ghost use Rattle.cf_rows.specs.Years.{sum_to};
+ghost use Rattle.cf_register_parts.specs.Years.{sum_to};
 ghost use Rattle.cf_model.specs.Assets as spec;
 ghost use Rattle.cf_model.specs.Assets.{depreciation};
 ghost use Rattle.cf_model.specs.Months.{closed_to};
 ghost use Rattle.cf_model.specs.Sums.{int_sum};
 ghost use Rattle.cf_model.proofs.Depreciated.{IsSoundAsset};
-ghost use Rattle.cf_rows.specs.Limits.{most_in_years, most_total};
+ghost use Rattle.cf_register_parts.specs.Limits.{most_in_years, most_total};
 
 use crate::assets::Assets;
 use crate::inventory::accumulated_after;
 use cf_chart::Chart;
-use cf_rows::{amount_in, difference, total_through, years_to};
+use cf_register_parts::{amount_in, difference, total_through, years_to};
 
 /// The rows of assets in the change of a fiscal year, in cents, each as it is added.
 #[derive(Clone, Copy)]

@@ -8,7 +8,7 @@ ghost use Rattle.cf_model.specs.Assets.{depreciation, charge};
 ghost use Rattle.cf_assets.specs.Rows.{view_asset, AreRows};
 ghost use Rattle.cf_assets.specs.Serving.{ServeAll};
 ghost use Rattle.cf_assets.specs.Charges.{AddsTo, AreCharges, HasNot, StandsAt, charge_in, of_kind};
-ghost use Rattle.cf_rows.specs.Limits.{most_items, most_total};
+ghost use Rattle.cf_register_parts.specs.Limits.{most_items, most_total};
 
 use crate::rows::{Acquired, AssetRow, StageNow};
 use cf_chart::Function;

@@ -11,13 +11,13 @@ ghost use Rattle.cf_assets.specs.declared.rows.Acquired.TheVariants.{Given, Leas
 ghost use Rattle.cf_assets.specs.Inventory as spec;
 ghost use Rattle.cf_model.specs.Assets.{Asset, held, void, disposed, voucher_of};
 ghost use Rattle.cf_model.specs.RegisterRules.{asset_at};
-ghost use Rattle.cf_rows.specs.Limits.{most_items, most_total};
+ghost use Rattle.cf_register_parts.specs.Limits.{most_items, most_total};
 
 use crate::charges::{MonthCharges, depreciation_of, function_charges, total_charges};
 use crate::rows::{AssetRow, StageNow};
 use crate::serving::{enlist, retire};
 use cf_chart::Function;
-use cf_rows::{YEARS, lower, no_years, raise};
+use cf_register_parts::{YEARS, lower, no_years, raise};
 use std::alloc::{AllocError, Global};
 use std::marker::Model;
 

@@ -21,7 +21,7 @@ use cf_base::Day;
 use cf_calls::acts::AssetAct;
 use cf_calls::{Act, AssetFault, Refusal};
 use cf_chart::Chart;
-use cf_rows::{Extent, extent_of, is_before};
+use cf_register_parts::{Extent, extent_of, is_before};
 
 impl Assets {
     /// The rule of the register that an act breaks: an asset that isn't in the needed state. Of a voucher's assets the

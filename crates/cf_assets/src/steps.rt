@@ -19,7 +19,7 @@ ghost use Rattle.cf_model.specs.Months.{number_of_day};
 ghost use Rattle.cf_model.specs.RegisterRules as rules;
 ghost use Rattle.cf_model.specs.Rules.{first_refusal};
 ghost use Rattle.cf_base.specs.declared.calendar.Day.{Day};
-ghost use Rattle.cf_rows.specs.Limits.{most_items};
+ghost use Rattle.cf_register_parts.specs.Limits.{most_items};
 
 use crate::assets::Assets;
 use crate::inventory::{Inventory, accumulated_after};
@@ -29,7 +29,7 @@ use cf_calls::Drawn;
 use cf_calls::acts::{Donation, NewLease, NewVoucher};
 use cf_calls::items::VoucherItem;
 use cf_chart::Chart;
-use cf_rows::{
+use cf_register_parts::{
     Extent, extent_of, function_of, is_capital, life_of, number_of_day, raise, year_of_day,
 };
 

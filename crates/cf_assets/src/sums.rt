@@ -4,12 +4,12 @@ ghost use Rattle.std.specs.Prelude.{◌≡◌, ◌≤◌, ◌*◌, ◌+◌, ◌-
 ghost use Rattle.cf_base.specs.Limits.{last_fiscal_year};
 ghost use Rattle.cf_assets.specs.Inventory.{AreKept};
 ghost use Rattle.cf_assets.specs.Years.{bought_in, given_in, book_in};
-ghost use Rattle.cf_rows.specs.Years.{sum_to};
+ghost use Rattle.cf_register_parts.specs.Years.{sum_to};
 ghost use Rattle.cf_model.specs.Assets.{depreciation};
-ghost use Rattle.cf_rows.specs.Limits.{most_in_years, most_total};
+ghost use Rattle.cf_register_parts.specs.Limits.{most_in_years, most_total};
 
 use crate::inventory::{Inventory, accumulated_after};
-use cf_rows::{amount_in, total_through};
+use cf_register_parts::{amount_in, total_through};
 
 /// What a fiscal year has, in cents.
 #[derive(Clone, Copy)]

@@ -6,10 +6,10 @@ use Rattle.std.specs.declared.alloc.Global.{Global}
 use Rattle.cf_base.specs.Limits.{last_year}
 use Rattle.cf_base.specs.declared.calendar.Day.{Day}
 use Rattle.cf_base.specs.declared.calendar.Month.{Month}
-use Rattle.cf_book.specs.Recovery.{recovered}
+use Rattle.cf_journal_book.specs.Recovery.{recovered}
 use Rattle.cf_books_days.specs.declared.statement.DatedKind.{DatedKind}
-use Rattle.cf_book.specs.declared.refused.BookRefused.{BookRefused}
-use Rattle.cf_book.specs.declared.refused.BookRefused.TheVariants as book_refused
+use Rattle.cf_journal_book.specs.declared.refused.BookRefused.{BookRefused}
+use Rattle.cf_journal_book.specs.declared.refused.BookRefused.TheVariants as book_refused
 use Rattle.cf_books_front.specs.Front.{front_in}
 use Rattle.cf_books_front.specs.Whole.{Parts, whole_of}
 use Rattle.cf_books_front.specs.declared.front.FrontRefused.{FrontRefused}
@@ -25,7 +25,7 @@ use Rattle.cf_chart.specs.declared.fault.ChartFault.{ChartFault}
 use Rattle.cf_chart.specs.declared.fault.ChartFault.TheVariants as chart_fault
 use Rattle.cf_claims.specs.Standing.{vouchers_of_grant}
 use Rattle.cf_claims.specs.declared.standing.GrantVoucher.{GrantVoucher}
-use Rattle.cf_desk.specs.Reads.{IsRead}
+use Rattle.cf_base_lines.specs.Reads.{IsRead}
 use Rattle.cf_grants.specs.Faults.{Checked}
 use Rattle.cf_grants.specs.Reading.{grants_of}
 use Rattle.cf_grants.specs.declared.grant.Grant.{Grant}
@@ -33,7 +33,7 @@ use Rattle.cf_journal.specs.Frames.{frames}
 use Rattle.cf_journal.specs.declared.refused.OpenRefused.{OpenRefused}
 use Rattle.cf_journal.specs.declared.refused.OpenRefused.TheVariants as open_refused
 use Rattle.cf_model.specs.State.{OfficeState}
-use Rattle.cf_words.specs.declared.words.ReportKind.{ReportKind}
+use Rattle.cf_run_words.specs.declared.words.ReportKind.{ReportKind}
 use Rattle.cf_books.specs.declared.status.Status.{Status}
 use Rattle.cf_books.specs.declared.status.Status.TheVariants.{Done, BadWords, ChartRefused, GrantsRefused, ReadFault, WriteFault, NotFounded, Damaged, NoMemory, Cut, NoSuchDay, NotInChart, EntriesRefused}
 use Rattle.cf_books.specs.Unknown.{early, unknown_in}

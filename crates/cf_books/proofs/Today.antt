@@ -5,9 +5,9 @@ use Rattle.std.specs.Prelude.{◌&&◌, IfOk}
 use Rattle.cf_base.specs.Limits.{last_year}
 use Rattle.cf_base.specs.declared.calendar.Day.{Day}
 use Rattle.cf_books_days.specs.declared.statement.DatedKind.{DatedKind}
-use Rattle.cf_book.specs.Recovery.{of_frames, recovered}
-use Rattle.cf_book.specs.declared.refused.BookRefused.{BookRefused}
-use Rattle.cf_book.specs.declared.refused.BookRefused.TheVariants as book_refused
+use Rattle.cf_journal_book.specs.Recovery.{of_frames, recovered}
+use Rattle.cf_journal_book.specs.declared.refused.BookRefused.{BookRefused}
+use Rattle.cf_journal_book.specs.declared.refused.BookRefused.TheVariants as book_refused
 use Rattle.cf_books_front.specs.Front.{GivesFront, HasAll, front, front_by, front_in}
 use Rattle.cf_books_front.specs.Whole.{Parts, before, or_before, parts_or, whole_of}
 use Rattle.cf_books_front.specs.declared.front.FrontRefused.{FrontRefused}

@@ -4,10 +4,10 @@ use Rattle.std.specs.Io.KnownBytes.{Appends}
 use Rattle.cf_base.specs.Limits.{last_year}
 use Rattle.cf_base.specs.declared.calendar.Day.{Day}
 use Rattle.cf_base.specs.declared.calendar.Month.{Month as MonthOfYear}
-use Rattle.cf_book.specs.DurableState.{DurableBook}
-use Rattle.cf_book.specs.Recovery.{recovered}
-use Rattle.cf_book.specs.declared.refused.BookRefused.{BookRefused}
-use Rattle.cf_book.specs.declared.refused.BookRefused.TheVariants.{NotFounded, Damaged, Disk, NoMemory}
+use Rattle.cf_journal_book.specs.DurableState.{DurableBook}
+use Rattle.cf_journal_book.specs.Recovery.{recovered}
+use Rattle.cf_journal_book.specs.declared.refused.BookRefused.{BookRefused}
+use Rattle.cf_journal_book.specs.declared.refused.BookRefused.TheVariants.{NotFounded, Damaged, Disk, NoMemory}
 use Rattle.cf_calls.specs.declared.entry.Entry.{Entry}
 use Rattle.cf_chart.specs.declared.fault.ChartFault.{ChartFault}
 use Rattle.cf_chart.specs.declared.fault.ChartFault.TheVariants as fault
@@ -15,7 +15,7 @@ use Rattle.cf_chart.specs.Plan.{Plan}
 use Rattle.cf_chart.specs.Reading.{chart_of}
 use Rattle.cf_claims.specs.Standing.{vouchers_of_grant}
 use Rattle.cf_claims.specs.declared.standing.GrantVoucher.{GrantVoucher}
-use Rattle.cf_desk.specs.Sinks.{Wrote}
+use Rattle.cf_base_lines.specs.Sinks.{Wrote}
 use Rattle.cf_grants.specs.Faults.{Checked}
 use Rattle.cf_grants.specs.Reading.{grants_of}
 use Rattle.cf_grants.specs.declared.fault.GrantFault.{GrantFault}
@@ -25,8 +25,8 @@ use Rattle.cf_journal.specs.Records.{record_len}
 use Rattle.cf_journal.specs.declared.refused.OpenRefused.{OpenRefused}
 use Rattle.cf_journal.specs.declared.refused.OpenRefused.TheVariants as open_refused
 use Rattle.cf_model.specs.State.{OfficeState}
-use Rattle.cf_words.specs.declared.words.ReportKind.{ReportKind}
-use Rattle.cf_words.specs.declared.words.ReportKind.TheVariants.{Look}
+use Rattle.cf_run_words.specs.declared.words.ReportKind.{ReportKind}
+use Rattle.cf_run_words.specs.declared.words.ReportKind.TheVariants.{Look}
 use Rattle.cf_base.specs.declared.statement.Kind.TheVariants as kind
 use Rattle.cf_books_words.specs.Words.{Asked}
 use Rattle.cf_books_words.specs.declared.words.Command.{Command}
@@ -47,7 +47,7 @@ use Rattle.cf_books_days.specs.declared.statement.DatedKind.{DatedKind}
 use Rattle.cf_books_days.specs.declared.statement.DatedKind.TheVariants as dated
 use Rattle.cf_books_documents.specs.Text.{text as documents_of}
 use Rattle.cf_books_ledger.specs.Ledger.{text_of as ledger_of}
-use Rattle.cf_ledger_rows.specs.History.{history_rows}
+use Rattle.cf_office_rows.specs.History.{history_rows}
 use Rattle.cf_books_lists.specs.Balances.{balances_of}
 use Rattle.cf_books_lists.specs.Open.{open_text}
 use Rattle.cf_books_lists.specs.Posts.{posts_of}

@@ -3,7 +3,7 @@ use Rattle.std.specs.Prelude.{◌≡◌, ℕ, List, [], ◌∷◌, ◌++◌, fla
 use Rattle.cf_calls.specs.declared.call.Call.TheVariants as call
 use Rattle.cf_calls.specs.declared.entry.Entry.{Entry}
 use Rattle.cf_json.specs.Calls.{call_of}
-use Rattle.cf_call_text.specs.CallText.{call_text}
+use Rattle.cf_json_calls.specs.CallText.{call_text}
 
 abbrev pub call_line : Entry → List ℕ
 call_line e = call_text e.change ++ 10 ∷ []

@@ -3,7 +3,7 @@ use Rattle.std.specs.Prelude.{ℕ, ◌+◌, ℤ, Bool, List, [], ◌∷◌, ◌+
 use Rattle.cf_base.specs.Amounts.{money_of}
 use Rattle.cf_base.specs.Calendar.{day_text}
 use Rattle.cf_calls.specs.declared.entry.Entry.{Entry}
-use Rattle.cf_call_text.specs.CallText.{call_word}
+use Rattle.cf_json_calls.specs.CallText.{call_word}
 use Rattle.cf_books_payments.specs.Payments.{Payable, amount_after, none_payable, payable_after}
 use Rattle.cf_books_lists.specs.Records.{drawn_text, head_text, rows_text}
 

@@ -1,6 +1,6 @@
 //! What is said of a document of grants, under the chart or over the history of a journal.
 
-ghost use Rattle.cf_book.specs.Recovery.{recovered};
+ghost use Rattle.cf_journal_book.specs.Recovery.{recovered};
 ghost use Rattle.cf_chart.specs.Reading.{chart_of};
 ghost use Rattle.cf_claims.specs.Standing.{vouchers_of_grant as rows_of_grant};
 ghost use Rattle.cf_grants.specs.Reading.{grants_of};
@@ -12,7 +12,7 @@ use crate::answers::{Answer, damaged, nothing};
 use crate::fault_rows;
 use crate::office::{open_book, refused_answer};
 use crate::status::Status;
-use cf_book::Book;
+use cf_journal_book::Book;
 use cf_books_front::read_whole;
 use cf_books_grants::{document_text, fault_id, vouchers_text};
 use cf_books_lists::Layout;

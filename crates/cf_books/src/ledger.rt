@@ -1,25 +1,25 @@
 //! The ledger of a journal whose entries the office takes again.
 
 ghost use Rattle.std.specs.Prelude.{◌≡◌, IfOk};
-ghost use Rattle.cf_book.specs.Recovery.{recovered};
+ghost use Rattle.cf_journal_book.specs.Recovery.{recovered};
 ghost use Rattle.cf_books.specs.Answers as spec;
 ghost use Rattle.cf_books.specs.Answers.{Answers, OpensWith};
 ghost use Rattle.cf_books.specs.Unknown as named;
 ghost use Rattle.cf_books_ledger.specs.Ledger.{text_of};
 ghost use Rattle.cf_books_words.specs.declared.words.Command.TheVariants.{Ledger};
-ghost use Rattle.cf_ledger_rows.specs.History.{history_rows};
+ghost use Rattle.cf_office_rows.specs.History.{history_rows};
 
 use crate::answers::{Answer, nothing};
 use crate::lists::done;
 use crate::office::refused_answer;
 use crate::status::Status;
 use crate::unknown::unknown_in_ledger;
-use cf_book::{Book, BookRefused, NotOpened};
+use cf_journal_book::{Book, BookRefused, NotOpened};
 use cf_books_ledger::{ledger_text, open_with_ledger};
 use cf_books_lists::Layout;
 use cf_books_words::LedgerFilter;
 use cf_disk::MemDisk;
-use cf_ledger_rows::LedgerRow;
+use cf_office_rows::LedgerRow;
 use std::alloc::{AllocError, Global};
 
 /// The book of a journal's bytes with the ledger's rows, or why they aren't those of an office.

@@ -1,8 +1,8 @@
 //! The lists of a journal whose entries the office takes again: posts, balances, what is open, and statements.
 
 ghost use Rattle.std.specs.Prelude.{◌≡◌, false, true, IfOk, None};
-ghost use Rattle.cf_book.specs.Recovery.{recovered};
-ghost use Rattle.cf_book.specs.Watching.{all_posted};
+ghost use Rattle.cf_journal_book.specs.Recovery.{recovered};
+ghost use Rattle.cf_journal_book.specs.Watching.{all_posted};
 ghost use Rattle.cf_calls.specs.Form.{IsYear};
 ghost use Rattle.cf_books.specs.Answers as spec;
 ghost use Rattle.cf_books.specs.Answers.{Answers, OpensWith};
@@ -16,14 +16,14 @@ use crate::status::Status;
 use crate::through::{balances_through, posts_through, statement_through};
 use crate::unknown::unknown_in_posts;
 use cf_base::{Day, LAST_YEAR};
-use cf_book::{Book, BookRefused, NotOpened};
+use cf_journal_book::{Book, BookRefused, NotOpened};
 use cf_books_lists::{
     Layout, PlacedPost, balances_text, open_text, open_with_posts, posts_text, statement_text,
 };
 use cf_books_words::PostFilter;
 use cf_books_year::{paid_text, year_balances_text};
 use cf_disk::MemDisk;
-use cf_words::ReportKind;
+use cf_run_words::ReportKind;
 use std::alloc::{AllocError, Global};
 
 /// An answer of this text.

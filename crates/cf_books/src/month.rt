@@ -2,8 +2,8 @@
 
 ghost use Rattle.std.specs.Prelude.{◌≡◌, ◌≤◌, true, IfOk};
 ghost use Rattle.cf_base.specs.Calendar.{is_call_month};
-ghost use Rattle.cf_book.specs.Recovery.{recovered};
-ghost use Rattle.cf_book.specs.Watching.{all_posted};
+ghost use Rattle.cf_journal_book.specs.Recovery.{recovered};
+ghost use Rattle.cf_journal_book.specs.Watching.{all_posted};
 ghost use Rattle.cf_books.specs.Answers as spec;
 ghost use Rattle.cf_books.specs.Answers.{Answers};
 ghost use Rattle.cf_books_days.specs.Gathered.{IsOf};

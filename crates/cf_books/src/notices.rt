@@ -12,7 +12,7 @@ use cf_books_grants::put_id;
 use cf_books_lists::{put_between, put_text};
 use cf_calls::refusal_name;
 use cf_chart::{ChartFault, KeyName, TableName};
-use cf_members::parts::put_number;
+use cf_json_members::parts::put_number;
 use std::alloc::AllocError;
 
 /// Appends a table, the place of a row in it, and the row's id.

@@ -1,8 +1,8 @@
 //! A journal whose entries the office takes again, one after another.
 
 ghost use Rattle.std.specs.Prelude.{◌≡◌, IfOk, Result};
-ghost use Rattle.cf_book.specs.Recovery.{recovered};
-ghost use Rattle.cf_book.specs.declared.refused.BookRefused.{BookRefused as BookRefusal};
+ghost use Rattle.cf_journal_book.specs.Recovery.{recovered};
+ghost use Rattle.cf_journal_book.specs.declared.refused.BookRefused.{BookRefused as BookRefusal};
 ghost use Rattle.cf_books_words.specs.declared.words.Command.TheVariants.{Check};
 ghost use Rattle.cf_books.specs.Answers as spec;
 ghost use Rattle.cf_books.specs.Answers.{Answers, Opens, Refuses, opened};
@@ -13,7 +13,7 @@ use crate::refused::refused_at;
 use crate::room::put_room;
 use crate::status::Status;
 use crate::summary::put_journal;
-use cf_book::{Book, BookRefused, NotOpened, open};
+use cf_journal_book::{Book, BookRefused, NotOpened, open};
 use cf_disk::MemDisk;
 use std::alloc::{AllocError, Global};
 

@@ -13,7 +13,7 @@ use crate::notices::put_notice;
 use crate::status::Status;
 use cf_base::{Failed, Sink, Source};
 use cf_books_words::{Command, Request};
-use cf_desk::{Unread, read_all, write_all};
+use cf_base_lines::{Unread, read_all, write_all};
 use std::alloc::Global;
 
 /// Whether a command reads a journal beside its file.

@@ -8,7 +8,7 @@ use cf_books_lists::put_between;
 use cf_calls::acts::Period;
 use cf_calls::{Act, Entry};
 use cf_chart::{Chart, Fund, LaterLevel, Level};
-use cf_members::parts::put_number;
+use cf_json_members::parts::put_number;
 use std::alloc::AllocError;
 
 /// Appends a fact with its name.

@@ -1,8 +1,8 @@
 //! Lists and statements of the entries that are dated through a day.
 
 ghost use Rattle.std.specs.Prelude.{◌≡◌, Some, false, IfOk};
-ghost use Rattle.cf_book.specs.Recovery.{recovered};
-ghost use Rattle.cf_book.specs.Watching.{all_posted};
+ghost use Rattle.cf_journal_book.specs.Recovery.{recovered};
+ghost use Rattle.cf_journal_book.specs.Watching.{all_posted};
 ghost use Rattle.cf_books.specs.Answers as spec;
 ghost use Rattle.cf_books.specs.Answers.{Answers, OpensWith};
 ghost use Rattle.cf_books.specs.Unknown as named;
@@ -19,7 +19,7 @@ use crate::office::refused_answer;
 use crate::status::Status;
 use crate::unknown::{early, unknown_in_posts};
 use cf_base::{Day, Kind, LAST_YEAR};
-use cf_book::{Book, BookRefused, NotOpened};
+use cf_journal_book::{Book, BookRefused, NotOpened};
 use cf_books_days::{
     Dated, DatedKind, balances_through_text, open_dated, posts_through_text, statement_through_text,
 };
@@ -27,7 +27,7 @@ use cf_books_lists::{Layout, PlacedPost};
 use cf_books_words::PostFilter;
 use cf_disk::MemDisk;
 use cf_office::Rest;
-use cf_words::ReportKind;
+use cf_run_words::ReportKind;
 use std::alloc::{AllocError, Global};
 
 /// The book of a journal's bytes with what its entries post and move, each with its day, or why

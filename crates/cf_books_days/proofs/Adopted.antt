@@ -2,7 +2,7 @@
 use Rattle.std.proofs.Common.{◌≡◌, ℕ, ◌+◌, ◌≤◌, ◌&&◌, Bool, true, false, cond, is_some, List, [], ◌∷◌, Option, Some, None, refl, sym, ap, ◌∙◌, arith}
 use Rattle.std.proofs.lemmas.List.Sums.{sum_by-cons}
 use Rattle.cf_base.specs.declared.calendar.Day.{Day}
-use Rattle.cf_book.specs.Watching.{Posted, posted_after, posted_over}
+use Rattle.cf_journal_book.specs.Watching.{Posted, posted_after, posted_over}
 use Rattle.cf_calls.specs.Acts.{adoption_of}
 use Rattle.cf_calls.specs.declared.acts.Act.{Act}
 use Rattle.cf_calls.specs.declared.acts.Act.TheVariants.{Adopt}

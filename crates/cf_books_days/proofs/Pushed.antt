@@ -2,7 +2,7 @@
 use Rattle.std.proofs.Common.{◌≡◌, ℕ, ◌+◌, cond, List, [], ◌∷◌, ◌++◌, length, sym, ap, ◌∙◌, arith}
 use Rattle.std.proofs.lemmas.List.Elements.{filter-append}
 use Rattle.cf_base.specs.declared.calendar.Day.{Day}
-use Rattle.cf_book.specs.Watching.{Posted, all_posted, next_posted, posted_after, posted_over}
+use Rattle.cf_journal_book.specs.Watching.{Posted, all_posted, next_posted, posted_after, posted_over}
 use Rattle.cf_budget.specs.Tables.{row_plus}
 use Rattle.cf_budget.proofs.Rows.{plus_regroup, plus_zero, zero_plus}
 use Rattle.cf_calls.specs.declared.entry.Entry.{Entry}

@@ -3,7 +3,7 @@ use Rattle.std.proofs.Common.{◌≡◌, ℕ, ◌+◌, ◌<◌, ◌≤◌, ◌==
 use Rattle.std.specs.List.{AllByRecursion}
 use Rattle.cf_base.specs.declared.calendar.Day.{Day}
 use Rattle.cf_base.specs.Limits.{most_entries}
-use Rattle.cf_book.specs.Watching.{all_posted}
+use Rattle.cf_journal_book.specs.Watching.{all_posted}
 use Rattle.cf_calls.specs.declared.entry.Entry.{Entry}
 use Rattle.cf_calls.specs.declared.reply.Row.{Row}
 use Rattle.cf_calls.specs.declared.shown.LineNumbers.{LineNumbers}

@@ -1,6 +1,6 @@
 -- A trial balance made of the entries that are dated through a day: on either basis, each account with its balance through a fiscal year.
 use Rattle.std.specs.Prelude.{ℕ, Bool, List, ◌++◌, flat_map}
-use Rattle.cf_articulation.specs.TrialBalances.{fund_accounts, gov_accounts}
+use Rattle.cf_model_articulation.specs.TrialBalances.{fund_accounts, gov_accounts}
 use Rattle.cf_base.specs.declared.calendar.Day.{Day}
 use Rattle.cf_calls.specs.declared.entry.Entry.{Entry}
 use Rattle.cf_calls.specs.declared.read.Basis.{Basis}

@@ -5,7 +5,7 @@ use Rattle.cf_budget.specs.declared.changes.LineChange.{LineChange}
 use Rattle.cf_budget.specs.declared.row.Row.{Row}
 use Rattle.cf_budget.specs.Changes.{change_at}
 use Rattle.cf_budget.specs.Tables.{row_plus, zero_row}
-use Rattle.cf_rows.specs.Pairs.{value_of}
+use Rattle.cf_register_parts.specs.Pairs.{value_of}
 use Rattle.cf_books_days.specs.declared.lines.DayLines.{DayLines}
 use Rattle.cf_books_days.specs.declared.gathered.DatedChange.{DatedChange}
 use Rattle.cf_books_days.specs.Through.{held_row, is_through}

@@ -11,8 +11,8 @@ use Rattle.cf_statements.specs.Budget.{budget_rows}
 use Rattle.cf_statements.specs.Operating.{operating_rows}
 use Rattle.cf_statements.specs.Position.{position_rows}
 use Rattle.cf_statements.specs.Sums.{Sums}
-use Rattle.cf_words.specs.declared.words.ReportKind.{ReportKind}
-use Rattle.cf_words.specs.declared.words.ReportKind.TheVariants.{Look}
+use Rattle.cf_run_words.specs.declared.words.ReportKind.{ReportKind}
+use Rattle.cf_run_words.specs.declared.words.ReportKind.TheVariants.{Look}
 use Rattle.cf_books_lists.specs.Statement.{text_of}
 use Rattle.cf_books_days.specs.declared.statement.DatedKind.{DatedKind}
 use Rattle.cf_books_days.specs.declared.statement.DatedKind.TheVariants as dated

@@ -3,7 +3,7 @@ use Rattle.std.specs.Prelude.{ℕ, ℤ, ◌&&◌, ◌==◌, nat_le, Bool, not, L
 use Rattle.std.specs.Int.{int_wrap, w128}
 use Rattle.std.specs.List.{filter}
 use Rattle.cf_base.specs.declared.calendar.Day.{Day}
-use Rattle.cf_book.specs.Watching.{Posted, all_posted}
+use Rattle.cf_journal_book.specs.Watching.{Posted, all_posted}
 use Rattle.cf_budget.specs.declared.row.Row.{Row}
 use Rattle.cf_budget.specs.Tables.{room_of, row_plus, zero_row}
 use Rattle.cf_calls.specs.declared.entry.Entry.{Entry}

@@ -1,7 +1,7 @@
 //! The trial balance of the entries that are dated through a day.
 
 ghost use Rattle.std.specs.Prelude.{◌≡◌, IfOk, OnOk};
-ghost use Rattle.cf_book.specs.Watching.{all_posted};
+ghost use Rattle.cf_journal_book.specs.Watching.{all_posted};
 ghost use Rattle.cf_books_lists.specs.Rows.{added};
 ghost use Rattle.cf_books_days.specs.Balances as spec;
 ghost use Rattle.cf_books_days.specs.Gathered.{IsOf};
@@ -14,7 +14,7 @@ use cf_books_lists::{
 };
 use cf_calls::Basis;
 use cf_chart::Fund;
-use cf_history::Rest;
+use cf_office_history::Rest;
 use cf_statements::Figures;
 use std::alloc::{AllocError, Global};
 

@@ -4,7 +4,7 @@ ghost use Rattle.std.specs.Prelude.{◌≡◌};
 ghost use Rattle.cf_books_days.specs.Through as spec;
 
 use cf_base::Day;
-use cf_rows::is_before;
+use cf_register_parts::is_before;
 
 /// Whether a day comes no later than the one that is asked for.
 pub fn is_through(day: Day, on: Day) -> bool

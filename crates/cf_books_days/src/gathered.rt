@@ -1,12 +1,12 @@
 //! What the entries of a journal post and change, with their days, while it is opened.
 
 ghost use Rattle.std.specs.Prelude.{◌≡◌, ◌++◌, IfOk, IfErr, OnOk};
-ghost use Rattle.cf_book.specs.Openings.{OpensBook, OpensNone};
-ghost use Rattle.cf_book.specs.Watching.{all_posted};
+ghost use Rattle.cf_journal_book.specs.Openings.{OpensBook, OpensNone};
+ghost use Rattle.cf_journal_book.specs.Watching.{all_posted};
 ghost use Rattle.cf_books_days.specs.Gathered as spec;
 
 use cf_base::Day;
-use cf_book::{Book, NotOpened, Watch, open_watched};
+use cf_journal_book::{Book, NotOpened, Watch, open_watched};
 use cf_budget::LineChange;
 use cf_calls::Entry;
 use cf_chart::Chart;
@@ -84,7 +84,7 @@ fn put_changes(
     Ok(())
 }
 
-/// Opens the book of the journal on a disk, as `cf_book::open` does, with what its entries post and
+/// Opens the book of the journal on a disk, as `cf_journal_book::open` does, with what its entries post and
 /// change.
 pub fn open_dated<D: Disk + Drop>(alloc: Global, disk: D) -> Result<(Book<D>, Dated), NotOpened<D>>
     ensures ok { IfOk result (λ x. OpensBook D.tells D.content D.is_image D.moment D.was_image

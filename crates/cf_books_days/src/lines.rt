@@ -13,7 +13,7 @@ use crate::days::is_through;
 use crate::gathered::DatedChange;
 use cf_base::Day;
 use cf_budget::{LineChange, Row, ZERO};
-use cf_rows::{NumberPair, put_in, reserve_in, value_in};
+use cf_register_parts::{NumberPair, put_in, reserve_in, value_in};
 use std::alloc::{AllocError, Global};
 use std::collections::BTreeMap;
 

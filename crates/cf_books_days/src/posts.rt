@@ -2,13 +2,13 @@
 
 ghost use Rattle.std.specs.Prelude.{◌≡◌, IfOk};
 ghost use Rattle.std.specs.Option.{option_copied};
-ghost use Rattle.cf_book.specs.Watching.{all_posted};
+ghost use Rattle.cf_journal_book.specs.Watching.{all_posted};
 ghost use Rattle.cf_books_lists.specs.Posts.{placed_in};
 ghost use Rattle.cf_books_days.specs.Posts as spec;
 
 use crate::days::is_through;
 use cf_base::Day;
-use cf_book::Book;
+use cf_journal_book::Book;
 use cf_books_lists::{Layout, PlacedPost, posts_text};
 use cf_books_words::PostFilter;
 use cf_calls::Entry;

@@ -2,7 +2,7 @@
 
 ghost use Rattle.std.specs.Prelude.{◌≡◌, true, IfOk};
 ghost use Rattle.std.specs.List.{AllByRecursion};
-ghost use Rattle.cf_book.specs.Watching.{all_posted};
+ghost use Rattle.cf_journal_book.specs.Watching.{all_posted};
 ghost use Rattle.cf_books_lists.specs.Statement.{statement_text};
 ghost use Rattle.cf_calls.specs.Form.{IsYear};
 ghost use Rattle.cf_books_days.specs.Gathered.{IsOf};
@@ -14,11 +14,11 @@ use crate::sums::{DaySums, day_sums};
 use cf_base::{Day, Kind};
 use cf_books_lists::{Layout, text_of_rows};
 use cf_calls::Row;
-use cf_history::Rest;
+use cf_office_history::Rest;
 use cf_statements::{
     balance_sheet, comparison, net_position, operating_statement, statement_of_activities,
 };
-use cf_words::ReportKind;
+use cf_run_words::ReportKind;
 use std::alloc::{AllocError, Global};
 
 /// A statement that is made of sums alone, so that it can be made of the entries through a day.

@@ -1,7 +1,7 @@
 //! The sums of a history through a day, as statements are made of them.
 
 ghost use Rattle.std.specs.Prelude.{◌≡◌, ◌<◌, ◌^◌, ℕ, true, map, IfOk, unsigned_abs};
-ghost use Rattle.cf_book.specs.Watching.{all_posted};
+ghost use Rattle.cf_journal_book.specs.Watching.{all_posted};
 ghost use Rattle.cf_calls.specs.declared.read.Basis.TheVariants.{Fund as FundBasis, Gov as GovBasis};
 ghost use Rattle.cf_ledger.specs.Books.{posts_of};
 ghost use Rattle.cf_ledger.specs.Posts.{balance};
@@ -18,7 +18,7 @@ use crate::lines::{DayLines, lines_through, room};
 use cf_base::Day;
 use cf_calls::{Basis, Entry, LineNumbers};
 use cf_chart::Chart;
-use cf_history::Rest;
+use cf_office_history::Rest;
 use cf_ledger::Ledger;
 use cf_statements::Figures;
 use std::alloc::{AllocError, Global};

@@ -5,7 +5,7 @@ ghost use Rattle.std.specs.BTreeMap.{get};
 ghost use Rattle.std.specs.Ordering.{nat_cmp};
 ghost use Rattle.cf_books_documents.specs.Events as spec;
 ghost use Rattle.cf_books_documents.specs.Indexed.{KnowsVouchers, list_in, numbered};
-ghost use Rattle.cf_rows.specs.Pairs.{amount_at};
+ghost use Rattle.cf_register_parts.specs.Pairs.{amount_at};
 
 use crate::event::Event;
 use crate::lent::{Lent, note_loan};

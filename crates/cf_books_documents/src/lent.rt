@@ -2,11 +2,11 @@
 
 ghost use Rattle.std.specs.Prelude.{◌≡◌, ℕ, OnOk};
 ghost use Rattle.cf_books_documents.specs.Events as spec;
-ghost use Rattle.cf_rows.specs.Pairs.{PutsAmount, amount_at};
+ghost use Rattle.cf_register_parts.specs.Pairs.{PutsAmount, amount_at};
 
 use cf_calls::Act;
 use cf_calls::acts::{FundMove, FundMoveKind};
-use cf_rows::NumberPair;
+use cf_register_parts::NumberPair;
 use std::alloc::AllocError;
 use std::collections::BTreeMap;
 
@@ -21,7 +21,7 @@ pub fn loan_between(lent: &Lent, from: u16, to: u16) -> u64
         first: from,
         second: to,
     };
-    cf_rows::amount_at(lent, pair)
+    cf_register_parts::amount_at(lent, pair)
 }
 
 /// Puts a place under two funds, in the place of one that was.

@@ -5,7 +5,7 @@ ghost use Rattle.std.specs.Option.{option_copied};
 ghost use Rattle.cf_books_documents.specs.Events as spec;
 ghost use Rattle.cf_books_documents.specs.Indexed.{KnowsVouchers};
 ghost use Rattle.cf_calls.specs.Acts.{voucher_items};
-ghost use Rattle.cf_rows.specs.Pairs.{amount_at};
+ghost use Rattle.cf_register_parts.specs.Pairs.{amount_at};
 
 use crate::event::{Deed, Event, Subject};
 use crate::lent::{Lent, loan_between};
@@ -14,7 +14,7 @@ use cf_calls::acts::{AssetAct, FundMove, FundMoveKind};
 use cf_calls::items::{Charge, VoucherItem};
 use cf_calls::{Act, Entry};
 use cf_chart::Chart;
-use cf_rows::is_capital;
+use cf_register_parts::is_capital;
 use std::alloc::AllocError;
 
 /// Adds what an entry does to a whole document.

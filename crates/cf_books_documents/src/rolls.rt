@@ -10,7 +10,7 @@ use crate::event::{Deed, Event, Subject};
 use crate::facts::{Facts, is_lapsed, subject_of};
 use cf_calls::Entry;
 use cf_chart::Chart;
-use cf_rows::rolled_year;
+use cf_register_parts::rolled_year;
 use std::alloc::{AllocError, Global};
 
 /// The roll of a fiscal year by the entry at a place, which closes its last month.

@@ -22,7 +22,7 @@ use cf_books_lists::{Layout, Rows, decimal_text, drawn_text};
 use cf_books_words::{DocumentFilter, DocumentKind};
 use cf_calls::Entry;
 use cf_chart::Chart;
-use cf_history::Rest;
+use cf_office_history::Rest;
 use std::alloc::{AllocError, Global};
 
 /// The control line of a document's account and year, where it has both.

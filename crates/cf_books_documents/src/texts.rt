@@ -8,7 +8,7 @@ use crate::event::{Event, deed_word};
 use cf_base::day_text;
 use cf_books_lists::{decimal_text, put_text};
 use cf_calls::Entry;
-use cf_members::parts::put_number;
+use cf_json_members::parts::put_number;
 use std::alloc::{AllocError, Global};
 
 /// The digits of a number, none where there is none.

@@ -6,7 +6,7 @@ ghost use Rattle.cf_books_grants.specs.Documents as spec;
 
 use cf_base::money_text;
 use cf_grants::{Grant, Grants};
-use cf_members::parts::put_number;
+use cf_json_members::parts::put_number;
 use std::alloc::{AllocError, Global};
 
 /// Appends a text and a number.

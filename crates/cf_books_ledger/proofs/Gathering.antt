@@ -4,7 +4,7 @@ use Rattle.std.specs.List.{All, AllByRecursion}
 use Rattle.std.proofs.lemmas.Grind.{flat_map-append}
 use Rattle.std.proofs.lemmas.List.Elements.{All-from_recursion}
 use Rattle.std.proofs.lemmas.List.Sums.{sum_by-append, sum_by-cons}
-use Rattle.cf_book.specs.Watching.{Posted, all_posted, posted_after}
+use Rattle.cf_journal_book.specs.Watching.{Posted, all_posted, posted_after}
 use Rattle.cf_calls.specs.declared.entry.Entry.{Entry}
 use Rattle.cf_calls.specs.declared.read.Basis.TheVariants.{Fund as FundBasis}
 use Rattle.cf_chart.specs.Plan.{Plan}
@@ -17,10 +17,10 @@ use Rattle.cf_model.proofs.Accepted.{accepted_fits}
 use Rattle.cf_model.proofs.Legal.{legal_push}
 use Rattle.cf_model.proofs.Posted.{posts_push}
 use Rattle.cf_model.proofs.Sized.{posts_small}
-use Rattle.cf_ledger_rows.specs.declared.rows.LedgerRow.{LedgerRow}
-use Rattle.cf_ledger_rows.specs.Entries.{entry_rows}
-use Rattle.cf_ledger_rows.specs.History.{AddUp, history_rows, rows_after}
-use Rattle.cf_ledger_rows.proofs.Totals.{adds_up}
+use Rattle.cf_office_rows.specs.declared.rows.LedgerRow.{LedgerRow}
+use Rattle.cf_office_rows.specs.Entries.{entry_rows}
+use Rattle.cf_office_rows.specs.History.{AddUp, history_rows, rows_after}
+use Rattle.cf_office_rows.proofs.Totals.{adds_up}
 use Rattle.cf_books_ledger.specs.Seen.{rows_by, rows_in}
 
 pub rows_push : (plan : Plan) (seen : List Posted) (x : Posted) → rows_in plan (seen ++ x ∷ []) ≡ rows_in plan seen ++ rows_by plan x

@@ -5,10 +5,10 @@ use Rattle.cf_base.specs.declared.calendar.Day.{Day}
 use Rattle.cf_base.specs.Amounts.{money_of}
 use Rattle.cf_base.specs.Calendar.{day_text}
 use Rattle.cf_books_lists.specs.Records.{drawn_text, head_text, record_text}
-use Rattle.cf_call_text.specs.CallText.{call_word}
+use Rattle.cf_json_calls.specs.CallText.{call_word}
 use Rattle.cf_calls.specs.declared.entry.Entry.{Entry}
 use Rattle.cf_model.specs.Calendar.{is_before}
-use Rattle.cf_ledger_rows.specs.declared.rows.LedgerRow.{LedgerRow}
+use Rattle.cf_office_rows.specs.declared.rows.LedgerRow.{LedgerRow}
 use Rattle.cf_books_words.specs.declared.words.LedgerFilter.{LedgerFilter}
 use Rattle.cf_books_ledger.specs.declared.ledger.Totals.{Totals}
 use Rattle.cf_books_ledger.specs.Parties.{PartyLists, parties_of, party_by}

@@ -5,7 +5,7 @@ use Rattle.std.specs.Ordering.{int_eq}
 use Rattle.cf_calls.specs.declared.acts.Act.{Act}
 use Rattle.cf_calls.specs.declared.acts.Act.TheVariants.{Order, ChangeOrder, CancelOrder, Voucher, VoidVoucher, Bill, Collect, WriteOff, Issue, PayDue, Close, Lease}
 use Rattle.cf_calls.specs.declared.entry.Entry.{Entry}
-use Rattle.cf_ledger_rows.specs.declared.rows.LedgerRow.{LedgerRow}
+use Rattle.cf_office_rows.specs.declared.rows.LedgerRow.{LedgerRow}
 
 -- documents of each kind have the numbers 1, 2, 3 .., and so stand in these lists: an order's
 -- vendor, a voucher's, a bill's payer, and a lease's vendor, which is 0 of a bond that is no lease

@@ -8,8 +8,8 @@ use crate::parties::{Parties, party_of};
 use cf_base::Day;
 use cf_books_words::LedgerFilter;
 use cf_calls::Entry;
-use cf_ledger_rows::LedgerRow;
-use cf_rows::is_before;
+use cf_office_rows::LedgerRow;
+use cf_register_parts::is_before;
 
 /// Whether this id or year is asked for: each is, where none is named.
 fn is_asked(asked: Option<u16>, id: u16) -> bool

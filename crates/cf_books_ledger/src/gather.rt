@@ -1,17 +1,17 @@
 //! Opening a journal, and what its entries moved.
 
 ghost use Rattle.std.specs.Prelude.{◌≡◌, IfErr, IfOk};
-ghost use Rattle.cf_book.specs.Openings.{OpensBook, OpensNone};
-ghost use Rattle.cf_ledger_rows.specs.History.{AddUp, history_rows};
+ghost use Rattle.cf_journal_book.specs.Openings.{OpensBook, OpensNone};
+ghost use Rattle.cf_office_rows.specs.History.{AddUp, history_rows};
 ghost use Rattle.cf_books_ledger.specs.Seen.{rows_in};
 
-use cf_book::{Book, NotOpened, Watch, open_watched};
+use cf_journal_book::{Book, NotOpened, Watch, open_watched};
 use cf_budget::LineChange;
 use cf_calls::Entry;
 use cf_chart::Chart;
 use cf_disk::Disk;
 use cf_ledger::Post;
-use cf_ledger_rows::{LedgerRow, put_entry};
+use cf_office_rows::{LedgerRow, put_entry};
 use cf_registers::{Registers, whole};
 use std::alloc::{AllocError, Global};
 
@@ -49,7 +49,7 @@ impl Watch for Gathered {
     }
 }
 
-/// Opens the book of the journal on a disk, as `cf_book::open` does, with the rows of its entries,
+/// Opens the book of the journal on a disk, as `cf_journal_book::open` does, with the rows of its entries,
 /// oldest first: they add up to the numbers of each control line and fiscal year, and to the
 /// revenue of each source.
 pub fn open_with_ledger<D: Disk + Drop>(

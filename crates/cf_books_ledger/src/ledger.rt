@@ -12,9 +12,9 @@ use crate::parties::{Parties, all_parties, party_of};
 use cf_base::{day_text, money_text};
 use cf_books_lists::{Layout, Rows, decimal_text, drawn_text};
 use cf_books_words::LedgerFilter;
-use cf_call_text::call_word;
+use cf_json_calls::call_word;
 use cf_calls::Entry;
-use cf_ledger_rows::{Amounts, LedgerRow};
+use cf_office_rows::{Amounts, LedgerRow};
 use std::alloc::{AllocError, Global};
 
 /// What was spent and received so far, in cents. `None` where it came to 2^126 cents.

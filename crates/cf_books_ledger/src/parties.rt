@@ -5,7 +5,7 @@ ghost use Rattle.cf_books_ledger.specs.Parties as spec;
 ghost use Rattle.cf_books_ledger.specs.Parties.{parties_of};
 
 use cf_calls::{Act, Entry};
-use cf_ledger_rows::LedgerRow;
+use cf_office_rows::LedgerRow;
 use std::alloc::{AllocError, Global};
 use std::marker::Model;
 

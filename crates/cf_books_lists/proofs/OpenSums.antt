@@ -29,8 +29,8 @@ use Rattle.cf_model.specs.Step.{IsLegal}
 use Rattle.cf_model.specs.Sums.{int_sum}
 use Rattle.cf_model.proofs.Pushes.{documents_are}
 use Rattle.cf_model.proofs.Totals.{all_so, exchange, find_sum, found_passes, none_first, none_last, one_passes, passing, same_all, sum_append, sum_filter, sum_none, sum_pos, sum_same}
-use Rattle.cf_articulation.specs.OpenBills.{BillsAreReceivable, left_part}
-use Rattle.cf_articulation.specs.OpenVouchers.{VouchersAreOwed, open_amount, open_part}
+use Rattle.cf_model_articulation.specs.OpenBills.{BillsAreReceivable, left_part}
+use Rattle.cf_model_articulation.specs.OpenVouchers.{VouchersAreOwed, open_amount, open_part}
 use Rattle.cf_registers.specs.RegistersState.{register_shown}
 use Rattle.cf_books_lists.specs.declared.open.Part.{Part}
 use Rattle.cf_books_lists.specs.declared.open.Section.{Section}

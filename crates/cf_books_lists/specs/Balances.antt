@@ -1,6 +1,6 @@
 -- A trial balance as records: on either basis, each account with its balance through a fiscal year (GASB Statement 34).
 use Rattle.std.specs.Prelude.{ℕ, Bool, ◌==◌, if◌then◌else◌, ℤ, unsigned_abs, List, [], ◌∷◌, ◌++◌, codes, decimal, flat_map}
-use Rattle.cf_articulation.specs.TrialBalances.{fund_accounts, gov_accounts}
+use Rattle.cf_model_articulation.specs.TrialBalances.{fund_accounts, gov_accounts}
 use Rattle.cf_base.specs.Amounts.{money_of}
 use Rattle.cf_calls.specs.declared.entry.Entry.{Entry}
 use Rattle.cf_calls.specs.declared.read.Basis.{Basis}

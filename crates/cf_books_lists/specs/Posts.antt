@@ -2,8 +2,8 @@
 use Rattle.std.specs.Prelude.{ℕ, Bool, true, ◌-◌, ◌==◌, ◌&&◌, if◌then◌else◌, List, [], ◌∷◌, ◌++◌, Option, Some, None, codes, decimal, flat_map, map, slice_get}
 use Rattle.cf_base.specs.Amounts.{money_of}
 use Rattle.cf_base.specs.Calendar.{day_text}
-use Rattle.cf_book.specs.Watching.{Posted, all_posted}
-use Rattle.cf_call_text.specs.CallText.{call_word}
+use Rattle.cf_journal_book.specs.Watching.{Posted, all_posted}
+use Rattle.cf_json_calls.specs.CallText.{call_word}
 use Rattle.cf_calls.specs.declared.entry.Entry.{Entry}
 use Rattle.cf_calls.specs.declared.read.Basis.{Basis}
 use Rattle.cf_calls.specs.declared.read.Basis.TheVariants as basis

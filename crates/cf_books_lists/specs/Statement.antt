@@ -14,8 +14,8 @@ use Rattle.cf_model.specs.Report.{report_rows}
 use Rattle.cf_statements.specs.Budget.{line_row}
 use Rattle.cf_statements.specs.Sums.{Sums}
 use Rattle.cf_text.specs.Records.{field_at}
-use Rattle.cf_words.specs.declared.words.ReportKind.{ReportKind}
-use Rattle.cf_words.specs.declared.words.ReportKind.TheVariants.{Look, Classes, Components, Major}
+use Rattle.cf_run_words.specs.declared.words.ReportKind.{ReportKind}
+use Rattle.cf_run_words.specs.declared.words.ReportKind.TheVariants.{Look, Classes, Components, Major}
 use Rattle.cf_books_lists.specs.LineNames.{later_of, part_and_years, part_name}
 use Rattle.cf_books_lists.specs.Names.{department_name}
 use Rattle.cf_books_lists.specs.Open.{line_of, number_text}

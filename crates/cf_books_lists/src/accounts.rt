@@ -2,7 +2,7 @@
 
 ghost use Rattle.std.specs.Prelude.{◌≡◌, ◌==◌, ◌++◌, map, IfOk, OnOk};
 ghost use Rattle.std.specs.List.{filter};
-ghost use Rattle.cf_articulation.specs.TrialBalances as spec;
+ghost use Rattle.cf_model_articulation.specs.TrialBalances as spec;
 ghost use Rattle.cf_post.specs.Accounts as codes;
 
 use cf_chart::{Chart, Function, RevenueSource};

@@ -1,7 +1,7 @@
 //! The trial balance of a fiscal year.
 
 ghost use Rattle.std.specs.Prelude.{◌≡◌, ℕ, List, Ok, IfOk, OnOk};
-ghost use Rattle.cf_articulation.specs.TrialBalances.{Balances};
+ghost use Rattle.cf_model_articulation.specs.TrialBalances.{Balances};
 ghost use Rattle.cf_books_lists.specs.Balances as spec;
 ghost use Rattle.cf_books_lists.specs.Records.{head_text, record_text};
 ghost use Rattle.cf_books_lists.specs.Rows.{added};

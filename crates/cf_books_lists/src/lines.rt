@@ -6,7 +6,7 @@ ghost use Rattle.cf_books_lists.specs.LineNames as spec;
 
 use crate::texts::put_between;
 use cf_chart::{Chart, Fund, LaterLevel, Line, LinePart, Object};
-use cf_members::parts::put_number;
+use cf_json_members::parts::put_number;
 use std::alloc::{AllocError, Global};
 
 fn object_name(object: Option<&Object>) -> &str

@@ -2,10 +2,10 @@
 
 ghost use Rattle.std.specs.Prelude.{◌≡◌, ◌++◌, Some, IfOk, IfErr, OnOk};
 ghost use Rattle.cf_base.specs.Amounts.{money_of};
-ghost use Rattle.cf_book.specs.Openings.{OpensBook, OpensNone};
-ghost use Rattle.cf_book.specs.Watching.{all_posted};
+ghost use Rattle.cf_journal_book.specs.Openings.{OpensBook, OpensNone};
+ghost use Rattle.cf_journal_book.specs.Watching.{all_posted};
 ghost use Rattle.cf_books_lists.specs.Posts as spec;
-ghost use Rattle.cf_call_text.specs.CallText.{call_word as word_of};
+ghost use Rattle.cf_json_calls.specs.CallText.{call_word as word_of};
 ghost use Rattle.cf_books_lists.specs.Names.{account_text, basis_word as basis_text};
 ghost use Rattle.cf_books_lists.specs.Records.{head_text, record_text};
 ghost use Rattle.cf_books_lists.specs.Rows.{added, none_written};
@@ -14,10 +14,10 @@ use crate::names::{basis_word, fund_name, put_account};
 use crate::rows::{Layout, Rows};
 use crate::texts::{digits, drawn_digits, put_money};
 use cf_base::day_text;
-use cf_book::{Book, NotOpened, Watch, open_watched};
+use cf_journal_book::{Book, NotOpened, Watch, open_watched};
 use cf_books_words::PostFilter;
 use cf_budget::LineChange;
-use cf_call_text::call_word;
+use cf_json_calls::call_word;
 use cf_calls::{Basis, Entry};
 use cf_chart::Chart;
 use cf_disk::Disk;
@@ -280,7 +280,7 @@ fn text_of_posts(
     sheet.out.into_text()
 }
 
-/// Opens the book of the journal on a disk, as `cf_book::open` does, with the posts of its entries,
+/// Opens the book of the journal on a disk, as `cf_journal_book::open` does, with the posts of its entries,
 /// oldest first and those on the fund basis before those on the government-wide one.
 pub fn open_with_posts<D: Disk + Drop>(
     alloc: Global,

@@ -4,7 +4,7 @@ ghost use Rattle.std.specs.Prelude.{◌≡◌, ◌++◌, decimal, IfOk, OnOk};
 ghost use Rattle.cf_base.specs.Amounts.{money_of, sign_text};
 ghost use Rattle.cf_books_lists.specs.Records as spec;
 
-use cf_members::parts::put_number;
+use cf_json_members::parts::put_number;
 use itoa::Buffer;
 use std::alloc::{AllocError, Global};
 

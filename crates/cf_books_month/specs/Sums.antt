@@ -7,7 +7,7 @@ use Rattle.cf_calls.specs.declared.entry.Entry.{Entry}
 use Rattle.cf_calls.specs.declared.shown.LineNumbers.{LineNumbers}
 use Rattle.cf_chart.specs.declared.rows.RevenueSource.{RevenueSource}
 use Rattle.cf_chart.specs.Plan.{Plan}
-use Rattle.cf_history.specs.RestState.{RestState}
+use Rattle.cf_office_history.specs.RestState.{RestState}
 use Rattle.cf_statements.specs.Budget.{fund_revenue}
 use Rattle.cf_books_days.specs.declared.sums.DaySums.{DaySums}
 use Rattle.cf_books_days.specs.Through.{sums_through}

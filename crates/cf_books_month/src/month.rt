@@ -2,7 +2,7 @@
 
 ghost use Rattle.std.specs.Prelude.{◌≡◌, ◌≤◌, ℕ, ◌++◌, true, List, IfOk, OnOk};
 ghost use Rattle.cf_base.specs.Calendar.{is_call_month};
-ghost use Rattle.cf_book.specs.Watching.{all_posted};
+ghost use Rattle.cf_journal_book.specs.Watching.{all_posted};
 ghost use Rattle.cf_books_days.specs.Gathered.{IsOf};
 ghost use Rattle.cf_books_lists.specs.Records.{head_text, record_text};
 ghost use Rattle.cf_books_lists.specs.Rows.{added};
@@ -20,7 +20,7 @@ use crate::sums::month_sums;
 use cf_base::{Month, fiscal_year, month_text as text_of_month};
 use cf_books_days::Dated;
 use cf_books_lists::{Layout, Rows};
-use cf_history::Rest;
+use cf_office_history::Rest;
 use std::alloc::{AllocError, Global};
 
 /// Whether a month is closed, in a word.

@@ -3,7 +3,7 @@
 
 ghost use Rattle.std.specs.Prelude.{◌≡◌, ◌≤◌, ◌<◌, length, IfOk};
 ghost use Rattle.cf_base.specs.Limits.{last_year};
-ghost use Rattle.cf_book.specs.Watching.{all_posted};
+ghost use Rattle.cf_journal_book.specs.Watching.{all_posted};
 ghost use Rattle.cf_books_days.specs.Gathered.{IsOf};
 ghost use Rattle.cf_books_month.specs.Days.{last_day, month_before, year_before};
 ghost use Rattle.cf_books_month.specs.Sums as spec;
@@ -15,7 +15,7 @@ use cf_base::Month;
 use cf_books_days::{Dated, DaySums, day_sums};
 use cf_calls::LineNumbers;
 use cf_chart::{Chart, RevenueSource};
-use cf_history::Rest;
+use cf_office_history::Rest;
 use cf_statements::{Figures, in_year};
 use std::alloc::{AllocError, Global};
 

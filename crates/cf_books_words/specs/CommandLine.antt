@@ -2,7 +2,7 @@
 use Rattle.std.specs.Prelude.{true, List, [], ◌∷◌, ◌++◌, map, codes}
 use Rattle.clap.specs.Words.{App, Rule, Shape, new_rule}
 use Rattle.clap.specs.Simple.{new_shape}
-use Rattle.cf_words.specs.CommandLine.{flag_rule, option_rule}
+use Rattle.cf_run_words.specs.CommandLine.{flag_rule, option_rule}
 use Rattle.cf_books_words.specs.Options.{option_names}
 
 -- the words are without the program's own name, and ask for no help

@@ -5,9 +5,9 @@ use Rattle.clap.specs.Words.{Row, Text, first_of}
 use Rattle.cf_base.specs.Limits.{last_year}
 use Rattle.cf_base.specs.declared.calendar.Day.{Day}
 use Rattle.cf_base.specs.declared.statement.Kind.TheVariants as kind
-use Rattle.cf_words.specs.Words.{◌>>=◌, is_set, number_in, report_kind_of}
-use Rattle.cf_words.specs.declared.words.ReportKind.{ReportKind}
-use Rattle.cf_words.specs.declared.words.ReportKind.TheVariants.{Look, Classes, Components, Major}
+use Rattle.cf_run_words.specs.Words.{◌>>=◌, is_set, number_in, report_kind_of}
+use Rattle.cf_run_words.specs.declared.words.ReportKind.{ReportKind}
+use Rattle.cf_run_words.specs.declared.words.ReportKind.TheVariants.{Look, Classes, Components, Major}
 use Rattle.cf_books_words.specs.declared.command_word.CommandWord.{CommandWord}
 use Rattle.cf_books_words.specs.declared.command_word.CommandWord.TheVariants as word
 use Rattle.cf_books_words.specs.declared.options.Days.{Days}

@@ -6,7 +6,7 @@ use Rattle.clap.specs.Words.{Row, Text, first_of}
 use Rattle.cf_base.specs.Calendar.{day_of_text, month_of_text}
 use Rattle.cf_base.specs.declared.calendar.Day.{Day}
 use Rattle.cf_base.specs.declared.calendar.Month.{Month}
-use Rattle.cf_words.specs.Words.{is_set, number_in}
+use Rattle.cf_run_words.specs.Words.{is_set, number_in}
 use Rattle.cf_books_words.specs.declared.command_word.CommandWord.{CommandWord}
 use Rattle.cf_books_words.specs.declared.command_word.CommandWord.TheVariants as word
 use Rattle.cf_books_words.specs.declared.options.Days.{Days}

@@ -4,7 +4,7 @@ use Rattle.cf_base.specs.Calendar.{is_call_month, is_day}
 use Rattle.cf_base.specs.Limits.{last_year, most_entries}
 use Rattle.cf_base.specs.declared.calendar.Day.{Day}
 use Rattle.cf_base.specs.declared.calendar.Month.{Month}
-use Rattle.cf_words.specs.Ranges.{IsFrom}
+use Rattle.cf_run_words.specs.Ranges.{IsFrom}
 use Rattle.cf_books_words.specs.declared.words.Command.{Command}
 use Rattle.cf_books_words.specs.declared.words.Command.TheVariants as command
 use Rattle.cf_books_words.specs.declared.words.LedgerFilter.{LedgerFilter}

@@ -8,7 +8,7 @@ ghost use Rattle.cf_books_words.specs.Ranges.{IsFilterInRange, IsInRange, IsLedg
 use crate::options::{Days, is_set, option_from, text_of};
 use crate::words::{Command, DocumentFilter, DocumentKind, LedgerFilter, PostFilter};
 use cf_base::{Day, Kind, LAST_YEAR};
-use cf_words::{ReportKind, number_from, report_kind_named};
+use cf_run_words::{ReportKind, number_from, report_kind_named};
 use clap::ArgMatches;
 
 /// Whether the flag `--csv` was given.

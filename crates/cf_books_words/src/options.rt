@@ -5,13 +5,13 @@ ghost use Rattle.std.specs.List.{list_all, list_any};
 ghost use Rattle.std.specs.Str.{bytes_eq};
 ghost use Rattle.clap.specs.Words.{first_of, found_of, rows_of};
 ghost use Rattle.cf_base.specs.Calendar.{day_of_text, is_call_month, is_day, month_of_text};
-ghost use Rattle.cf_words.specs.Words as read;
+ghost use Rattle.cf_run_words.specs.Words as read;
 ghost use Rattle.cf_books_words.specs.Options as spec;
 ghost use Rattle.cf_books_words.specs.Ranges.{IsAskedDay, IsAskedMonth, IsOptionDay, IsOptionFrom};
 
 use crate::words::WordsRefused;
 use cf_base::{Day, Month, read_day, read_month};
-use cf_words::number_from;
+use cf_run_words::number_from;
 use clap::ArgMatches;
 
 /// The days of `--from` and `--through`, where they are given.

@@ -7,12 +7,12 @@ ghost use Rattle.cf_books_words.specs.CommandLine as line;
 ghost use Rattle.cf_books_words.specs.Parsed.{parsed};
 ghost use Rattle.cf_books_words.specs.Ranges.{IsRequestInRange};
 ghost use Rattle.cf_books_words.specs.Words.{Gives};
-ghost use Rattle.cf_words.specs.CommandLine.{flag_rule, option_rule};
+ghost use Rattle.cf_run_words.specs.CommandLine.{flag_rule, option_rule};
 
 use crate::options::option_names;
 use crate::requests::request_found;
 use cf_base::{Day, Month};
-use cf_words::ReportKind;
+use cf_run_words::ReportKind;
 use clap::error::ErrorKind;
 use clap::{Arg, ArgAction, Command as Parser, Error};
 use std::alloc::{AllocError, Global};

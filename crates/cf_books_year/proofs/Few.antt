@@ -2,7 +2,7 @@
 use Rattle.std.proofs.Common.{◌≡◌, ◌≤◌, ◌+◌, ◌==◌, ℕ, Bool, true, false, if◌then◌else◌, List, [], ◌∷◌, ◌++◌, map, length, arith, length-append}
 use Rattle.std.specs.List.{filter}
 use Rattle.std.proofs.lemmas.List.{length-map}
-use Rattle.cf_articulation.specs.TrialBalances.{fund_accounts, gov_accounts}
+use Rattle.cf_model_articulation.specs.TrialBalances.{fund_accounts, gov_accounts}
 use Rattle.cf_chart.specs.Plan.{Plan}
 use Rattle.cf_chart.specs.declared.rows.Function.{Function}
 use Rattle.cf_chart.specs.declared.rows.RevenueSource.{RevenueSource}

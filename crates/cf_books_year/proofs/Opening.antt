@@ -1,7 +1,7 @@
 -- The trial balance of a year alone balances, where that through the year does and that through the year before.
 use Rattle.std.proofs.Common.{◌≡◌, ◌<◌, ◌+◌, ◌∙◌, ◌+ℤ◌, ◌-ℤ◌, ◌-◌, ℕ, ℤ, pos, Bool, true, false, if◌then◌else◌, List, [], ◌∷◌, sym, ap, arith, add-one, drop, drop-cons, get_or, length}
 use Rattle.std.proofs.lemmas.Int.{ints}
-use Rattle.cf_articulation.specs.TrialBalances.{Balances, fund_accounts, gov_accounts}
+use Rattle.cf_model_articulation.specs.TrialBalances.{Balances, fund_accounts, gov_accounts}
 use Rattle.cf_calls.specs.declared.entry.Entry.{Entry}
 use Rattle.cf_calls.specs.declared.read.Basis.{Basis}
 use Rattle.cf_calls.specs.declared.read.Basis.TheVariants.{Fund as FundBasis, Gov as GovBasis}

@@ -1,7 +1,7 @@
 -- The trial balance of a fiscal year alone, as records: what is had and owed through the year, revenues and expenditures in the year,
 -- and what they begin with (GASB Statement 34).
 use Rattle.std.specs.Prelude.{◌≡◌, ℕ, ◌-◌, nat_lt, ◌==◌, Bool, if◌then◌else◌, ℤ, pos, ◌+ℤ◌, ◌-ℤ◌, unsigned_abs, List, [], ◌∷◌, ◌++◌, codes, decimal, flat_map}
-use Rattle.cf_articulation.specs.TrialBalances.{fund_accounts, gov_accounts}
+use Rattle.cf_model_articulation.specs.TrialBalances.{fund_accounts, gov_accounts}
 use Rattle.cf_base.specs.Amounts.{money_of}
 use Rattle.cf_calls.specs.declared.entry.Entry.{Entry}
 use Rattle.cf_calls.specs.declared.read.Basis.{Basis}

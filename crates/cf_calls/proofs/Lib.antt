@@ -1,2 +1,4 @@
+pub mod Keys
 pub mod KindsFound
 pub mod SameCalls
+pub mod Seen

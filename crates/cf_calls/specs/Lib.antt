@@ -1,5 +1,7 @@
 pub mod Acts
+pub mod Charges
 pub mod Form
+pub mod Keys
 pub mod Kinds
 pub mod Refusals
 pub mod Roles

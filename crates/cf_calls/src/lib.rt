@@ -3,6 +3,7 @@
 
 pub mod acts;
 mod call;
+mod distinct;
 mod entry;
 pub mod items;
 mod kind;
@@ -18,6 +19,7 @@ mod text;
 
 pub use acts::Act;
 pub use call::{Call, Change, Look};
+pub use distinct::are_distinct;
 pub use entry::{Drawn, Entry, entry_of};
 pub use kind::{ActKind, CallRow, Draws};
 pub use list::List;

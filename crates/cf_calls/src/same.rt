@@ -49,7 +49,31 @@ fn same_act(a: &Act, b: &Act) -> bool
         (Act::Interfund(a), Act::Interfund(b)) => a == b,
         (Act::Close(a), Act::Close(b)) => a == b,
         (Act::Lease(a), Act::Lease(b)) => same_lease(a, b),
-        _ => false,
+        (
+            Act::Adopt(_)
+            | Act::Amend(_)
+            | Act::Transfer(_)
+            | Act::Requisition(_)
+            | Act::Withdraw(_)
+            | Act::Order(_)
+            | Act::ChangeOrder(_)
+            | Act::CancelOrder(_)
+            | Act::Voucher(_)
+            | Act::VoidVoucher(_)
+            | Act::Pay(_)
+            | Act::Bill(_)
+            | Act::Collect(_)
+            | Act::Receive(_)
+            | Act::WriteOff(_)
+            | Act::Asset(_)
+            | Act::Issue(_)
+            | Act::PayDue(_)
+            | Act::Leave(_)
+            | Act::Interfund(_)
+            | Act::Close(_)
+            | Act::Lease(_),
+            _,
+        ) => false,
     }
 }
 

@@ -13,7 +13,7 @@ use Rattle.cf_calls.specs.declared.entry.Entry.{Entry}
 use Rattle.cf_calls.specs.declared.items.VoucherItem.{VoucherItem}
 use Rattle.cf_chart.specs.Plan.{Plan, line_of}
 use Rattle.cf_grants.specs.declared.grant.Grant.{Grant}
-use Rattle.cf_lines.specs.Lines.{Hand, bill_line}
+use Rattle.cf_json_lines.specs.Lines.{Hand, bill_line}
 use Rattle.cf_model.specs.Calendar.{document_year, is_year_closed}
 
 -- ---- claim bills: their keys are `claim-` and a number without leading zeros

@@ -6,7 +6,7 @@ ghost use Rattle.cf_calls.specs.declared.entry.Entry.{Entry as AnEntry};
 ghost use Rattle.cf_claims.specs.Claims as spec;
 ghost use Rattle.cf_claims.specs.Kept.{AreKept, IsReadable};
 ghost use Rattle.cf_claims.specs.Marks.{AreMarks};
-ghost use Rattle.cf_members.specs.Parts.{is_plain};
+ghost use Rattle.cf_json_members.specs.Parts.{is_plain};
 ghost use Rattle.cf_model.specs.Step.{IsLegal};
 
 use crate::billed::left_of;
@@ -17,7 +17,7 @@ use cf_calls::acts::NewBill;
 use cf_calls::{Act, Entry};
 use cf_chart::Chart;
 use cf_grants::Grant;
-use cf_lines::put_bill;
+use cf_json_lines::put_bill;
 use std::alloc::{AllocError, Global};
 
 /// Who claims of a grant: a desk, on a day.

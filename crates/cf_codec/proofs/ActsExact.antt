@@ -20,14 +20,14 @@ use Rattle.cf_calls.specs.declared.acts.Period.TheVariants as period
 use Rattle.cf_calls.specs.Form.{IsYear, IsCount, IsAdoptionForm, IsIssueForm, IsLeaseForm, IsVoucherForm, IsPeriodForm, IsActInForm, IsWithinLimits, is_by, is_distinct, is_most, is_period, same_line, same_source, same_number}
 use Rattle.cf_calls.specs.declared.kind.ActKind.{ActKind}
 use Rattle.cf_calls.specs.declared.kind.ActKind.TheVariants as kind
-use Rattle.cf_fields.specs.Formats.{Format, and_then, kept}
-use Rattle.cf_fields.specs.Fields.{byte, half, word, one_of, flag, year, amount, most_amount, signed, month}
+use Rattle.cf_codec_fields.specs.Formats.{Format, and_then, kept}
+use Rattle.cf_codec_fields.specs.Fields.{byte, half, word, one_of, flag, year, amount, most_amount, signed, month}
 use Rattle.cf_calls.specs.Kinds.{kind_of, kind_value, kind_code}
 use Rattle.cf_calls.proofs.KindsFound.{by_code, code_is}
-use Rattle.cf_fields.specs.Kinds.{value_in, kind, moves, move_value, move_code, move_kind}
+use Rattle.cf_codec_fields.specs.Kinds.{value_in, kind, moves, move_value, move_code, move_kind}
 use Rattle.cf_codec.specs.Acts.{source_amount, account_item, line_amounts, source_amounts, account_items, voucher_items, voucher_numbers, principals, adoption, amendment, other_than, transfer, new_requisition, optional_by, optional, new_order, order_change, new_voucher, payment, new_bill, bill_amount, donation, disposal, issue, lease, lease_principals, debt_payment, leave_amount, maturity, fund_move, made, asset_act_by, asset_act, leave_act_by, leave_act, period_by, closed_period, act_bytes, act_fits, act_at, act_for}
-use Rattle.cf_fields.proofs.Exact.{IsBytes, Takes, IsExact, IsWhole, Any, step, last, same, ok_is, then_ok, then_err, kept-exact, converted-exact}
-use Rattle.cf_fields.proofs.FieldsExact.{byte-exact, half-exact, word-exact, one_of-exact, flag-exact, year-exact, amount-exact, most_amount-exact, signed-exact, month-exact}
+use Rattle.cf_codec_fields.proofs.Exact.{IsBytes, Takes, IsExact, IsWhole, Any, step, last, same, ok_is, then_ok, then_err, kept-exact, converted-exact}
+use Rattle.cf_codec_fields.proofs.FieldsExact.{byte-exact, half-exact, word-exact, one_of-exact, flag-exact, year-exact, amount-exact, most_amount-exact, signed-exact, month-exact}
 use Rattle.cf_codec.proofs.ItemsExact.{source_amount-exact, account_item-exact, IsDistinctList, line_amounts-exact, source_amounts-exact, account_items-exact, voucher_items-exact, voucher_numbers-exact, IsRepaymentList, principals-exact}
 
 -- ---- numbers with names

@@ -15,16 +15,16 @@ use Rattle.cf_calls.specs.declared.kind.ActKind.{ActKind}
 use Rattle.cf_calls.specs.declared.kind.ActKind.TheVariants as kind
 use Rattle.cf_calls.specs.declared.kind.Draws.{Draws}
 use Rattle.cf_calls.specs.declared.kind.Draws.TheVariants.{Nothing, Number, Both, Payment}
-use Rattle.cf_fields.specs.Formats.{Format}
-use Rattle.cf_fields.specs.Fields.{half, word, key, day}
+use Rattle.cf_codec_fields.specs.Formats.{Format}
+use Rattle.cf_codec_fields.specs.Fields.{half, word, key, day}
 use Rattle.cf_calls.specs.Kinds.{draws_of, kind_of}
-use Rattle.cf_fields.specs.Kinds.{kind, kind_in, is_of}
+use Rattle.cf_codec_fields.specs.Kinds.{kind, kind_in, is_of}
 use Rattle.cf_codec.specs.Acts.{act_for}
 use Rattle.cf_codec.specs.Entries.{may_be_on, on_for, none_drawn, one_drawn, two_drawn, payment_drawn, drawn_as, drawn_for, entry, entry_in, payload, placed, read_of, HasPayload, BeginsWith, IsDrawnShort, IsOf}
 use Rattle.cf_codec.specs.declared.fault.CodecRefused.{CodecRefused}
 use Rattle.cf_codec.specs.Answers.{Answers}
-use Rattle.cf_fields.proofs.Exact.{IsBytes, IsWhole, Any, step, last, same, whole, ok_is, kept-exact}
-use Rattle.cf_fields.proofs.FieldsExact.{half-exact, word-exact, day-exact, key-exact}
+use Rattle.cf_codec_fields.proofs.Exact.{IsBytes, IsWhole, Any, step, last, same, whole, ok_is, kept-exact}
+use Rattle.cf_codec_fields.proofs.FieldsExact.{half-exact, word-exact, day-exact, key-exact}
 use Rattle.cf_codec.proofs.ActsExact.{kind-exact, ActForm, IsEarly, act-exact}
 
 -- ---- the day

@@ -11,11 +11,11 @@ use Rattle.cf_calls.specs.declared.items.Charge.TheVariants.{Direct, OnOrder}
 use Rattle.cf_calls.specs.declared.items.Liquidation.{Liquidation}
 use Rattle.cf_calls.specs.declared.items.Liquidation.TheVariants.{Lesser, Recorded, Final}
 use Rattle.cf_calls.specs.Form.{IsCount, IsVoucherForm, is_distinct, is_most, is_liquidation_form, is_charge_form, same_line, same_source, same_number, same_order_item, month_number}
-use Rattle.cf_fields.specs.Formats.{Format, kept, list, is_between}
-use Rattle.cf_fields.specs.Fields.{half, word, one_of, flag, amount, most_amount}
+use Rattle.cf_codec_fields.specs.Formats.{Format, kept, list, is_between}
+use Rattle.cf_codec_fields.specs.Fields.{half, word, one_of, flag, amount, most_amount}
 use Rattle.cf_codec.specs.Acts.{line_amount, source_amount, account_item, liquidation_kind, recorded_of, liquidation_by, liquidation, is_on_order, order_of, order_item_of, how_of, charge_by, charge, voucher_item, line_amounts, source_amounts, account_items, voucher_items, voucher_numbers, is_repayment, principals}
-use Rattle.cf_fields.proofs.Exact.{IsExact, IsWhole, Any, step, last, same, kept-exact, list-exact}
-use Rattle.cf_fields.proofs.FieldsExact.{half-exact, word-exact, one_of-exact, flag-exact, amount-exact, most_amount-exact}
+use Rattle.cf_codec_fields.proofs.Exact.{IsExact, IsWhole, Any, step, last, same, kept-exact, list-exact}
+use Rattle.cf_codec_fields.proofs.FieldsExact.{half-exact, word-exact, one_of-exact, flag-exact, amount-exact, most_amount-exact}
 
 pub line_amount-exact : IsWhole line_amount (λ i. is_amount i.amount ≡ true)
 line_amount-exact =

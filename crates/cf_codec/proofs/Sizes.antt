@@ -16,11 +16,11 @@ use Rattle.cf_calls.specs.declared.entry.Entry.{Entry}
 use Rattle.cf_calls.specs.declared.kind.ActKind.{ActKind}
 use Rattle.cf_calls.specs.declared.kind.Draws.{Draws}
 use Rattle.cf_calls.specs.declared.kind.Draws.TheVariants.{Nothing}
-use Rattle.cf_fields.specs.Formats.{Format, number_bytes, kept, each_bytes, each_size, list, field, ◌>>=◌, done}
-use Rattle.cf_fields.specs.Fields.{byte, half, word, flag, year, amount, most_amount}
+use Rattle.cf_codec_fields.specs.Formats.{Format, number_bytes, kept, each_bytes, each_size, list, field, ◌>>=◌, done}
+use Rattle.cf_codec_fields.specs.Fields.{byte, half, word, flag, year, amount, most_amount}
 use Rattle.cf_calls.specs.Kinds.{draws_of, kind_of}
-use Rattle.cf_fields.specs.Kinds.{kind, kind_in}
-use Rattle.cf_fields.specs.Fields.{key}
+use Rattle.cf_codec_fields.specs.Kinds.{kind, kind_in}
+use Rattle.cf_codec_fields.specs.Fields.{key}
 use Rattle.cf_codec.specs.Acts.{line_amount, source_amount, account_item, charge, voucher_item, line_amounts, source_amounts, account_items, voucher_items, voucher_numbers, principals, adoption, new_requisition, optional, new_order, new_voucher, payment, issue, lease, lease_principals, act_bytes, act_size, act_for}
 use Rattle.cf_codec.specs.Entries.{drawn_as, drawn_for, on_for, entry, payload}
 

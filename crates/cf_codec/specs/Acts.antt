@@ -39,9 +39,9 @@ use Rattle.cf_calls.specs.declared.items.Liquidation.TheVariants.{Lesser, Record
 use Rattle.cf_calls.specs.Form.{is_distinct, is_period, month_number, same_line, same_source, same_number, same_order_item}
 use Rattle.cf_calls.specs.declared.kind.ActKind.{ActKind}
 use Rattle.cf_calls.specs.declared.kind.ActKind.TheVariants as kind
-use Rattle.cf_fields.specs.Formats.{Format, and_then, kept, list, field, ◌>>=◌, done}
-use Rattle.cf_fields.specs.Fields.{byte, half, word, one_of, flag, year, amount, most_amount, signed, month}
-use Rattle.cf_fields.specs.Kinds.{move_kind}
+use Rattle.cf_codec_fields.specs.Formats.{Format, and_then, kept, list, field, ◌>>=◌, done}
+use Rattle.cf_codec_fields.specs.Fields.{byte, half, word, one_of, flag, year, amount, most_amount, signed, month}
+use Rattle.cf_codec_fields.specs.Kinds.{move_kind}
 
 -- ---- what stands in lists
 

@@ -10,9 +10,9 @@ use Rattle.cf_calls.specs.declared.kind.ActKind.TheVariants as kind
 use Rattle.cf_calls.specs.declared.kind.Draws.{Draws}
 use Rattle.cf_calls.specs.declared.kind.Draws.TheVariants.{Nothing, Number, Both, Payment}
 use Rattle.cf_calls.specs.Kinds.{draws_of, kind_of}
-use Rattle.cf_fields.specs.Formats.{Format, kept, field, ◌>>=◌, done}
-use Rattle.cf_fields.specs.Fields.{half, word, key, day}
-use Rattle.cf_fields.specs.Kinds.{kind_in, is_of}
+use Rattle.cf_codec_fields.specs.Formats.{Format, kept, field, ◌>>=◌, done}
+use Rattle.cf_codec_fields.specs.Fields.{half, word, key, day}
+use Rattle.cf_codec_fields.specs.Kinds.{kind_in, is_of}
 use Rattle.cf_codec.specs.Acts.{act_for}
 
 -- a bond is issued, and a lease begins, on a day from 1 to 28 of a month

@@ -2,18 +2,18 @@
 
 ghost use Rattle.std.specs.Prelude.{◌≡◌, Some, refl};
 ghost use Rattle.cf_calls.specs.Form.{same_line, same_source, same_number, same_order_item};
-ghost use Rattle.cf_fields.specs.Readings.{Gives};
+ghost use Rattle.cf_codec_fields.specs.Readings.{Gives};
 ghost use Rattle.cf_codec.specs.Acts as spec;
 ghost use Rattle.cf_codec.specs.Acts.{line_amount, source_amount, account_item, voucher_item};
-ghost use Rattle.cf_distinct.specs.Charges.{charged_item, same_charged};
-ghost use Rattle.cf_fields.specs.Fields.{word, most_amount};
-ghost use Rattle.cf_fields.specs.Puts.{HasRoom, Puts};
+ghost use Rattle.cf_calls.specs.Charges.{charged_item, same_charged};
+ghost use Rattle.cf_codec_fields.specs.Fields.{word, most_amount};
+ghost use Rattle.cf_codec_fields.specs.Puts.{HasRoom, Puts};
 
 use cf_calls::items::{AccountItem, Charge, LineAmount, Liquidation, SourceAmount, VoucherItem};
-use cf_fields::Refused;
-use cf_fields::lists::{DistinctElement, Element};
-use cf_fields::put::{put_byte, put_flag, put_half, put_long, put_word};
-use cf_fields::take::{
+use cf_codec_fields::Refused;
+use cf_codec_fields::lists::{DistinctElement, Element};
+use cf_codec_fields::put::{put_byte, put_flag, put_half, put_long, put_word};
+use cf_codec_fields::take::{
     take_amount, take_flag, take_half, take_most_amount, take_one_of, take_word,
 };
 

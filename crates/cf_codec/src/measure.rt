@@ -11,7 +11,7 @@ use crate::items::{
 use cf_base::Day;
 use cf_calls::acts::{Adoption, AssetAct, LeaveAct, Period};
 use cf_calls::{Act, Draws, Entry};
-use cf_fields::lists::list_len;
+use cf_codec_fields::lists::list_len;
 
 fn adoption_len(adoption: &Adoption) -> u64
     requires { IsAdoptionForm adoption.now }

@@ -4,7 +4,7 @@ ghost use Rattle.std.specs.Prelude.{◌≡◌, ◌<◌, true, length};
 ghost use Rattle.cf_calls.specs.Form.{IsActInForm, IsAdoptionForm, is_period};
 ghost use Rattle.cf_codec.specs.Acts as spec;
 ghost use Rattle.cf_calls.specs.Kinds.{kind_of};
-ghost use Rattle.cf_fields.specs.Puts.{HasRoom, Puts};
+ghost use Rattle.cf_codec_fields.specs.Puts.{HasRoom, Puts};
 
 use crate::items::{
     AccountElement, LineElement, Principal, SourceElement, VoucherElement, VoucherNumber,
@@ -16,8 +16,8 @@ use cf_calls::acts::{
     LeaveAmount, LeaveMaturity, LineTransfer, NewBill, NewLease, NewOrder, NewVoucher, OrderChange,
     Period,
 };
-use cf_fields::lists::{Element, put_list};
-use cf_fields::put::{
+use cf_codec_fields::lists::{Element, put_list};
+use cf_codec_fields::put::{
     put_byte, put_flag, put_half, put_long, put_month, put_move_kind, put_signed, put_word,
 };
 

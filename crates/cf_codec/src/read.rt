@@ -3,18 +3,18 @@
 ghost use Rattle.std.specs.Prelude.{◌≡◌, ◌++◌, ℕ, List, length, IfOk, Ok};
 ghost use Rattle.cf_calls.specs.declared.entry.Entry.{Entry};
 ghost use Rattle.cf_codec.specs.Answers.{Answers};
-ghost use Rattle.cf_fields.specs.Readings.{Gives};
+ghost use Rattle.cf_codec_fields.specs.Readings.{Gives};
 ghost use Rattle.cf_codec.specs.Entries as spec;
 ghost use Rattle.cf_codec.specs.Entries.{BeginsWith, HasPayload, IsOf, payload, read_of};
-ghost use Rattle.cf_fields.specs.Kinds.{kind_in};
+ghost use Rattle.cf_codec_fields.specs.Kinds.{kind_in};
 
 use crate::fault::{CodecFault, CodecRefused};
 use crate::take_acts::take_act;
 use cf_base::Day;
 use cf_calls::{ActKind, Change, Drawn, Draws, Entry};
-use cf_fields::Refused;
-use cf_fields::kind::is_of;
-use cf_fields::take::{faulty, take_day, take_half, take_key, take_kind, take_word};
+use cf_codec_fields::Refused;
+use cf_codec_fields::kind::is_of;
+use cf_codec_fields::take::{faulty, take_day, take_half, take_key, take_kind, take_word};
 use std::alloc::Global;
 
 /// Whether an entry of a kind may be dated so: a bond is issued, and a lease begins, on one of the first 28 days of a month.

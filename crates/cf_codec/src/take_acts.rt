@@ -6,9 +6,9 @@ ghost use Rattle.cf_base.specs.Limits.{last_year};
 ghost use Rattle.cf_calls.specs.Form.{is_period, month_number};
 ghost use Rattle.cf_calls.specs.declared.acts.Act.TheVariants as act;
 ghost use Rattle.cf_codec.specs.Acts as spec;
-ghost use Rattle.cf_fields.specs.Readings.{Gives};
-ghost use Rattle.cf_fields.specs.Formats.{kept};
-ghost use Rattle.cf_fields.specs.Fields.{byte, word};
+ghost use Rattle.cf_codec_fields.specs.Readings.{Gives};
+ghost use Rattle.cf_codec_fields.specs.Formats.{kept};
+ghost use Rattle.cf_codec_fields.specs.Fields.{byte, word};
 
 use crate::items::{
     AccountElement, LineElement, Principal, SourceElement, VoucherElement, VoucherNumber,
@@ -21,9 +21,9 @@ use cf_calls::acts::{
 };
 use cf_calls::items::Principals;
 use cf_calls::{Act, ActKind};
-use cf_fields::Refused;
-use cf_fields::lists::{Element, take_distinct, take_list};
-use cf_fields::take::{
+use cf_codec_fields::Refused;
+use cf_codec_fields::lists::{Element, take_distinct, take_list};
+use cf_codec_fields::take::{
     faulty, or_faulty, take_amount, take_between, take_byte, take_flag, take_half, take_month,
     take_most_amount, take_move_kind, take_one_of, take_signed, take_word, take_year,
 };

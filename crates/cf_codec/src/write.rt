@@ -4,13 +4,13 @@ ghost use Rattle.std.specs.Prelude.{◌≡◌, ◌+◌, ◌≤◌, ◌++◌, len
 ghost use Rattle.cf_calls.specs.Form.{IsEntryInForm};
 ghost use Rattle.cf_codec.specs.Entries.{HasPayload, IsDrawnShort, drawn_as, payload};
 ghost use Rattle.cf_codec.specs.Entries as spec;
-ghost use Rattle.cf_fields.specs.Puts.{HasRoom, Puts};
+ghost use Rattle.cf_codec_fields.specs.Puts.{HasRoom, Puts};
 
 use crate::fault::NoMemory;
 use crate::measure::entry_len;
 use crate::put_acts::put_act;
 use cf_calls::{Drawn, Draws, Entry};
-use cf_fields::put::{put_day, put_half, put_key, put_kind, put_word};
+use cf_codec_fields::put::{put_day, put_half, put_key, put_kind, put_word};
 
 /// Writes drawn numbers.
 fn put_drawn(out: &mut Vec<u8>, draws: Draws, drawn: Drawn)

@@ -5,8 +5,8 @@ use Rattle.std.proofs.lemmas.Int.{ints}
 use Rattle.cf_debt.specs.declared.rows.LeaveRow.{LeaveRow}
 use Rattle.cf_debt.specs.RegisterView.{AreLeave, AreLeft}
 use Rattle.cf_debt.specs.Rows.{view_leave}
-use Rattle.cf_rows.specs.Pairs.{Pairs, PutsAmount, amount_at}
-use Rattle.cf_rows.specs.Years.{sum_through}
+use Rattle.cf_register_parts.specs.Pairs.{Pairs, PutsAmount, amount_at}
+use Rattle.cf_register_parts.specs.Years.{sum_through}
 use Rattle.cf_model.specs.Leave.{LeaveChange, leave_left, leave_through}
 use Rattle.cf_model.specs.Sums.{through}
 use Rattle.cf_model.proofs.Totals.{sum_append}

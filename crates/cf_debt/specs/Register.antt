@@ -19,7 +19,7 @@ use Rattle.cf_calls.specs.declared.refusal.Refusal.TheVariants as refusal
 use Rattle.cf_model.specs.RegisterRules.{due_day, unpaid}
 use Rattle.cf_model.specs.Registers.{Registers, no_registers}
 use Rattle.cf_model.specs.Results.{bond_at, payment_number}
-use Rattle.cf_rows.specs.Pairs.{Pairs, has_value}
+use Rattle.cf_register_parts.specs.Pairs.{Pairs, has_value}
 
 -- what the registers have of debt
 pub record Debts : Type 0 where

@@ -8,8 +8,8 @@ use Rattle.cf_debt.specs.declared.rows.BondRow.{BondRow}
 use Rattle.cf_debt.specs.Register.{Register}
 use Rattle.cf_debt.specs.Rows.{AreSmallDues, IsRow, view_bonds, view_leave, view_payments}
 use Rattle.cf_debt.specs.Rows.{lease_part}
-use Rattle.cf_rows.specs.Pairs.{Pairs, amount_at}
-use Rattle.cf_rows.specs.Years.{sum_of, sum_through}
+use Rattle.cf_register_parts.specs.Pairs.{Pairs, amount_at}
+use Rattle.cf_register_parts.specs.Years.{sum_of, sum_through}
 use Rattle.cf_model.specs.Bonds.{Bond, Due, coupon, earned, paid_dues}
 use Rattle.cf_model.specs.Leave.{LeaveChange, leave_left, leave_through}
 

@@ -17,7 +17,7 @@ use cf_base::Day;
 use cf_calls::acts::{LeaveAct, Period};
 use cf_calls::{Act, Drawn};
 use cf_chart::Chart;
-use cf_rows::{reserve_in, year_of_day};
+use cf_register_parts::{reserve_in, year_of_day};
 use std::alloc::AllocError;
 
 impl Debt {

@@ -19,7 +19,7 @@ use crate::schedule::next_of;
 use cf_base::Day;
 use cf_calls::{Act, Drawn};
 use cf_chart::Chart;
-use cf_rows::{NumberPair, YEARS, amount_at, month_at, year_at};
+use cf_register_parts::{NumberPair, YEARS, amount_at, month_at, year_at};
 use std::alloc::Global;
 use std::collections::BTreeMap;
 use std::marker::Model;

@@ -14,7 +14,7 @@ use crate::rows::{BondRow, Payment, Terms};
 use crate::schedule::next_of;
 use cf_calls::{Read, Shown};
 use cf_chart::Chart;
-use cf_rows::difference;
+use cf_register_parts::difference;
 
 impl Debt {
     /// What a look at a bond or at the leave of a fund's department shows: `None` exactly where there is no such bond,

@@ -18,7 +18,7 @@ use cf_base::{Day, Month};
 use cf_calls::acts::{DebtPayment, LeaveAct, Period};
 use cf_calls::{Act, DocumentKind, DocumentState, Refusal};
 use cf_chart::Chart;
-use cf_rows::{is_before, month_at};
+use cf_register_parts::{is_before, month_at};
 
 impl Debt {
     /// The first rule of the register that an act breaks: a bond with nothing left to pay, a payment that isn't due

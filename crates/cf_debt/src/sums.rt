@@ -7,7 +7,7 @@ ghost use Rattle.cf_model.specs.Items as items;
 
 use crate::debt::Debt;
 use cf_chart::Chart;
-use cf_rows::{difference, total_of, total_through, years_to};
+use cf_register_parts::{difference, total_of, total_through, years_to};
 
 /// What bonds add to the change of a fiscal year, in cents.
 #[derive(Clone, Copy)]

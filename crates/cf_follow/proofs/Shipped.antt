@@ -12,9 +12,9 @@ use Rattle.cf_follow.specs.declared.end.FollowEnd.TheVariants.{StreamFault}
 use Rattle.cf_calls.specs.declared.entry.Entry.{Entry}
 use Rattle.cf_journal.specs.Records.{record_of, records_of, of_length}
 use Rattle.cf_journal.proofs.RecordLaws.{records_front, records_none}
-use Rattle.cf_stream.specs.Streams.{HasFrame, head_of, HeadFault, RecordFault, TextFault}
-use Rattle.cf_stream.proofs.Lists.{get_take, get_drop, get_first, split_same, word_same, long_same}
-use Rattle.cf_stream.proofs.Records.{head_same, records_part}
+use Rattle.cf_journal_stream.specs.Streams.{HasFrame, head_of, HeadFault, RecordFault, TextFault}
+use Rattle.cf_journal_stream.proofs.Lists.{get_take, get_drop, get_first, split_same, word_same, long_same}
+use Rattle.cf_journal_stream.proofs.Records.{head_same, records_part}
 use Rattle.cf_follow.specs.Admitting.{Office}
 use Rattle.cf_follow.specs.Following.{FollowEnds, Following, HeadEnds, IsFrameOf, Stops}
 use Rattle.cf_follow.specs.Laws.{IsBehind, IsShipped, IsCopy}

@@ -4,8 +4,8 @@ use Rattle.std.specs.Io.KnownBytes.{Consumes}
 use Rattle.cf_calls.specs.declared.entry.Entry.{Entry}
 use Rattle.cf_codec.specs.Entries.{payload}
 use Rattle.cf_journal.specs.Records.{records_of}
-use Rattle.cf_stream.specs.Streams.{HasFrame, HeadFault, HeadPart, RecordFault, RecordPart, most_chart, head_of, frame_of}
-use Rattle.cf_stream.specs.Readings.{ReadsHead}
+use Rattle.cf_journal_stream.specs.Streams.{HasFrame, HeadFault, HeadPart, RecordFault, RecordPart, most_chart, head_of, frame_of}
+use Rattle.cf_journal_stream.specs.Readings.{ReadsHead}
 use Rattle.cf_follow.specs.Admitting.{Office, Fails}
 use Rattle.cf_follow.specs.declared.end.FollowEnd.{FollowEnd}
 use Rattle.cf_follow.specs.declared.end.FollowEnd.TheVariants.{Done, ReadFault, NoMemory, StreamFault, OtherChart, Gap, Forked, EntryRefused, DiskFault}

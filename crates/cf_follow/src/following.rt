@@ -4,8 +4,8 @@ ghost use Rattle.std.specs.Prelude.{◌≡◌, ◌≢◌, ◌≤◌, ◌+◌, �
 ghost use Rattle.cf_base.specs.Causes.{Rose};
 ghost use Rattle.cf_base.specs.Limits.{most_entries};
 ghost use Rattle.cf_calls.specs.declared.entry.Entry.{Entry as EntryOf};
-ghost use Rattle.cf_stream.specs.Readings.{ReadsHead};
-ghost use Rattle.cf_stream.specs.Streams.{most_chart};
+ghost use Rattle.cf_journal_stream.specs.Readings.{ReadsHead};
+ghost use Rattle.cf_journal_stream.specs.Streams.{most_chart};
 ghost use Rattle.cf_follow.specs.Admitting.{office};
 ghost use Rattle.cf_follow.specs.Following.{DifferAt, FollowEnds, HeadEnds, failed_in};
 ghost use Rattle.cf_follow.specs.Laws.{IsBehind, IsCopy, IsShipped};
@@ -15,7 +15,7 @@ use crate::end::FollowEnd;
 use crate::entry::{Place, follow_entry};
 use crate::follower::Follower;
 use cf_base::Source;
-use cf_stream::{Reader, Unread, read_frame, read_head};
+use cf_journal_stream::{Reader, Unread, read_frame, read_head};
 use std::alloc::Global;
 
 /// The first place where two texts differ, or the shorter one's end; `None` where they are the same.

@@ -10,8 +10,8 @@ use Rattle.cf_budget.proofs.Rows.{plus_zero}
 use Rattle.cf_calls.specs.declared.entry.Entry.{Entry}
 use Rattle.cf_chart.specs.Plan.{Plan}
 use Rattle.cf_model.specs.Stripes.{entry_touches}
-use Rattle.cf_names.specs.Closing.{HasFirst}
-use Rattle.cf_names.specs.Lists.{entries_of, tie_at}
+use Rattle.cf_hall_names.specs.Closing.{HasFirst}
+use Rattle.cf_hall_names.specs.Lists.{entries_of, tie_at}
 use Rattle.cf_registers.specs.Moved.{AreTablesOf, row_of}
 use Rattle.cf_turns.specs.Lists.{TaggedEntry, count_of}
 use Rattle.cf_turns.specs.States.{PassState}

@@ -4,7 +4,7 @@ use Rattle.std.proofs.lemmas.List.Elements.{All-cons, All-head, All-tail, All-ma
 use Rattle.cf_turns.specs.Lists.{TaggedEntry, count_of, places_of}
 use Rattle.cf_turns.specs.States.{PassState, ReceiptsState}
 use Rattle.cf_turns.proofs.Numbers.{once_more}
-use Rattle.cf_names.specs.Closing.{AreApart, AreReceiptsOf, Closes, RoseBy, accepted_of, failed_calls, faults_in, numbers_of, receipts_of}
+use Rattle.cf_hall_names.specs.Closing.{AreApart, AreReceiptsOf, Closes, RoseBy, accepted_of, failed_calls, faults_in, numbers_of, receipts_of}
 use Rattle.cf_hall.proofs.Counting.{places_many, each_once}
 
 map_push : {A B : Type 0} (f : A → B) (xs : List A) (x : A) → map f (xs ++ x ∷ []) ≡ map f xs ++ f x ∷ []

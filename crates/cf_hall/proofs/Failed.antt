@@ -4,8 +4,8 @@ use Rattle.std.specs.List.{Contains}
 use Rattle.std.proofs.lemmas.Bool.Decides.{nat_tests}
 use Rattle.std.proofs.lemmas.List.Elements.{All-cons, All-head, All-tail, Contains-append_cases, Contains-append_left, Contains-append_right, Contains-push, Contains-push_cases}
 use Rattle.cf_calls.specs.declared.call.Call.{Call}
-use Rattle.cf_names.specs.Closing.{failed_calls}
-use Rattle.cf_names.specs.Lists.{calls_in}
+use Rattle.cf_hall_names.specs.Closing.{failed_calls}
+use Rattle.cf_hall_names.specs.Lists.{calls_in}
 use Rattle.cf_turns.specs.Lists.{TaggedCall, calls_of, count_of}
 use Rattle.cf_turns.specs.States.{PassState}
 

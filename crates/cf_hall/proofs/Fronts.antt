@@ -4,9 +4,9 @@ use Rattle.std.specs.List.{Contains}
 use Rattle.std.proofs.lemmas.List.{take-append-drop, length-take}
 use Rattle.std.proofs.lemmas.List.Elements.{Contains-append_left, Contains-push}
 use Rattle.std.proofs.Math.Seq.{take-append_seam, take-length}
-use Rattle.cf_book.specs.Books.{IsInHand, RecoversNear}
-use Rattle.cf_book.specs.DurableState.{DurableState}
-use Rattle.cf_book.specs.Settling.{Settles, WouldAdd, doubt_by, next_doubt}
+use Rattle.cf_journal_book.specs.Books.{IsInHand, RecoversNear}
+use Rattle.cf_journal_book.specs.DurableState.{DurableState}
+use Rattle.cf_journal_book.specs.Settling.{Settles, WouldAdd, doubt_by, next_doubt}
 use Rattle.cf_calls.specs.declared.call.Call.{Call}
 use Rattle.cf_calls.specs.declared.call.Call.TheVariants as call
 use Rattle.cf_calls.specs.declared.call.Change.{Change}
@@ -19,7 +19,7 @@ use Rattle.cf_calls.specs.declared.reply.Verdict.TheVariants.{Accept, Repeat, Re
 use Rattle.cf_chart.specs.Plan.{Plan}
 use Rattle.cf_disk.specs.Moments.{AtEachMoment}
 use Rattle.cf_model.specs.Step.{next_by, next_of, verdict_of}
-use Rattle.cf_names.specs.Lists.{calls_in}
+use Rattle.cf_hall_names.specs.Lists.{calls_in}
 use Rattle.cf_turns.specs.Lists.{TaggedCall}
 use Rattle.cf_hall.specs.Fronts.{IsKeptSince, IsUnacknowledged, KeptSince, RecoversToFrontAnd}
 use Rattle.cf_hall.specs.Passes.{failed_after}

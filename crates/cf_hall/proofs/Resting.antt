@@ -7,7 +7,7 @@ use Rattle.cf_budget.proofs.Rows.{plus_zero}
 use Rattle.cf_chart.specs.Plan.{Plan}
 use Rattle.cf_model.specs.Stripes.{stripe_of}
 use Rattle.cf_turns.specs.States.{PassState}
-use Rattle.cf_names.specs.Lists.{tie_at}
+use Rattle.cf_hall_names.specs.Lists.{tie_at}
 use Rattle.cf_hall.specs.Standing.{IsStripe}
 use Rattle.cf_hall.specs.TakenState.{IsTakenStripe, AreTakenStripes}
 

@@ -11,12 +11,12 @@ use Rattle.cf_calls.specs.declared.reply.Verdict.{Verdict}
 use Rattle.cf_calls.specs.declared.reply.Verdict.TheVariants.{Accept, Repeat, Refuse}
 use Rattle.cf_chart.specs.Plan.{Plan}
 use Rattle.cf_model.specs.Step.{IsLegal, body_of, next_of, verdict_of}
-use Rattle.cf_book.specs.DurableState.{DurableState}
-use Rattle.cf_book.specs.Settling.{Settles, doubt_by, next_doubt}
-use Rattle.cf_names.specs.Closing.{RoseBy}
-use Rattle.cf_names.specs.Lists.{entries_of}
-use Rattle.cf_names.specs.Telling.{IsAccepted, Reads, Tells}
-use Rattle.cf_names.proofs.Entries.{entries_length}
+use Rattle.cf_journal_book.specs.DurableState.{DurableState}
+use Rattle.cf_journal_book.specs.Settling.{Settles, doubt_by, next_doubt}
+use Rattle.cf_hall_names.specs.Closing.{RoseBy}
+use Rattle.cf_hall_names.specs.Lists.{entries_of}
+use Rattle.cf_hall_names.specs.Telling.{IsAccepted, Reads, Tells}
+use Rattle.cf_hall_names.proofs.Entries.{entries_length}
 use Rattle.cf_turns.specs.Lists.{TaggedCall, TaggedEntry, longer}
 use Rattle.cf_turns.specs.States.{PassState}
 use Rattle.cf_turns.proofs.Beginnings.{IsPrefix-shorter}

@@ -18,15 +18,15 @@ use Rattle.cf_model.proofs.Touched.{numbers_stay_after}
 use Rattle.cf_registers.specs.Lines.{LendsTouched}
 use Rattle.cf_registers.specs.Moved.{AreTablesOf, row_of}
 use Rattle.cf_office.proofs.Tied.{row_push}
-use Rattle.cf_book.specs.Archives.{IsOwed}
+use Rattle.cf_journal_book.specs.Archives.{IsOwed}
 use Rattle.cf_turns.specs.Lists.{TaggedEntry}
 use Rattle.cf_turns.specs.States.{PassState}
 use Rattle.cf_turns.specs.Touching.{touch_count}
-use Rattle.cf_names.specs.Following.{Follows, AreCounts, AreCountsWith, AreTaken, AllFollow}
-use Rattle.cf_names.specs.Lists.{entries_of, tie_at, total_at}
+use Rattle.cf_hall_names.specs.Following.{Follows, AreCounts, AreCountsWith, AreTaken, AllFollow}
+use Rattle.cf_hall_names.specs.Lists.{entries_of, tie_at, total_at}
 use Rattle.cf_hall.specs.TakenState.{IsTakenStripe, AreTakenStripes, AllSeen}
-use Rattle.cf_names.proofs.Eight.{eight}
-use Rattle.cf_names.proofs.Entries.{entries_append, entries_push}
+use Rattle.cf_hall_names.proofs.Eight.{eight}
+use Rattle.cf_hall_names.proofs.Entries.{entries_append, entries_push}
 
 -- ---- lists of entries with passes
 

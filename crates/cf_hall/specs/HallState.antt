@@ -1,18 +1,18 @@
 -- The book of a hall, and how a call changes its list.
 use Rattle.std.specs.Prelude.{◌≡◌, ◌⊎◌, ℕ, ◌≤◌, Bool, IfSome, IsTrue, List, [], ◌∷◌, ◌++◌, length, Option, None}
 use Rattle.atomic_table.specs.Seated.{TableId}
-use Rattle.cf_book.specs.DurableState.{DurableBook}
+use Rattle.cf_journal_book.specs.DurableState.{DurableBook}
 use Rattle.cf_budget.specs.Tables.{Tables, has_line}
 use Rattle.cf_budget.specs.declared.changes.LineChange.{LineChange}
 use Rattle.cf_calls.specs.declared.entry.Entry.{Entry}
 use Rattle.cf_chart.specs.Plan.{Plan}
-use Rattle.cf_names.specs.Closing.{RoseBy}
-use Rattle.cf_names.specs.Lists.{calls_in, entries_of}
-use Rattle.cf_names.specs.Shares.{TotalsState}
+use Rattle.cf_hall_names.specs.Closing.{RoseBy}
+use Rattle.cf_hall_names.specs.Lists.{calls_in, entries_of}
+use Rattle.cf_hall_names.specs.Shares.{TotalsState}
 use Rattle.cf_registers.specs.Lines.{LendsTouched}
 use Rattle.cf_turns.specs.Lists.{TaggedEntry}
 use Rattle.cf_turns.specs.States.{RecorderState}
-use Rattle.cf_book.specs.Archives.{IsOwed}
+use Rattle.cf_journal_book.specs.Archives.{IsOwed}
 use Rattle.cf_hall.specs.Fronts.{IsKeptSince, IsUnacknowledged}
 
 -- what contracts see of a hall that is shared

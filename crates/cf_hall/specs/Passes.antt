@@ -4,7 +4,7 @@ use Rattle.atomic_table.specs.Seated.{TableId}
 use Rattle.cf_calls.specs.declared.call.Call.{Call}
 use Rattle.cf_calls.specs.declared.reply.Posted.{Posted}
 use Rattle.cf_calls.specs.declared.reply.Posted.TheVariants as posted
-use Rattle.cf_names.specs.Shares.{SharesState}
+use Rattle.cf_hall_names.specs.Shares.{SharesState}
 use Rattle.cf_turns.specs.Lists.{TaggedCall, TaggedEntry, longer}
 use Rattle.cf_turns.specs.States.{PassState}
 

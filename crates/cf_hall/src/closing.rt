@@ -4,13 +4,13 @@ ghost use Rattle.std.specs.Prelude.{◌≡◌, ◌+◌, ◌<◌, ◌≤◌, ◌+
 ghost use Rattle.std.specs.List.{Contains};
 ghost use Rattle.std.specs.Vec.{vec_len, vec_capacity};
 ghost use Rattle.cf_calls.specs.declared.call.Call.{Call as CallOf};
-ghost use Rattle.cf_names.specs.Lists.{calls_in};
+ghost use Rattle.cf_hall_names.specs.Lists.{calls_in};
 ghost use mathlib.Core.List.{IsPrefix};
-ghost use Rattle.cf_names.specs.Closing.{AreApart, Closes, accepted_of, failed_calls, faults_in, receipts_of};
+ghost use Rattle.cf_hall_names.specs.Closing.{AreApart, Closes, accepted_of, failed_calls, faults_in, receipts_of};
 ghost use Rattle.cf_turns.specs.Lists.{calls_of, count_of, places_of};
 
 use crate::pass::HallPass;
-use cf_names::{City, Shares, Totals};
+use cf_hall_names::{City, Shares, Totals};
 use cf_turns::{Receipts, Recorder, Turns};
 
 /// A hall that was closed: the length of its history, and its disk.

@@ -2,8 +2,8 @@
 
 ghost use Rattle.std.specs.Prelude.{◌≡◌, ◌+◌, ◌<◌, ◌≤◌, ℕ, [], length, map, All};
 ghost use Rattle.std.specs.Vec.{vec_len, vec_capacity};
-ghost use Rattle.cf_names.specs.Closing.{HasFirst, IsFreshPass, receipts_of};
-ghost use Rattle.cf_names.specs.Lists.{entries_of};
+ghost use Rattle.cf_hall_names.specs.Closing.{HasFirst, IsFreshPass, receipts_of};
+ghost use Rattle.cf_hall_names.specs.Lists.{entries_of};
 ghost use Rattle.cf_hall.specs.Endings.{HallEnds};
 ghost use Rattle.cf_hall.specs.OpeningNames.{name_at};
 
@@ -13,10 +13,10 @@ use crate::opening::{Opening, begin, open_ties, record_all};
 use crate::pass::HallPass;
 use crate::shared::Shared;
 use crate::taken::Taken;
-use cf_book::Book;
+use cf_journal_book::Book;
 use cf_chart::Chart;
 use cf_disk::Disk;
-use cf_names::{City, Shares, Totals};
+use cf_hall_names::{City, Shares, Totals};
 use cf_turns::Receipts;
 
 /// A hall that is open. What threads share stands apart from the rest, which its owner keeps.

@@ -4,7 +4,7 @@ ghost use Rattle.std.specs.Prelude.{◌≡◌, []};
 ghost use mathlib.Core.List.{IsPrefix};
 ghost use Rattle.cf_turns.specs.Lists.{longer};
 
-use cf_names::{City, Shares};
+use cf_hall_names::{City, Shares};
 use cf_turns::{Pass, Recorder, Turns};
 use std::marker::Model;
 

@@ -8,7 +8,7 @@ use crate::stripe::Stripe;
 use crate::taken::{Stripes, Taken};
 use cf_calls::Call;
 use cf_chart::Chart;
-use cf_names::City;
+use cf_hall_names::City;
 use cf_office::taken_stripes;
 use std::sync::{Condvar, Mutex, Wait};
 

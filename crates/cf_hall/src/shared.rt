@@ -2,7 +2,7 @@
 
 ghost use Rattle.std.specs.Prelude.{◌≡◌, ◌≤◌, None, [], length};
 ghost use Rattle.cf_calls.specs.Form.{IsCallInForm};
-ghost use Rattle.cf_names.specs.Telling.{Tells};
+ghost use Rattle.cf_hall_names.specs.Telling.{Tells};
 
 use crate::book::HallBook;
 use crate::gate::Gate;
@@ -12,7 +12,7 @@ use crate::taken::Taken;
 use cf_calls::{Call, Posted};
 use cf_chart::Chart;
 use cf_disk::Disk;
-use cf_names::City;
+use cf_hall_names::City;
 use cf_turns::{Pass, Turns};
 use std::alloc::Global;
 use std::marker::Model;

@@ -1,7 +1,7 @@
 //! A stripe of control lines.
 
 use cf_budget::LineTable;
-use cf_names::{City, OfStripe};
+use cf_hall_names::{City, OfStripe};
 use cf_turns::Tie;
 use std::marker::Model;
 

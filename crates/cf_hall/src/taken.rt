@@ -2,12 +2,12 @@
 
 ghost use Rattle.std.specs.Prelude.{◌≡◌, ◌<◌, ℕ, None, Some, is_some};
 ghost use Rattle.cf_budget.specs.Tables.{table_of, has_stripe};
-ghost use Rattle.cf_names.specs.Lists.{tie_at};
+ghost use Rattle.cf_hall_names.specs.Lists.{tie_at};
 ghost use Rattle.cf_hall.specs.Standing.{IsStripe, PutsTable};
 
 use crate::stripe::Stripe;
 use cf_budget::Lines;
-use cf_names::{City, OfStripe, Ties};
+use cf_hall_names::{City, OfStripe, Ties};
 use cf_office::{PreparedLines, apply_lines};
 use cf_turns::Tie;
 use std::marker::Model;

@@ -2,8 +2,8 @@
 use Rattle.std.proofs.Common.{◌≡◌, ◌⊎◌, ℕ, List, [], ◌∷◌, ◌++◌, drop, get_or, length, Result, Ok, Err, inl, inr, arith, sym, ap, refl, ◌∙◌, append_assoc}
 use Rattle.httparse.specs.Grammar.{RequestHead, print_request, ReadsRequest, EndsInTarget}
 use Rattle.httparse.proofs.GrammarLemmas.{request_unique}
-use Rattle.cf_heads.specs.declared.fields.Refusal.{Refusal}
-use Rattle.cf_heads.specs.Heads.{heading_of}
+use Rattle.cf_http_heads.specs.declared.fields.Refusal.{Refusal}
+use Rattle.cf_http_heads.specs.Heads.{heading_of}
 use Rattle.cf_http.specs.Talk.{Message, BeginsWith}
 use Rattle.cf_http.specs.Laws.{EndsPastFields, OnlyTwoChoices, OneRequest}
 

@@ -4,10 +4,10 @@ use Rattle.std.specs.Io.KnownBytes.{Appends}
 use Rattle.std.proofs.KnownBytes.{Appends-trans}
 use Rattle.std.proofs.lemmas.List.{append-nil}
 use Rattle.std.proofs.lemmas.List.Elements.{All-append, All-nil, All-cons, All-weaker}
-use Rattle.cf_heads.proofs.HeadLaws.{begins_on}
-use Rattle.cf_heads.specs.Answers.{joined}
-use Rattle.cf_heads.specs.Heads.{BeginsWithHead, IsOpenHead}
-use Rattle.cf_heads.specs.declared.head.Heading.{Heading}
+use Rattle.cf_http_heads.proofs.HeadLaws.{begins_on}
+use Rattle.cf_http_heads.specs.Answers.{joined}
+use Rattle.cf_http_heads.specs.Heads.{BeginsWithHead, IsOpenHead}
+use Rattle.cf_http_heads.specs.declared.head.Heading.{Heading}
 use Rattle.cf_http.specs.Asking.{Rule}
 use Rattle.cf_http.specs.declared.end.LinkEnd.{LinkEnd}
 use Rattle.cf_http.specs.Links.{LinkRead, Input, Output, LinkTells, OnlyReads, OnlySends, FaultsOf, read_now, ReadsEach, TellsRead}

@@ -7,19 +7,19 @@ use Rattle.std.proofs.lemmas.List.{append-nil}
 use Rattle.std.proofs.lemmas.List.Elements.{All-append, All-nil, All-cons}
 use Rattle.cf_http.specs.declared.end.LinkEnd.{LinkEnd}
 use Rattle.cf_http.specs.declared.end.LinkEnd.TheVariants as end
-use Rattle.cf_heads.specs.declared.head.Heading.{Heading}
+use Rattle.cf_http_heads.specs.declared.head.Heading.{Heading}
 use Rattle.cf_http.specs.Asking.{Rule}
-use Rattle.cf_heads.specs.Answers.{joined}
-use Rattle.cf_heads.specs.Heads.{BeginsWithHead, IsOpenHead, fields_of}
+use Rattle.cf_http_heads.specs.Answers.{joined}
+use Rattle.cf_http_heads.specs.Heads.{BeginsWithHead, IsOpenHead, fields_of}
 use Rattle.cf_http.specs.Talk.{Message, message_bytes, IsMessage, Talk, IsCut, Last, between, cut, read_fault, limit, no_link}
 use Rattle.cf_http.specs.Links.{Input, Output, LinkTells, OnlyReads, OnlySends, SentFront}
 use Rattle.cf_http.specs.Serving.{Moment, moment_now, Went, Gave, Served, IsCounted, NoneCame, IsBodyStop}
 use Rattle.cf_http.specs.Stages.{Stage, Came, EndsOver, Stops, Replied, GoesOn}
 use Rattle.cf_http.specs.Turns.{SaidNoMemory}
 use Rattle.cf_http.proofs.TurnLaws.{memory_over, memory_kind, after_no_limit}
-use Rattle.cf_heads.proofs.FieldLaws.{body_within}
+use Rattle.cf_http_heads.proofs.FieldLaws.{body_within}
 use Rattle.cf_http.proofs.SentLaws.{front_of_second}
-use Rattle.cf_heads.proofs.HeadLaws.{length_head, begins_on}
+use Rattle.cf_http_heads.proofs.HeadLaws.{length_head, begins_on}
 
 -- ---- nothing is answered
 

@@ -8,18 +8,18 @@ use Rattle.cf_http.specs.declared.end.LinkEnd.{LinkEnd}
 use Rattle.cf_http.specs.declared.end.LinkEnd.TheVariants as end
 use Rattle.cf_http.specs.Turns.{IsFinished, Said, stays, closed, fault, SaidNoMemory, Told}
 use Rattle.cf_http.specs.Turns as turn
-use Rattle.cf_heads.specs.Answers.{memory_answer, miss_answer, answer_bytes, refusal_answer}
+use Rattle.cf_http_heads.specs.Answers.{memory_answer, miss_answer, answer_bytes, refusal_answer}
 use Rattle.cf_http.specs.Asking.{Rule, IsAnswerCode}
-use Rattle.cf_heads.specs.Heads.{BeginsWithHead}
+use Rattle.cf_http_heads.specs.Heads.{BeginsWithHead}
 use Rattle.cf_http.specs.Talk.{Message, message_bytes, IsMessage, BeginsWith, closes, Answers, missed, told, LastAnswer, Last, refused, closing, no_room, no_memory, answered, unsent, unsent_last}
 use Rattle.cf_http.specs.Serving.{Gave, IsAfterAnswer}
 use Rattle.cf_http.specs.Stages.{Stage, EndsOver, Replied}
-use Rattle.cf_heads.specs.declared.head.Heading.{Heading}
-use Rattle.cf_heads.specs.Routes.{IsRouteInForm}
-use Rattle.cf_heads.specs.declared.route.Route.{Route}
-use Rattle.cf_heads.proofs.RouteLaws.{ask_in_form}
-use Rattle.cf_heads.specs.declared.route.Miss.{Miss}
-use Rattle.cf_heads.specs.declared.fields.Refusal.{Refusal}
+use Rattle.cf_http_heads.specs.declared.head.Heading.{Heading}
+use Rattle.cf_http_heads.specs.Routes.{IsRouteInForm}
+use Rattle.cf_http_heads.specs.declared.route.Route.{Route}
+use Rattle.cf_http_heads.proofs.RouteLaws.{ask_in_form}
+use Rattle.cf_http_heads.specs.declared.route.Miss.{Miss}
+use Rattle.cf_http_heads.specs.declared.fields.Refusal.{Refusal}
 
 pub said_by : {E : Type 0} (old new : LinkTells) (answer : List ℕ) (sent : Result (Unit {0}) E) (closes : Bool) (how : Option LinkEnd)
     → IsFinished sent closes how → Sends old new answer sent → Said old new answer closes how

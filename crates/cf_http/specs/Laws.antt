@@ -1,7 +1,7 @@
 -- What holds of all texts on a link.
 use Rattle.std.specs.Prelude.{◌≡◌, ◌⊎◌, ℕ, ◌<◌, List, [], ◌++◌, length}
 use Rattle.httparse.specs.Grammar.{RequestHead, ReadsRequest, EndsInTarget}
-use Rattle.cf_heads.specs.Heads.{IsNoHead, IsOpenHead}
+use Rattle.cf_http_heads.specs.Heads.{IsNoHead, IsOpenHead}
 use Rattle.cf_http.specs.Talk.{Message, BeginsWith}
 
 -- the text is a front of a head with more than 64 fields

@@ -5,8 +5,8 @@ use Rattle.std.specs.Io.KnownBytes.{Appends}
 use Rattle.cf_http.specs.declared.end.LinkEnd.{LinkEnd}
 use Rattle.cf_http.specs.declared.end.LinkEnd.TheVariants as end
 use Rattle.cf_http.specs.Asking.{Rule}
-use Rattle.cf_heads.specs.Answers.{joined}
-use Rattle.cf_heads.specs.Heads.{IsOpenHead}
+use Rattle.cf_http_heads.specs.Answers.{joined}
+use Rattle.cf_http_heads.specs.Heads.{IsOpenHead}
 use Rattle.cf_http.specs.Links.{LinkRead, LinkTells, FaultsOf, ReadsEach, SentFront, read_now}
 use Rattle.cf_http.specs.Talk.{Message, message_bytes, IsMessage, Talk, IsCut, IsOpenText, Last}
 

@@ -1,6 +1,6 @@
 -- What a head that came leads to.
 use Rattle.std.specs.Prelude.{ℕ, List, Bool}
-use Rattle.cf_heads.specs.Heads.{BeginsWithHead, IsNoHead}
+use Rattle.cf_http_heads.specs.Heads.{BeginsWithHead, IsNoHead}
 use Rattle.cf_http.specs.Links.{LinkTells, NoFaults, FaultsOf}
 use Rattle.cf_http.specs.Serving.{NoneCame}
 use Rattle.cf_http.specs.declared.reading.Next.{Next}

@@ -1,16 +1,16 @@
 -- The talk on a link: requests and their answers.
 use Rattle.std.specs.Prelude.{◌≡◌, ◌⊎◌, ℕ, ◌<◌, List, [], ◌∷◌, ◌++◌, length, Bool, true, false, Some, None, Ok, Err}
 use Rattle.httparse.specs.Grammar.{RequestHead, print_request, ReadsRequest}
-use Rattle.cf_heads.specs.declared.fields.Refusal.{Refusal}
-use Rattle.cf_heads.specs.declared.fields.Refusal.TheVariants as refusal
-use Rattle.cf_heads.specs.declared.route.Route.{Route}
-use Rattle.cf_heads.specs.declared.route.Miss.{Miss}
+use Rattle.cf_http_heads.specs.declared.fields.Refusal.{Refusal}
+use Rattle.cf_http_heads.specs.declared.fields.Refusal.TheVariants as refusal
+use Rattle.cf_http_heads.specs.declared.route.Route.{Route}
+use Rattle.cf_http_heads.specs.declared.route.Miss.{Miss}
 use Rattle.cf_http.specs.declared.request.Request.{Request}
 use Rattle.cf_http.specs.declared.end.LinkEnd.{LinkEnd}
 use Rattle.cf_http.specs.declared.end.LinkEnd.TheVariants as end
 use Rattle.cf_http.specs.Asking.{Rule, IsAnswerCode}
-use Rattle.cf_heads.specs.Heads.{IsHead, IsNoHead, IsOpenHead, heading_of}
-use Rattle.cf_heads.specs.Answers.{answer_bytes, refusal_answer, miss_answer, memory_answer}
+use Rattle.cf_http_heads.specs.Heads.{IsHead, IsNoHead, IsOpenHead, heading_of}
+use Rattle.cf_http_heads.specs.Answers.{answer_bytes, refusal_answer, miss_answer, memory_answer}
 
 -- a request as it comes: its head, and the body that the head states
 pub record Message : Type 0 where

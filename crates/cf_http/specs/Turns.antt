@@ -1,10 +1,10 @@
 -- What one answer does to a link.
 use Rattle.std.specs.Prelude.{◌≡◌, ◌⊎◌, ℕ, List, Bool, true, false, Option, Some, None, Result, Ok, Err}
 use Rattle.std.specs.Io.KnownBytes.{Appends}
-use Rattle.cf_heads.specs.Answers.{answer_bytes, memory_answer}
+use Rattle.cf_http_heads.specs.Answers.{answer_bytes, memory_answer}
 use Rattle.cf_http.specs.Asking.{Rule, IsAnswerCode}
 use Rattle.cf_http.specs.Serving.{Gave}
-use Rattle.cf_heads.specs.declared.route.Route.{Route}
+use Rattle.cf_http_heads.specs.declared.route.Route.{Route}
 use Rattle.cf_http.specs.Links.{SentFront, LinkTells}
 use Rattle.cf_http.specs.declared.end.LinkEnd.{LinkEnd}
 use Rattle.cf_http.specs.declared.end.LinkEnd.TheVariants as end

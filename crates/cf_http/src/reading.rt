@@ -1,9 +1,9 @@
 //! The next request is read from a link.
 
 ghost use Rattle.std.specs.Prelude.{◌≡◌, ◌≢◌, ◌+◌, ◌<◌, ◌≤◌, Bool, true, None, IfSome, length};
-ghost use Rattle.cf_heads.specs.Heads.{IsOpenHead};
-ghost use Rattle.cf_heads.specs.declared.fields.TheConstants.{LONGEST_BODY};
-ghost use Rattle.cf_heads.specs.declared.head.TheConstants.{LONGEST_HEAD};
+ghost use Rattle.cf_http_heads.specs.Heads.{IsOpenHead};
+ghost use Rattle.cf_http_heads.specs.declared.fields.TheConstants.{LONGEST_BODY};
+ghost use Rattle.cf_http_heads.specs.declared.head.TheConstants.{LONGEST_HEAD};
 ghost use Rattle.cf_http.specs.Links.{FaultsIf, OnlyReads};
 ghost use Rattle.cf_http.specs.Serving.{IsBodyStop, NoneCame};
 ghost use Rattle.cf_http.specs.Stages.{Came, ReadsOver};
@@ -12,7 +12,7 @@ ghost use Rattle.cf_http.specs.Steps.{FaultsNext, IsNext};
 use crate::end::LinkEnd;
 use crate::link::Link;
 use crate::server::Server;
-use cf_heads::{Front, Heading};
+use cf_http_heads::{Front, Heading};
 
 /// What came next.
 #[derive(Clone, Copy)]

@@ -1,5 +1,5 @@
 use crate::bytes::Bytes;
-use cf_heads::Route;
+use cf_http_heads::Route;
 
 /// A request that has a route.
 #[derive(Drop)]

@@ -2,15 +2,15 @@
 
 ghost use Rattle.std.specs.Prelude.{◌≡◌, ◌⊎◌, ◌≤◌, vec_capacity};
 ghost use Rattle.http.specs.StatusCode.{IsStatusCode};
-ghost use Rattle.cf_heads.specs.Answers.{answer_bytes, body_for, memory_answer, refusal_answer};
-ghost use Rattle.cf_heads.specs.declared.lines.TheConstants.{LINES_ROOM};
+ghost use Rattle.cf_http_heads.specs.Answers.{answer_bytes, body_for, memory_answer, refusal_answer};
+ghost use Rattle.cf_http_heads.specs.declared.lines.TheConstants.{LINES_ROOM};
 ghost use Rattle.cf_http.specs.Links.{Counts, FaultsOf, OnlySends, Sends};
 ghost use Rattle.cf_http.specs.Serving.{Gave};
 
 use crate::end::LinkEnd;
 use crate::link::Link;
 use cf_base::Failed;
-use cf_heads::{Method, Refusal, no_memory, write_lines};
+use cf_http_heads::{Method, Refusal, no_memory, write_lines};
 
 /// Sends all of it, or a front of it where a write fails.
 pub fn send_all<L: Link>(link: &mut L, bytes: &[u8]) -> Result<(), Failed>

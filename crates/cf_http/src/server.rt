@@ -1,15 +1,15 @@
 //! A link that is served, with what came on it and was not used yet.
 
 ghost use Rattle.std.specs.Prelude.{◌≡◌, ◌+◌, ◌<◌, ◌≤◌, [], true, false, Ok, drop, length, vec_len, vec_capacity, IfOk, OnErr};
-ghost use Rattle.cf_heads.specs.Heads.{IsFront};
-ghost use Rattle.cf_heads.specs.declared.lines.TheConstants.{LINES_ROOM};
+ghost use Rattle.cf_http_heads.specs.Heads.{IsFront};
+ghost use Rattle.cf_http_heads.specs.declared.lines.TheConstants.{LINES_ROOM};
 ghost use Rattle.cf_http.specs.declared.server.TheConstants.{CHUNK, ROOM};
 ghost use Rattle.cf_http.specs.Links.{Counts, OnlyReads};
 ghost use Rattle.cf_http.specs.Stages.{Came, ReadsNow};
 
 use crate::link::Link;
 use cf_base::Failed;
-use cf_heads::{Front, LINES_ROOM, Routes, read_head};
+use cf_http_heads::{Front, LINES_ROOM, Routes, read_head};
 use std::alloc::{AllocError, Global};
 use std::marker::Model;
 

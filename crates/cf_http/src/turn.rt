@@ -1,9 +1,9 @@
 //! One request is answered.
 
 ghost use Rattle.std.specs.Prelude.{◌≡◌, ◌≢◌, ◌+◌, ◌≤◌, Ok, Err, Some, None, length, take, drop, IfOk, IfSome};
-ghost use Rattle.cf_heads.specs.Answers.{miss_answer, refusal_answer};
-ghost use Rattle.cf_heads.specs.Heads.{BeginsWithHead};
-ghost use Rattle.cf_heads.specs.Routes.{IsRouteInForm};
+ghost use Rattle.cf_http_heads.specs.Answers.{miss_answer, refusal_answer};
+ghost use Rattle.cf_http_heads.specs.Heads.{BeginsWithHead};
+ghost use Rattle.cf_http_heads.specs.Routes.{IsRouteInForm};
 ghost use Rattle.cf_http.specs.Links.{FaultsIf, FaultsOf, OnlySends};
 ghost use Rattle.cf_http.specs.Serving.{IsAfterAnswer};
 ghost use Rattle.cf_http.specs.Stages.{EndsOver, GoesOn, OnlyAnswers, ReadsOver, Replied, Stops};
@@ -19,7 +19,7 @@ use crate::request::Request;
 use crate::sending::{Told, send_answer, send_no_memory, send_refusal};
 use crate::server::Server;
 use cf_base::Failed;
-use cf_heads::{Heading, Miss, Refusal, Route};
+use cf_http_heads::{Heading, Miss, Refusal, Route};
 use std::alloc::{AllocError, Global};
 
 /// How a link goes on after an answer.

@@ -5,7 +5,7 @@ use Rattle.cf_calls.specs.declared.entry.Entry.{Entry}
 use Rattle.cf_calls.specs.declared.kind.ActKind.{ActKind}
 use Rattle.cf_calls.specs.declared.kind.ActKind.TheVariants.{Lease}
 use Rattle.cf_disk.specs.Images.{written, Torn}
-use Rattle.cf_fields.specs.Kinds.{is_of}
+use Rattle.cf_codec_fields.specs.Kinds.{is_of}
 use Rattle.cf_journal.specs.Records.{records_of}
 use Rattle.cf_journal.specs.Layout.{IsValid, IsAtRest}
 use Rattle.cf_journal.proofs.Lists.{torn_gate, written_gate}

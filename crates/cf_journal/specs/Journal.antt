@@ -4,7 +4,7 @@ use Rattle.cf_calls.specs.declared.acts.Act.{Act}
 use Rattle.cf_calls.specs.declared.entry.Entry.{Entry}
 use Rattle.cf_codec.specs.Entries.{IsOf}
 use Rattle.cf_calls.specs.Kinds.{kind_of}
-use Rattle.cf_fields.specs.Kinds.{is_of}
+use Rattle.cf_codec_fields.specs.Kinds.{is_of}
 use Rattle.cf_journal.specs.Records.{HasRecord, record_of, record_len, gate_after}
 use Rattle.cf_journal.specs.Layout.{IsValid, IsAtRest, IsStaged}
 use Rattle.cf_journal.specs.declared.journal.Journal.{Journal}

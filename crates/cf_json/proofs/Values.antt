@@ -4,9 +4,9 @@ use Rattle.std.specs.Str.{IsUtf8, is_utf8}
 use Rattle.std.proofs.lemmas.Str.{IsUtf8-from_is_utf8, is_utf8-from_IsUtf8}
 use Rattle.serde_json.specs.Data.{Data}
 use Rattle.serde_json.specs.Read.{read}
-use Rattle.cf_members.specs.declared.fault.FormFault.{FormFault}
-use Rattle.cf_members.specs.declared.fault.CallRefused.{CallRefused}
-use Rattle.cf_members.specs.Faults.{Gives}
+use Rattle.cf_json_members.specs.declared.fault.FormFault.{FormFault}
+use Rattle.cf_json_members.specs.declared.fault.CallRefused.{CallRefused}
+use Rattle.cf_json_members.specs.Faults.{Gives}
 use Rattle.cf_json.specs.Calls.{value_of}
 
 pub value_of-text : (bytes text : List ℕ) → text ≡ bytes → IsUtf8 bytes → value_of bytes ≡ read text

@@ -14,7 +14,7 @@ use Rattle.cf_calls.specs.declared.acts.LeaveAmount.{LeaveAmount}
 use Rattle.cf_calls.specs.declared.acts.LeaveMaturity.{LeaveMaturity}
 use Rattle.cf_calls.specs.declared.acts.Period.TheVariants as period
 use Rattle.cf_calls.specs.Form.{is_period, month_number}
-use Rattle.cf_members.specs.declared.fault.FormFault.{FormFault}
+use Rattle.cf_json_members.specs.declared.fault.FormFault.{FormFault}
 use Rattle.cf_calls.specs.declared.kind.ActKind.{ActKind}
 use Rattle.cf_calls.specs.declared.kind.ActKind.TheVariants as word
 use Rattle.cf_json.specs.declared.words.AssetWord.{AssetWord}
@@ -23,9 +23,9 @@ use Rattle.cf_json.specs.declared.words.LeaveWord.{LeaveWord}
 use Rattle.cf_json.specs.declared.words.LeaveWord.TheVariants as leave
 use Rattle.cf_json.specs.declared.words.PeriodWord.{PeriodWord}
 use Rattle.cf_json.specs.declared.words.PeriodWord.TheVariants as closed
-use Rattle.cf_members.specs.Faults.{◌>>=◌, must}
-use Rattle.cf_members.specs.Fields.{field, optional}
-use Rattle.cf_members.specs.Kinds.{as_n16, as_n32, as_count, as_year, as_by, as_month, as_word}
+use Rattle.cf_json_members.specs.Faults.{◌>>=◌, must}
+use Rattle.cf_json_members.specs.Fields.{field, optional}
+use Rattle.cf_json_members.specs.Kinds.{as_n16, as_n32, as_count, as_year, as_by, as_month, as_word}
 use Rattle.cf_json.specs.Items.{as_line_amounts, as_source_amounts, as_account_items, as_voucher_items, as_vouchers, as_principals}
 use Rattle.cf_json.specs.Words.{asset_words, leave_words, move_words, period_words}
 

@@ -6,13 +6,13 @@ use Rattle.serde_json.specs.Find.{get, as_object}
 use Rattle.serde_json.specs.Read.{read}
 use Rattle.cf_calls.specs.declared.call.Call.{Call}
 use Rattle.cf_calls.specs.declared.call.Call.TheVariants as call
-use Rattle.cf_members.specs.declared.fault.FormFault.{FormFault}
-use Rattle.cf_members.specs.declared.fault.FormFault.TheVariants as fault
+use Rattle.cf_json_members.specs.declared.fault.FormFault.{FormFault}
+use Rattle.cf_json_members.specs.declared.fault.FormFault.TheVariants as fault
 use Rattle.cf_calls.specs.declared.kind.ActKind.{ActKind}
 use Rattle.cf_json.specs.declared.words.LookWord.{LookWord}
-use Rattle.cf_members.specs.Faults.{◌>>=◌}
-use Rattle.cf_members.specs.Fields.{field, optional, only}
-use Rattle.cf_members.specs.Kinds.{as_n16, as_count, as_key, as_day, as_word}
+use Rattle.cf_json_members.specs.Faults.{◌>>=◌}
+use Rattle.cf_json_members.specs.Fields.{field, optional, only}
+use Rattle.cf_json_members.specs.Kinds.{as_n16, as_count, as_key, as_day, as_word}
 use Rattle.cf_json.specs.Words.{as_change, look_words}
 use Rattle.cf_json.specs.Acts.{act_of, own_names}
 use Rattle.cf_json.specs.Reads.{read_of, look_names}

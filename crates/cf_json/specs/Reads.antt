@@ -3,12 +3,12 @@ use Rattle.std.specs.Prelude.{ℕ, List, [], ◌∷◌, Result, Ok, codes}
 use Rattle.serde_json.specs.Data.{Data}
 use Rattle.cf_calls.specs.declared.read.Read.{Read}
 use Rattle.cf_calls.specs.declared.read.Read.TheVariants.{Line, Requisition, Order, Voucher, Bill, Asset, Bond, Leave, Account, Reconcile, Report}
-use Rattle.cf_members.specs.declared.fault.FormFault.{FormFault}
+use Rattle.cf_json_members.specs.declared.fault.FormFault.{FormFault}
 use Rattle.cf_json.specs.declared.words.LookWord.{LookWord}
 use Rattle.cf_json.specs.declared.words.LookWord.TheVariants as word
-use Rattle.cf_members.specs.Faults.{◌>>=◌}
-use Rattle.cf_members.specs.Fields.{field}
-use Rattle.cf_members.specs.Kinds.{as_n16, as_n32, as_year, as_word}
+use Rattle.cf_json_members.specs.Faults.{◌>>=◌}
+use Rattle.cf_json_members.specs.Fields.{field}
+use Rattle.cf_json_members.specs.Kinds.{as_n16, as_n32, as_year, as_word}
 use Rattle.cf_json.specs.Words.{basis_words, as_statement}
 
 abbrev pub line_of : Data → Result Read FormFault

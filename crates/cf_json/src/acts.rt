@@ -4,7 +4,7 @@ ghost use Rattle.std.specs.Prelude.{◌≡◌, ◌≤◌, ◌+◌, ◌*◌, nat_
 ghost use Rattle.cf_base.specs.Limits.{last_year};
 ghost use Rattle.serde_json.specs.View.{view};
 ghost use Rattle.cf_calls.specs.Form.{IsIssueForm, IsActInForm, is_period, month_number};
-ghost use Rattle.cf_members.specs.Faults.{Gives};
+ghost use Rattle.cf_json_members.specs.Faults.{Gives};
 ghost use Rattle.cf_json.specs.Acts as spec;
 
 use crate::items::{ChargedItem, LineItem, PlainItem, Principal, SourceItem, VoucherNumber};
@@ -17,10 +17,10 @@ use cf_calls::acts::{
 };
 use cf_calls::items::{AccountItem, SourceAmount};
 use cf_calls::{Act, ActKind};
-use cf_members::CallRefused;
-use cf_members::fields::{may, must, need};
-use cf_members::kinds::{By, Count, Flag, MonthText, N16, N32, Year};
-use cf_members::lists::list;
+use cf_json_members::CallRefused;
+use cf_json_members::fields::{may, must, need};
+use cf_json_members::kinds::{By, Count, Flag, MonthText, N16, N32, Year};
+use cf_json_members::lists::list;
 use serde_json::Value;
 use std::alloc::Global;
 

@@ -3,16 +3,16 @@
 ghost use Rattle.std.specs.Prelude.{◌≡◌, IfOk};
 ghost use Rattle.serde_json.specs.View.{view};
 ghost use Rattle.cf_calls.specs.Form.{IsCallInForm};
-ghost use Rattle.cf_members.specs.Faults.{Gives};
+ghost use Rattle.cf_json_members.specs.Faults.{Gives};
 ghost use Rattle.cf_json.specs.Calls as spec;
 
 use crate::acts::{act_of, own_names};
 use crate::looks::{look_names, read_of};
 use crate::words::{LookWord, change_word, look_word};
 use cf_calls::{ActKind, Call, Change, Look};
-use cf_members::fields::{key, may, need, only};
-use cf_members::kinds::{Count, DayText, N16};
-use cf_members::{CallRefused, FormFault};
+use cf_json_members::fields::{key, may, need, only};
+use cf_json_members::kinds::{Count, DayText, N16};
+use cf_json_members::{CallRefused, FormFault};
 use serde_json::Value;
 use serde_json::error::Category;
 use std::alloc::Global;

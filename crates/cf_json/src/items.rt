@@ -4,15 +4,15 @@ ghost use Rattle.std.specs.Prelude.{◌≡◌, true, Some, None, IfSome, refl};
 ghost use Rattle.serde_json.specs.View.{view};
 ghost use Rattle.cf_base.specs.Money.{is_amount};
 ghost use Rattle.cf_calls.specs.Form.{same_line, same_source, same_number, same_order_item, is_liquidation_form, is_charge_form};
-ghost use Rattle.cf_members.specs.Kinds.{as_n32, as_count};
-ghost use Rattle.cf_distinct.specs.Charges.{charged_item, same_charged};
+ghost use Rattle.cf_json_members.specs.Kinds.{as_n32, as_count};
+ghost use Rattle.cf_calls.specs.Charges.{charged_item, same_charged};
 ghost use Rattle.cf_json.specs.Items as spec;
 ghost use Rattle.cf_json.specs.Items.{as_line_amount, as_source_amount, as_account, as_account_item, as_voucher_item, never};
 
 use cf_calls::items::{AccountItem, Charge, LineAmount, Liquidation, SourceAmount, VoucherItem};
-use cf_members::fields::has_only;
-use cf_members::kinds::{Amount, Count, FieldKind, Flag, N16, N32};
-use cf_members::lists::Item;
+use cf_json_members::fields::has_only;
+use cf_json_members::kinds::{Amount, Count, FieldKind, Flag, N16, N32};
+use cf_json_members::lists::Item;
 use serde_json::Value;
 
 /// A field of an item.

@@ -8,4 +8,4 @@ mod looks;
 mod words;
 
 pub use call::read_call;
-pub use cf_members::{CallRefused, FormFault};
+pub use cf_json_members::{CallRefused, FormFault};

@@ -3,14 +3,14 @@
 ghost use Rattle.std.specs.Prelude.{◌≡◌, map, IfOk};
 ghost use Rattle.serde_json.specs.View.{view};
 ghost use Rattle.cf_calls.specs.Form.{IsReadInForm};
-ghost use Rattle.cf_members.specs.Faults.{Gives};
+ghost use Rattle.cf_json_members.specs.Faults.{Gives};
 ghost use Rattle.cf_json.specs.Reads as spec;
 
 use crate::words::{BasisWord, LookWord, StatementWord};
 use cf_calls::Read;
-use cf_members::CallRefused;
-use cf_members::fields::need;
-use cf_members::kinds::{N16, N32, Year};
+use cf_json_members::CallRefused;
+use cf_json_members::fields::need;
+use cf_json_members::kinds::{N16, N32, Year};
 use serde_json::Value;
 use std::alloc::Global;
 

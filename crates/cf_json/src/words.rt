@@ -4,13 +4,13 @@ ghost use Rattle.std.specs.Prelude.{◌≡◌, find, option_copied};
 ghost use Rattle.std.specs.Str.{bytes_eq};
 ghost use Rattle.cf_json.specs.Words as spec;
 ghost use Rattle.serde_json.specs.View.{view};
-ghost use Rattle.cf_members.specs.Kinds.{as_word, word_in};
+ghost use Rattle.cf_json_members.specs.Kinds.{as_word, word_in};
 ghost use Rattle.cf_json.specs.Words.{look_words, asset_words, leave_words, move_words, period_words, basis_words, as_statement};
 
 use cf_base::Kind;
 use cf_calls::acts::FundMoveKind;
 use cf_calls::{ActKind, Basis};
-use cf_members::kinds::FieldKind;
+use cf_json_members::kinds::FieldKind;
 use serde_json::Value;
 
 /// Which look a line is.

@@ -11,7 +11,7 @@ ghost use Rattle.cf_office.specs.Rolled as spec;
 use cf_budget::{LineChange, Row, ZERO};
 use cf_calls::LineNumbers;
 use cf_chart::LineId;
-use cf_history::History;
+use cf_office_history::History;
 use std::alloc::{AllocError, Global};
 
 /// What the year that is rolled loses: all that is held and encumbered, which is not below zero.

@@ -6,7 +6,7 @@ use Rattle.cf_chart.specs.Plan.{Plan}
 use Rattle.cf_model.specs.LineNumbers.{is_on}
 use Rattle.cf_model.specs.Moves.{carried_to, goes_on}
 use Rattle.cf_model.specs.OrderItems.{OrderItem, open_of}
-use Rattle.cf_rows.specs.declared.extents.Extent.{Extent}
+use Rattle.cf_register_parts.specs.declared.extents.Extent.{Extent}
 use Rattle.cf_orders.specs.declared.rows.ItemRow.{ItemRow}
 use Rattle.cf_orders.specs.declared.rows.ExpenditureRow.{ExpenditureRow}
 use Rattle.cf_orders.specs.Carrying.{adds_to}

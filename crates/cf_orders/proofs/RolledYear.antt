@@ -7,7 +7,7 @@ use Rattle.cf_chart.specs.Plan.{Plan}
 use Rattle.cf_model.specs.Documents.{leaves}
 use Rattle.cf_model.specs.OrderItems.{OrderItem, lapses, rolled, open_of}
 use Rattle.cf_model.specs.OrderItems as model
-use Rattle.cf_rows.specs.declared.extents.Extent.{Extent}
+use Rattle.cf_register_parts.specs.declared.extents.Extent.{Extent}
 use Rattle.cf_orders.specs.declared.rows.ExpenditureRow.{ExpenditureRow}
 use Rattle.cf_orders.specs.declared.rows.HoldRow.{HoldRow}
 use Rattle.cf_orders.specs.declared.rows.ItemRow.{ItemRow}

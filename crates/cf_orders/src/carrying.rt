@@ -9,7 +9,7 @@ use crate::lapsing::goes_on;
 use crate::orders::Orders;
 use crate::rows::ItemRow;
 use cf_chart::Chart;
-use cf_rows::count;
+use cf_register_parts::count;
 use std::alloc::{AllocError, Global};
 
 /// So many amounts, all zero.

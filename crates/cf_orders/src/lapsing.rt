@@ -7,7 +7,7 @@ ghost use Rattle.cf_orders.specs.RowRolls.{goes_on_row, lapses_row, rolls_row};
 use crate::items::{is_going, open_row};
 use crate::rows::ItemRow;
 use cf_chart::Chart;
-use cf_rows::{carries, has_line};
+use cf_register_parts::{carries, has_line};
 
 /// Whether an item lapses at its year's roll: nothing is open, its fund carries nothing, or its account has no line in the
 /// year after.

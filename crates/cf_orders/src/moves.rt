@@ -20,7 +20,7 @@ use crate::vouchers::is_void;
 use cf_calls::Act;
 use cf_calls::items::{AccountItem, VoucherItem};
 use cf_calls::shown::RequisitionState;
-use cf_rows::extent_of;
+use cf_register_parts::extent_of;
 
 /// What an item of a document moves of its account's line in a fiscal year, in cents.
 #[derive(Clone, Copy)]

@@ -10,7 +10,7 @@ ghost use Rattle.cf_orders.specs.Steps as spec;
 use crate::items::is_going;
 use crate::rows::{Header, ItemRow, Stage};
 use cf_calls::items::AccountItem;
-use cf_rows::Extent;
+use cf_register_parts::Extent;
 
 /// Adds the items of a new order.
 pub fn add_items(items: &mut Vec<ItemRow>, header: Header, vendor: u32, accounts: &[AccountItem])

@@ -13,7 +13,7 @@ use Rattle.cf_base.specs.declared.calendar.Month.{Month}
 use Rattle.cf_calls.specs.Form.{IsChangeInForm, is_key, is_key_byte}
 use Rattle.cf_calls.specs.declared.acts.Act.TheVariants.{Receive}
 use Rattle.cf_calls.specs.declared.items.SourceAmount.{SourceAmount}
-use Rattle.cf_lines.specs.Lines.{change_of}
+use Rattle.cf_json_lines.specs.Lines.{change_of}
 use Rattle.cf_pool.specs.Shares.{hand_of, last_day, pool_key}
 
 key_digits : (ds : List ℕ) → AllDigits 10 ds → list_all is_key_byte ds ≡ true

@@ -2,7 +2,7 @@
 use Rattle.std.proofs.Common.{◌≡◌, ℕ, ◌^◌, ◌<◌, true}
 use Rattle.cf_base.specs.Calendar.{is_call_month}
 use Rattle.cf_base.specs.declared.calendar.Month.{Month}
-use Rattle.cf_read_back.proofs.ReadBack.{receipt-back}
+use Rattle.cf_json_laws.proofs.ReadBack.{receipt-back}
 use Rattle.cf_pool.specs.Shares.{hand_of, AreReadBack}
 use Rattle.cf_pool.proofs.Forms.{share_form}
 

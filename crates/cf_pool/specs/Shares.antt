@@ -14,8 +14,8 @@ use Rattle.cf_chart.specs.declared.rows.RevenueKind.{RevenueKind}
 use Rattle.cf_chart.specs.declared.rows.RevenueKind.TheVariants as kind
 use Rattle.cf_chart.specs.declared.rows.RevenueSource.{RevenueSource}
 use Rattle.cf_json.specs.Calls.{call_of}
-use Rattle.cf_lines.specs.Lines.{Hand, change_of, receipt_data, receipt_line}
-use Rattle.cf_members.specs.Objects.{text_of}
+use Rattle.cf_json_lines.specs.Lines.{Hand, change_of, receipt_data, receipt_line}
+use Rattle.cf_json_members.specs.Objects.{text_of}
 use Rattle.cf_pool.specs.declared.days.CashMove.{CashMove}
 use Rattle.cf_pool.specs.declared.refused.PoolRefused.{PoolRefused}
 use Rattle.cf_pool.specs.declared.refused.PoolRefused.TheVariants.{NoShare, NoMemory}

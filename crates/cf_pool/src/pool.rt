@@ -6,7 +6,7 @@ ghost use Rattle.cf_base.specs.Limits.{last_year};
 ghost use Rattle.cf_base.specs.Shares.{AreShares};
 ghost use Rattle.cf_base.specs.declared.calendar.Month.{Month};
 ghost use Rattle.cf_chart.specs.Plan.{Plan};
-ghost use Rattle.cf_members.specs.Parts.{is_plain};
+ghost use Rattle.cf_json_members.specs.Parts.{is_plain};
 ghost use Rattle.cf_pool.specs.Keys.{pieces};
 ghost use Rattle.cf_pool.specs.Balances.{sizes};
 ghost use Rattle.cf_pool.specs.declared.days.CashMove.{CashMove};
@@ -19,7 +19,7 @@ use crate::weights::{interest_source, narrow, total, weights};
 use cf_base::{Day, Month, share_out};
 use cf_calls::items::SourceAmount;
 use cf_chart::{Chart, Fund, RevenueSource};
-use cf_lines::put_receipt;
+use cf_json_lines::put_receipt;
 use jiff_core::civil::days_in_month;
 use std::alloc::{AllocError, Global};
 

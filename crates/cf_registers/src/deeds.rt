@@ -20,7 +20,7 @@ use cf_chart::Chart;
 use cf_orders::Orders;
 use cf_post::deed::{self, Collection, Deed, FundAmount, FundsAmount, Spent, SpentItem};
 use cf_revenue::Revenue;
-use cf_rows::{document_year, function_of, fund_of, is_capital, year_of_day};
+use cf_register_parts::{document_year, function_of, fund_of, is_capital, year_of_day};
 use std::alloc::{AllocError, Global};
 
 /// What an account is charged for: an asset, or its department's function.

@@ -17,7 +17,7 @@ use cf_calls::acts::{AssetAct, BondIssue, DebtPayment, Disposal, Donation, Leave
 use cf_chart::Chart;
 use cf_debt::Debt;
 use cf_post::deed::{self, Deed, DuePayment, FunctionAmount, FundAmount, MaturedLeave};
-use cf_rows::{function_of, year_of_day};
+use cf_register_parts::{function_of, year_of_day};
 use std::alloc::{AllocError, Global};
 
 /// A capital asset is given to a department's function.

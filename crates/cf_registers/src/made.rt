@@ -17,7 +17,7 @@ use cf_calls::{Act, Drawn, Entry, Made};
 use cf_chart::Chart;
 use cf_debt::Debt;
 use cf_revenue::Revenue;
-use cf_rows::is_capital;
+use cf_register_parts::is_capital;
 
 /// What an accepted entry made, over the registers before it.
 pub fn made_of(chart: &Chart, registers: &Registers, entry: &Entry) -> Made

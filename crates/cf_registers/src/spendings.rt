@@ -18,7 +18,7 @@ use cf_calls::items::AccountItem;
 use cf_chart::Chart;
 use cf_debt::Due;
 use cf_orders::LineMove;
-use cf_rows::year_of_day;
+use cf_register_parts::year_of_day;
 
 /// An amount is expended of its account's line in a fiscal year.
 fn expend(account: AccountItem, year: u16) -> LineMove

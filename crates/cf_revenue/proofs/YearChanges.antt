@@ -7,7 +7,7 @@ use Rattle.std.specs.List.{filter}
 use Rattle.cf_model.specs.Changes.{deferred_in}
 use Rattle.cf_model.specs.Receivables.{Bill, Settlement, Receivables}
 use Rattle.cf_revenue.specs.RegisterView.{AreBilled, AreTaken}
-use Rattle.cf_rows.specs.Years.{sum_through}
+use Rattle.cf_register_parts.specs.Years.{sum_through}
 
 -- what counts through a year is what counts through the year before and what is of the year
 pub by_year : {X : Type 0} (of amount : X → ℕ) (xs : List X) (year : ℕ) → 1 ≤ year →

@@ -14,7 +14,7 @@ use crate::rows::{BillRow, LoanRow, SettlementRow};
 use cf_base::Day;
 use cf_calls::{Act, Drawn, Read, Shown};
 use cf_chart::Chart;
-use cf_rows::{NumberPair, YEARS, amount_at, difference, total_through, window_of};
+use cf_register_parts::{NumberPair, YEARS, amount_at, difference, total_through, window_of};
 use std::alloc::Global;
 use std::collections::BTreeMap;
 use std::marker::Model;

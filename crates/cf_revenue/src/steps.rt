@@ -17,7 +17,7 @@ use crate::rows::{BillRow, LoanRow, SettlementRow};
 use cf_base::Day;
 use cf_calls::acts::{BillAmount, FundMove, FundMoveKind, NewBill};
 use cf_chart::Chart;
-use cf_rows::{amount_at, put_in, raise, year_of_day};
+use cf_register_parts::{amount_at, put_in, raise, year_of_day};
 
 impl Revenue {
     /// Counts an act that is none of the register's own.

@@ -3,7 +3,7 @@ use Rattle.std.proofs.Common.{◌≡◌, ℕ, List, [], ◌∷◌, Bool, true, f
 use Rattle.std.specs.List.{list_any, sum_by}
 use Rattle.std.proofs.lemmas.List.Elements.{All-nil, All-cons, All-head, All-tail}
 use mathlib.Core.List.{IsPrefix}
-use Rattle.cf_book.specs.DurableState.{DurableBook}
+use Rattle.cf_journal_book.specs.DurableState.{DurableBook}
 use Rattle.cf_calls.specs.declared.call.Call.{Call}
 use Rattle.cf_calls.specs.declared.entry.Entry.{Entry}
 use Rattle.cf_chart.specs.Plan.{Plan}
@@ -11,16 +11,16 @@ use Rattle.cf_hall.specs.Endings.{HallEnds}
 use Rattle.cf_hall.specs.Fronts.{IsUnacknowledged, KeptSince}
 use Rattle.cf_http.specs.Doors.{DoorTells}
 use Rattle.cf_http.specs.Links.{LinkTells}
-use Rattle.cf_names.specs.Closing.{HasFirst, IsFreshPass, failed_calls}
-use Rattle.cf_names.specs.Lists.{entries_of}
+use Rattle.cf_hall_names.specs.Closing.{HasFirst, IsFreshPass, failed_calls}
+use Rattle.cf_hall_names.specs.Lists.{entries_of}
 use Rattle.cf_turns.specs.States.{PassState}
 use Rattle.cf_serve.specs.DesksRun.{DesksRan, EachKept}
 use Rattle.cf_serve.specs.declared.end.ServeEnd.{ServeEnd}
 use Rattle.cf_serve.specs.HallServes.{DiskTells, HallRan, ServesDoors, end_by}
-use Rattle.cf_talk.specs.Desks.{DeskState, end_links, is_fault}
-use Rattle.cf_talk.specs.ServeRuns.{AllKept, door_of, failed_said}
-use Rattle.cf_talk.proofs.ServeEnding.{all_quiet, some_rose, given_is}
-use Rattle.cf_talk.proofs.ServeRunning.{all_kept, serve_failed, serve_none, serve_ran}
+use Rattle.cf_serve_laws.specs.Desks.{DeskState, end_links, is_fault}
+use Rattle.cf_serve_laws.specs.ServeRuns.{AllKept, door_of, failed_said}
+use Rattle.cf_serve_laws.proofs.ServeEnding.{all_quiet, some_rose, given_is}
+use Rattle.cf_serve_laws.proofs.ServeRunning.{all_kept, serve_failed, serve_none, serve_ran}
 
 all_unmapped : {X Y : Type 0} (P : X → Type 0) (f : Y → X) (ys : List Y) → All P (map f ys) → All (λ y. P (f y)) ys
 all_unmapped P f [] h = All-nil (λ y. P (f y))

@@ -3,7 +3,7 @@ use denote.RattleType.{RattleType}
 use denote.Param.Send.{IsSend, IsSync, sendable, struct_send, recorded_send, view_send}
 use denote.Struct.Declared.{shape}
 use denote.Ref.{NamedLft}
-use Rattle.cf_names.specs.declared.names.City as city
+use Rattle.cf_hall_names.specs.declared.names.City as city
 use Rattle.cf_disk.specs.declared.disk.Disk as disk
 use Rattle.cf_http.specs.declared.door.Door as door
 use Rattle.cf_http.specs.declared.link.Link as link

@@ -4,9 +4,9 @@ use Rattle.std.specs.List.{list_any, sum_by}
 use Rattle.cf_chart.specs.Plan.{Plan}
 use Rattle.cf_http.specs.Doors.{DoorTells}
 use Rattle.cf_http.specs.Links.{LinkTells}
-use Rattle.cf_names.specs.Closing.{IsFreshPass}
-use Rattle.cf_talk.specs.Desks.{DeskKept, DeskState, end_links, is_fault}
-use Rattle.cf_talk.specs.ServeRuns.{door_of}
+use Rattle.cf_hall_names.specs.Closing.{IsFreshPass}
+use Rattle.cf_serve_laws.specs.Desks.{DeskKept, DeskState, end_links, is_fault}
+use Rattle.cf_serve_laws.specs.ServeRuns.{door_of}
 use Rattle.cf_turns.specs.States.{PassState}
 
 -- at each place a desk was kept

@@ -1,7 +1,7 @@
 -- What serving a hall tells.
 use Rattle.std.specs.Prelude.{◌≡◌, ◌⊎◌, ℕ, Bool, true, false, IsTrue, IfSome, List, [], ◌∷◌, ◌++◌, length, Option, Some, None}
-use Rattle.cf_book.specs.Books.{RecoversNear}
-use Rattle.cf_book.specs.DurableState.{DurableBook}
+use Rattle.cf_journal_book.specs.Books.{RecoversNear}
+use Rattle.cf_journal_book.specs.DurableState.{DurableBook}
 use Rattle.cf_calls.specs.declared.entry.Entry.{Entry}
 use Rattle.cf_chart.specs.Plan.{Plan}
 use Rattle.cf_hall.specs.Fronts.{IsUnacknowledged, KeptSince}
@@ -10,8 +10,8 @@ use Rattle.cf_http.specs.Links.{LinkTells}
 use Rattle.cf_model.specs.State.{IsSoundState}
 use Rattle.cf_serve.specs.declared.end.ServeEnd.{ServeEnd}
 use Rattle.cf_serve.specs.declared.end.ServeEnd.TheVariants.{Served, DoorFailed, NoMemory}
-use Rattle.cf_talk.specs.ServeEnds.{AllQuiet, SomeRose, links_given}
-use Rattle.cf_talk.specs.ServeRuns.{ServeRan, failed_said, faults_said}
+use Rattle.cf_serve_laws.specs.ServeEnds.{AllQuiet, SomeRose, links_given}
+use Rattle.cf_serve_laws.specs.ServeRuns.{ServeRan, failed_said, faults_said}
 
 -- what a disk tells
 pub record DiskTells (D : Type 0) : Type 1 where

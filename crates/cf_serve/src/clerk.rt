@@ -4,21 +4,21 @@ ghost use Rattle.std.specs.Prelude.{◌≡◌, ◌⊎◌, ◌+◌, ◌≤◌, �
 ghost use Rattle.std.specs.Vec.{vec_len, vec_capacity};
 ghost use Rattle.cf_calls.specs.Form.{IsCallInForm};
 ghost use Rattle.cf_calls.specs.declared.reply.Posted.TheVariants as posted;
-ghost use Rattle.cf_heads.specs.Routes.{IsRouteInForm};
-ghost use Rattle.cf_members.specs.Faults.{Gives};
-ghost use Rattle.cf_reply_text.specs.Replies.{IsBrief, form_text, text};
-ghost use Rattle.cf_talk.specs.Clerks as clerks;
-ghost use Rattle.cf_talk.specs.Clerks.{AnswersCall, IsWritten, asked_by, code_by, code_of};
-ghost use Rattle.cf_talk.specs.PassTalks.{Hears};
+ghost use Rattle.cf_http_heads.specs.Routes.{IsRouteInForm};
+ghost use Rattle.cf_json_members.specs.Faults.{Gives};
+ghost use Rattle.cf_json_replies.specs.Replies.{IsBrief, form_text, text};
+ghost use Rattle.cf_serve_laws.specs.Clerks as clerks;
+ghost use Rattle.cf_serve_laws.specs.Clerks.{AnswersCall, IsWritten, asked_by, code_by, code_of};
+ghost use Rattle.cf_serve_laws.specs.PassTalks.{Hears};
 
 use cf_calls::{Body, Call, Look, Posted, Read};
 use cf_disk::Disk;
 use cf_hall::{HallPass, NoGate, Shared};
-use cf_heads::Route;
+use cf_http_heads::Route;
 use cf_http::{Answer, Request};
 use cf_json::{CallRefused, FormFault, read_call};
-use cf_names::City;
-use cf_reply_text::{write_form, write_posted};
+use cf_hall_names::City;
+use cf_json_replies::{write_form, write_posted};
 use std::alloc::{AllocError, Global};
 use std::marker::Model;
 use std::sync::Wait;
@@ -126,7 +126,7 @@ impl<'a, N: City, D: Disk + Drop, H: Wait> Clerk<'a, N, D, H> {
 }
 
 impl<'a, N: City, D: Disk + Drop, H: Wait> Answer for Clerk<'a, N, D, H> {
-    ghost use Rattle.cf_talk.specs.Clerks.{Passes};
+    ghost use Rattle.cf_serve_laws.specs.Clerks.{Passes};
 
     ghost answers = { Passes N.plan };
 

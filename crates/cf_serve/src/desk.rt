@@ -2,12 +2,12 @@
 
 ghost use Rattle.std.specs.Prelude.{◌≡◌, ◌<◌, ◌^◌, length};
 ghost use Rattle.cf_serve.specs.DesksRun.{EachKept};
-ghost use Rattle.cf_talk.specs.Desks.{DeskKept};
+ghost use Rattle.cf_serve_laws.specs.Desks.{DeskKept};
 
 use crate::clerk::Clerk;
 use cf_disk::Disk;
 use cf_http::{Door, DoorEnd, serve_door};
-use cf_names::City;
+use cf_hall_names::City;
 use std::alloc::Global;
 use std::marker::Model;
 use std::sync::Wait;
@@ -23,7 +23,7 @@ pub struct Desk<'a, N: City, D: Disk + Drop, H: Wait, R: Door + Drop> {
 }
 
 impl<'a, N: City, D: Disk + Drop, H: Wait, R: Door + Drop> Model for Desk<'a, N, D, H, R> {
-    ghost use Rattle.cf_talk.specs.Desks.{DeskState};
+    ghost use Rattle.cf_serve_laws.specs.Desks.{DeskState};
 
     ghost Value = { DeskState R.Link };
 

@@ -7,7 +7,7 @@ use crate::desk::Desk;
 use cf_disk::Disk;
 use cf_hall::HallPass;
 use cf_http::Door;
-use cf_names::City;
+use cf_hall_names::City;
 use cf_turns::Receipts;
 use std::alloc::{AllocError, Global};
 use std::sync::Wait;

@@ -3,17 +3,17 @@
 ghost use Rattle.std.specs.Prelude.{◌≡◌, ◌≤◌, [], length, map, All};
 ghost use Rattle.std.specs.List.{list_any, sum_by};
 ghost use Rattle.std.specs.Vec.{vec_capacity};
-ghost use Rattle.cf_names.specs.Closing.{IsFreshPass};
+ghost use Rattle.cf_hall_names.specs.Closing.{IsFreshPass};
 ghost use Rattle.cf_serve.specs.DesksRun.{DesksRan};
-ghost use Rattle.cf_talk.specs.Desks.{end_links, is_fault};
-ghost use Rattle.cf_talk.specs.ServeRuns.{door_of};
+ghost use Rattle.cf_serve_laws.specs.Desks.{end_links, is_fault};
+ghost use Rattle.cf_serve_laws.specs.ServeRuns.{door_of};
 
 use crate::clerk::Clerk;
 use crate::desk::{Desk, keep_all};
 use cf_disk::Disk;
 use cf_hall::{HallPass, Shared};
 use cf_http::{Door, DoorEnd};
-use cf_names::City;
+use cf_hall_names::City;
 use std::alloc::Global;
 use std::sync::Wait;
 use std::thread::Threads;

@@ -3,11 +3,11 @@ use Rattle.std.proofs.Common.{◌≡◌, ℕ, List, length, take, Option, Some, 
 use Rattle.std.proofs.lemmas.Bool.{cases_lt}
 use Rattle.std.proofs.KnownBytes.{Consumes-nil}
 use Rattle.cf_disk.specs.Moments.{AtEachMoment}
-use Rattle.cf_words.specs.declared.words.Command.{Command}
-use Rattle.cf_words.specs.declared.words.Command.TheVariants as command
-use Rattle.cf_runs.specs.declared.status.Status.{Status}
-use Rattle.cf_runs.specs.declared.status.Status.TheVariants as status
-use Rattle.cf_runs.specs.Devices.{Device}
+use Rattle.cf_run_words.specs.declared.words.Command.{Command}
+use Rattle.cf_run_words.specs.declared.words.Command.TheVariants as command
+use Rattle.cf_run_status.specs.declared.status.Status.{Status}
+use Rattle.cf_run_status.specs.declared.status.Status.TheVariants as status
+use Rattle.cf_run_status.specs.Devices.{Device}
 use Rattle.cf_top.specs.DoorKinds.{DoorKind}
 use Rattle.cf_top.specs.Runs.{Ends, Outside}
 use Rattle.cf_top.specs.Serves.{ServeEnds, ServeSays}

@@ -5,11 +5,11 @@ use Rattle.cf_calls.specs.declared.entry.Entry.{Entry}
 use Rattle.cf_calls.specs.declared.shown.ReconShown.{ReconShown}
 use Rattle.cf_chart.specs.Plan.{Plan}
 use Rattle.cf_chart.specs.Reading.{chart_of}
-use Rattle.cf_generator.specs.Generated.{chart_text, generated}
-use Rattle.cf_runs.specs.declared.status.Status.{Status}
-use Rattle.cf_runs.specs.declared.status.Status.TheVariants as status
+use Rattle.cf_run_generate.specs.Generated.{chart_text, generated}
+use Rattle.cf_run_status.specs.declared.status.Status.{Status}
+use Rattle.cf_run_status.specs.declared.status.Status.TheVariants as status
 use Rattle.cf_top.specs.Generates.{GenerateEnds, IsGenerated, office_lines, total_lines}
-use Rattle.cf_runs.specs.Printing.{Prints}
+use Rattle.cf_run_status.specs.Printing.{Prints}
 
 pub same_lines : {E : Type 0} (made : Result (Vec ℕ Global) E) (count count' : ℕ) (recon recon' : ReconShown) → count ≡ count' → recon ≡ recon'
     → IfOk made (λ text. text.items ≡ total_lines count recon) → IfOk made (λ text. text.items ≡ total_lines count' recon')

@@ -2,16 +2,16 @@
 use Rattle.std.proofs.Common.{◌≡◌, ⊎_elim, ℕ, ◌≤◌, List, [], ◌++◌, length, map, take, IfSome, Option, Ok, refl, sym, subst, ap, ◌∙◌}
 use Rattle.std.proofs.lemmas.List.{length-take-le}
 use Rattle.std.proofs.Math.Seq.{take-append_seam}
-use Rattle.cf_articulation.proofs.Articulated.{articulates_always}
-use Rattle.cf_articulation.proofs.ReadCharts.{read_chart}
-use Rattle.cf_book.specs.DurableState.{DurableBook}
-use Rattle.cf_book.specs.Openings.{OpensBook}
-use Rattle.cf_book.specs.declared.refused.BookRefused.{BookRefused}
-use Rattle.cf_book.specs.declared.refused.BookRefused.TheVariants as refused
+use Rattle.cf_model_articulation.proofs.Articulated.{articulates_always}
+use Rattle.cf_model_articulation.proofs.ReadCharts.{read_chart}
+use Rattle.cf_journal_book.specs.DurableState.{DurableBook}
+use Rattle.cf_journal_book.specs.Openings.{OpensBook}
+use Rattle.cf_journal_book.specs.declared.refused.BookRefused.{BookRefused}
+use Rattle.cf_journal_book.specs.declared.refused.BookRefused.TheVariants as refused
 use Rattle.cf_calls.specs.declared.entry.Entry.{Entry}
 use Rattle.cf_chart.specs.Reading.{chart_of}
-use Rattle.cf_closed.proofs.ClosedYears.{closed_years_always}
-use Rattle.cf_desk.specs.Sinks.{Wrote}
+use Rattle.cf_model_closed.proofs.ClosedYears.{closed_years_always}
+use Rattle.cf_base_lines.specs.Sinks.{Wrote}
 use Rattle.cf_disk.specs.Moments.{AtEachMoment}
 use Rattle.cf_hall.specs.Fronts.{IsUnacknowledged, KeptSince}
 use Rattle.cf_http.specs.Doors.{DoorTells}
@@ -19,16 +19,16 @@ use Rattle.cf_http.specs.Links.{SentFront}
 use Rattle.cf_serve.specs.HallServes.{HallRan, ServesDoors}
 use Rattle.cf_serve.specs.declared.end.ServeEnd.{ServeEnd}
 use Rattle.cf_serve.specs.declared.end.ServeEnd.TheVariants as end
-use Rattle.cf_talk.specs.ServeEnds.{served_text}
+use Rattle.cf_serve_laws.specs.ServeEnds.{served_text}
 use Rattle.cf_top.specs.Talks.{RoseBy}
-use Rattle.cf_talk.specs.ServeRuns.{failed_said, faults_said}
+use Rattle.cf_serve_laws.specs.ServeRuns.{failed_said, faults_said}
 use Rattle.cf_top.specs.declared.serve_command.Kept.{Kept}
 use Rattle.cf_top.specs.declared.serve_command.Kept.TheVariants as kept
-use Rattle.cf_runs.specs.declared.status.Status.{Status}
-use Rattle.cf_runs.specs.declared.status.Status.TheVariants as status
-use Rattle.cf_runs.specs.Devices.{Device}
+use Rattle.cf_run_status.specs.declared.status.Status.{Status}
+use Rattle.cf_run_status.specs.declared.status.Status.TheVariants as status
+use Rattle.cf_run_status.specs.Devices.{Device}
 use Rattle.cf_top.specs.DoorKinds.{DoorKind}
-use Rattle.cf_runs.specs.Refused.{status_of_refused}
+use Rattle.cf_run_status.specs.Refused.{status_of_refused}
 use Rattle.cf_top.specs.Serves.{IsUnserved, KeepsDoors, PutsLine, ServeSays, Served, TellsKept, kept_of}
 
 -- what was moved to the end of an empty list, and then others after it, stands in front

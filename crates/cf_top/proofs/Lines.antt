@@ -14,13 +14,13 @@ use Rattle.cf_chart.specs.Plan.{Plan}
 use Rattle.cf_disk.specs.Moments.{AtEachMoment}
 use Rattle.cf_journal.proofs.Moments.{weaken}
 use Rattle.cf_model.specs.Step.{next_by, next_of}
-use Rattle.cf_book.specs.Books.{IsInHand, RecoversNear}
-use Rattle.cf_book.specs.DurableState.{DurableState}
-use Rattle.cf_book.specs.Recovery.{RecoversTo}
-use Rattle.cf_book.specs.Settling.{Settles, WouldAdd}
+use Rattle.cf_journal_book.specs.Books.{IsInHand, RecoversNear}
+use Rattle.cf_journal_book.specs.DurableState.{DurableState}
+use Rattle.cf_journal_book.specs.Recovery.{RecoversTo}
+use Rattle.cf_journal_book.specs.Settling.{Settles, WouldAdd}
 use Rattle.cf_hall.specs.Fronts.{IsUnacknowledged, RecoversToFrontAnd}
 use Rattle.cf_hall.proofs.Fronts.{doubt_on, whole_front}
-use Rattle.cf_runs.specs.Devices.{Device}
+use Rattle.cf_run_status.specs.Devices.{Device}
 use Rattle.cf_top.specs.Answers.{LineAnswer}
 use Rattle.cf_top.specs.Clerks.{CallMoments, LineMoments}
 use Rattle.cf_top.specs.Talks.{line_failed, settled_failed}

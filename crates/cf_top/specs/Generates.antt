@@ -4,13 +4,13 @@ use Rattle.cf_calls.specs.declared.entry.Entry.{Entry}
 use Rattle.cf_calls.specs.declared.shown.ReconShown.{ReconShown}
 use Rattle.cf_chart.specs.Plan.{Plan}
 use Rattle.cf_chart.specs.Reading.{chart_of}
-use Rattle.cf_generator.specs.Generated.{chart_text, generated}
+use Rattle.cf_run_generate.specs.Generated.{chart_text, generated}
 use Rattle.cf_model.specs.ReconShown.{recon_shown}
 use Rattle.cf_statements.specs.Sums.{single}
 use Rattle.cf_text.specs.Statement.{count_line, row_line}
-use Rattle.cf_runs.specs.declared.status.Status.{Status}
-use Rattle.cf_runs.specs.declared.status.Status.TheVariants as status
-use Rattle.cf_runs.specs.Printing.{Prints}
+use Rattle.cf_run_status.specs.declared.status.Status.{Status}
+use Rattle.cf_run_status.specs.declared.status.Status.TheVariants as status
+use Rattle.cf_run_status.specs.Printing.{Prints}
 
 -- how many entries there are, and what they come to
 abbrev pub total_lines : ℕ → ReconShown → List ℕ

@@ -1,30 +1,30 @@
 -- What a run of `serve` says, by its status.
 use Rattle.std.specs.Prelude.{◌≡◌, ◌≢◌, ◌⊎◌, ℕ, ◌<◌, ◌≤◌, List, ◌∷◌, [], ◌++◌, length, map, take, drop, Option, Some, None, IfSome, IsTrue, Err}
 use Rattle.std.specs.Io.KnownBytes.{Appends}
-use Rattle.cf_articulation.specs.Articulates.{AllArticulate}
-use Rattle.cf_book.specs.Books.{RecoversNear}
-use Rattle.cf_book.specs.Openings.{Refuses}
-use Rattle.cf_book.specs.Recovery.{recovered, RecoversTo}
-use Rattle.cf_book.specs.declared.refused.BookRefused.TheVariants as refused
+use Rattle.cf_model_articulation.specs.Articulates.{AllArticulate}
+use Rattle.cf_journal_book.specs.Books.{RecoversNear}
+use Rattle.cf_journal_book.specs.Openings.{Refuses}
+use Rattle.cf_journal_book.specs.Recovery.{recovered, RecoversTo}
+use Rattle.cf_journal_book.specs.declared.refused.BookRefused.TheVariants as refused
 use Rattle.cf_calls.specs.declared.entry.Entry.{Entry}
 use Rattle.cf_chart.specs.Plan.{Plan}
-use Rattle.cf_closed.specs.ClosedYears.{ClosedYearsStay}
-use Rattle.cf_desk.specs.Sinks.{Wrote}
+use Rattle.cf_model_closed.specs.ClosedYears.{ClosedYearsStay}
+use Rattle.cf_base_lines.specs.Sinks.{Wrote}
 use Rattle.cf_disk.specs.Moments.{AtEachMoment}
 use Rattle.cf_hall.specs.Fronts.{IsUnacknowledged, KeptSince}
 use Rattle.cf_http.specs.Doors.{DoorTells}
 use Rattle.cf_model.specs.State.{IsSoundState}
 use Rattle.cf_serve.specs.declared.end.ServeEnd.{ServeEnd}
 use Rattle.cf_serve.specs.declared.end.ServeEnd.TheVariants as end
-use Rattle.cf_talk.specs.ServeEnds.{AllQuiet, SomeRose, EndsWhole, EndsUnwritten, links_given, served_text}
-use Rattle.cf_talk.specs.ServeRuns.{ServeRan, failed_said, faults_said}
+use Rattle.cf_serve_laws.specs.ServeEnds.{AllQuiet, SomeRose, EndsWhole, EndsUnwritten, links_given, served_text}
+use Rattle.cf_serve_laws.specs.ServeRuns.{ServeRan, failed_said, faults_said}
 use Rattle.cf_top.specs.declared.serve_command.Kept.{Kept}
 use Rattle.cf_top.specs.declared.serve_command.Kept.TheVariants as kept
-use Rattle.cf_runs.specs.declared.status.Status.{Status}
-use Rattle.cf_runs.specs.declared.status.Status.TheVariants as status
-use Rattle.cf_runs.specs.Devices.{Device}
+use Rattle.cf_run_status.specs.declared.status.Status.{Status}
+use Rattle.cf_run_status.specs.declared.status.Status.TheVariants as status
+use Rattle.cf_run_status.specs.Devices.{Device}
 use Rattle.cf_top.specs.DoorKinds.{DoorKind}
-use Rattle.cf_runs.specs.Refused.{status_of_refused}
+use Rattle.cf_run_status.specs.Refused.{status_of_refused}
 
 -- Doors were kept over the journal of a disk, from the history that its content recovers to up to the last one. That is sound,
 -- no entry of it posts to a closed fiscal year, and its statements articulate. Whatever a crash leaves of the disk at the

@@ -3,18 +3,18 @@
 ghost use Rattle.std.specs.Prelude.{◌≡◌, ◌≢◌, ◌⊎◌, [], None, Some, map, string_bytes};
 ghost use Rattle.std.specs.Io.KnownBytes.{Consumes};
 ghost use Rattle.cf_base.specs.Causes.{Rose};
-ghost use Rattle.cf_desk.specs.declared.ended.Ended.TheVariants as ended;
+ghost use Rattle.cf_base_lines.specs.declared.ended.Ended.TheVariants as ended;
 ghost use Rattle.cf_top.specs.Runs.{DeskEnds, DeskKept, opened, status_of_ended};
-ghost use Rattle.cf_runs.specs.Devices.{device};
-ghost use Rattle.cf_words.specs.Words.{command_of};
+ghost use Rattle.cf_run_status.specs.Devices.{device};
+ghost use Rattle.cf_run_words.specs.Words.{command_of};
 
 use crate::clerk::Clerk;
 use cf_base::{Sink, Source};
-use cf_book::{Book, NotOpened, open};
-use cf_desk::{Ended, run_lines};
+use cf_journal_book::{Book, NotOpened, open};
+use cf_base_lines::{Ended, run_lines};
 use cf_disk::Disk;
-use cf_runs::{Ran, Status, refusal_status};
-use cf_words::{Command, WordsRefused, read_words};
+use cf_run_status::{Ran, Status, refusal_status};
+use cf_run_words::{Command, WordsRefused, read_words};
 use std::alloc::Global;
 
 fn status_of(how: Ended) -> Status

@@ -6,16 +6,16 @@ ghost use Rattle.cf_statements.specs.Sums.{single};
 ghost use Rattle.cf_text.specs.Statement.{row_line};
 ghost use Rattle.cf_top.specs.Generates as spec;
 ghost use Rattle.cf_top.specs.Generates.{GenerateEnds, IsGenerated};
-ghost use Rattle.cf_words.specs.Words.{command_of};
+ghost use Rattle.cf_run_words.specs.Words.{command_of};
 
 use cf_base::Sink;
 use cf_calls::shown::ReconShown;
 use cf_calls::{Label, List, Row};
-use cf_generator::generate;
+use cf_run_generate::generate;
 use cf_office::{BookOffice, History};
-use cf_runs::{Status, print};
+use cf_run_status::{Status, print};
 use cf_text::{put_count, put_row};
-use cf_words::{Command, WordsRefused, read_words};
+use cf_run_words::{Command, WordsRefused, read_words};
 use std::alloc::{AllocError, Global};
 
 /// Adds the line of an amount.

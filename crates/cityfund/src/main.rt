@@ -3,10 +3,10 @@
 
 use cf_base::{FileSource, StdSink, StdSource};
 use cf_disk::FileDisk;
-use cf_links::{TcpDoor, doors_from};
-use cf_runs::{Ran, Status, tell};
+use cf_http_links::{TcpDoor, doors_from};
+use cf_run_status::{Ran, Status, tell};
 use cf_top::run;
-use cf_words::{Command, WordsRefused, read_words};
+use cf_run_words::{Command, WordsRefused, read_words};
 use std::alloc::{AllocError, Global};
 use std::io::BufReader;
 use std::net::{Net, TcpListener, TcpStream};

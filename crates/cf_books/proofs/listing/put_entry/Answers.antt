@@ -1,6 +1,6 @@
 use Rattle.std.proofs.Common.{◌≡◌, ◌∙◌, decimal}
 use Rattle.cf_base.specs.Calendar.{day_text}
-use Rattle.cf_call_text.specs.CallText.{call_word}
+use Rattle.cf_json_calls.specs.CallText.{call_word}
 use Rattle.cf_books.specs.Listing.{amount_text}
 use Rattle.cf_books_lists.specs.Records.{drawn_text}
 use Rattle.cf_books.proofs.listing.put_entry.Goals as goal

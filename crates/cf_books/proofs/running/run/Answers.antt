@@ -1,6 +1,6 @@
 use Rattle.std.proofs.Common.{◌≡◌, ◌∙◌, List, ℕ, ap, sym, subst}
 use Rattle.std.specs.Io.KnownBytes.{Appends}
-use Rattle.cf_desk.specs.Sinks.{Wrote}
+use Rattle.cf_base_lines.specs.Sinks.{Wrote}
 use Rattle.cf_books.specs.Answers.{AreLeft, IsBeside, reads_journal, said_with}
 use Rattle.cf_books_words.specs.Words.{asks}
 use Rattle.cf_books.proofs.Ends.{Fits, are_left, few, fit_with, gave_ends}

@@ -1,6 +1,6 @@
 use Rattle.std.proofs.Common.{◌≡◌, ◌<◌, ◌^◌, ◌∙◌, ap, sym, subst, arith, List}
 use Rattle.std.specs.List.{All}
-use Rattle.cf_book.specs.Watching.{all_posted}
+use Rattle.cf_journal_book.specs.Watching.{all_posted}
 use Rattle.cf_ledger.specs.declared.post.Post.{Post}
 use Rattle.cf_ledger.specs.Posts.{sizes, IsInYears}
 use Rattle.cf_books_days.specs.Adoptions.{adoptions_through}

@@ -3,7 +3,7 @@ use Rattle.std.proofs.lemmas.Grind.{common_steps}
 use Rattle.std.specs.BTreeMap.{get}
 use Rattle.std.specs.Ordering.{nat_cmp}
 use Rattle.cf_calls.specs.declared.entry.Entry.{Entry}
-use Rattle.cf_rows.specs.Pairs.{Pairs, amount_at}
+use Rattle.cf_register_parts.specs.Pairs.{Pairs, amount_at}
 use Rattle.cf_books_documents.specs.Events.{events_from, none_lent, voucher_in}
 use Rattle.cf_books_documents.specs.Indexed.{list_in, numbered}
 use Rattle.cf_books_documents.proofs.Indexing.{entry_more}

@@ -1,5 +1,5 @@
-use Rattle.cf_articulation.proofs.ReadCharts.{read_chart}
-use Rattle.cf_articulation.proofs.TrialBalances.{balances}
+use Rattle.cf_model_articulation.proofs.ReadCharts.{read_chart}
+use Rattle.cf_model_articulation.proofs.TrialBalances.{balances}
 use Rattle.cf_books_lists.proofs.balances.balances_text.Goals as goal
 
 pub returns-clause-zero : goal.returns-clause-zero

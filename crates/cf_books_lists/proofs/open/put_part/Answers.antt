@@ -1,7 +1,7 @@
 use Rattle.std.proofs.Common.{◌≡◌, ◌∙◌, ap, decimal, pos, []}
 use Rattle.cf_base.specs.Amounts.{money_of}
 use Rattle.cf_base.specs.Calendar.{day_text}
-use Rattle.cf_call_text.specs.CallText.{call_word}
+use Rattle.cf_json_calls.specs.CallText.{call_word}
 use Rattle.cf_books_lists.specs.Open.{line_department, line_fund, line_of, next_text, number_of, number_text, party_of}
 use Rattle.cf_books_lists.specs.Records.{drawn_text}
 use Rattle.cf_books_lists.proofs.open.put_part.Goals as goal

@@ -3,7 +3,7 @@ use Rattle.std.proofs.lemmas.Result.{IfOk-weaker}
 use Rattle.cf_base.specs.Calendar.{year_of_month}
 use Rattle.cf_base.specs.declared.calendar.Month.{Month}
 use Rattle.cf_chart.specs.Plan.{Plan}
-use Rattle.cf_history.specs.RestState.{RestState}
+use Rattle.cf_office_history.specs.RestState.{RestState}
 use Rattle.cf_books_lists.specs.Records.{head_text, record_text}
 use Rattle.cf_books_lists.specs.Rows.{Written, added, none_written}
 use Rattle.cf_books_lists.proofs.Adding.{added_two}

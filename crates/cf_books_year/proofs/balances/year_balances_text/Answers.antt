@@ -1,6 +1,6 @@
 use Rattle.std.proofs.Common.{◌-◌}
-use Rattle.cf_articulation.proofs.ReadCharts.{read_chart}
-use Rattle.cf_articulation.proofs.TrialBalances.{balances}
+use Rattle.cf_model_articulation.proofs.ReadCharts.{read_chart}
+use Rattle.cf_model_articulation.proofs.TrialBalances.{balances}
 use Rattle.cf_books_year.proofs.Opening.{year_balances}
 use Rattle.cf_books_year.proofs.balances.year_balances_text.Goals as goal
 

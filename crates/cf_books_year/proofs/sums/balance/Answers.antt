@@ -2,7 +2,7 @@ use Rattle.std.proofs.Common.{◌<◌, ◌^◌, unsigned_abs, sym, subst, rules}
 use Rattle.std.proofs.lemmas.Int.{to_z-of_z}
 use mir.Val.{SFits}
 use mir.Syntax.{w128}
-use Rattle.cf_looks.proofs.SmallBalance.{small_balance}
+use Rattle.cf_office_looks.proofs.SmallBalance.{small_balance}
 use Rattle.cf_books_year.proofs.sums.balance.Goals as goal
 
 pub returns-clause-small : goal.returns-clause-small

@@ -1,7 +1,7 @@
 use Rattle.std.proofs.Common.{refl}
 use Rattle.std.specs.Fmt.{digits}
 use Rattle.json.specs.Print.{escape_byte}
-use Rattle.cf_members.specs.Objects.{text_of}
+use Rattle.cf_json_members.specs.Objects.{text_of}
 use Rattle.cf_claims.proofs.laws.worked_grants.Goals as goal
 
 pub returns-clause-claims : goal.returns-clause-claims

@@ -2,8 +2,8 @@ use Rattle.std.proofs.Common.{◌≡◌, ◌+◌, List, [], ◌∷◌, ◌++◌,
 use mathlib.Core.List.{IsPrefix}
 use Rattle.cf_turns.specs.Lists.{TaggedCall, TaggedEntry, calls_of, places_of}
 use Rattle.cf_turns.specs.States.{PassState, RecorderState}
-use Rattle.cf_names.specs.Closing.{accepted_of, failed_calls, receipts_of}
-use Rattle.cf_names.specs.Shares.{SharesState}
+use Rattle.cf_hall_names.specs.Closing.{accepted_of, failed_calls, receipts_of}
+use Rattle.cf_hall_names.specs.Shares.{SharesState}
 use Rattle.cf_hall.proofs.Ending.{closed, nothing_more, one_apart}
 use Rattle.cf_hall.proofs.Failed.{all_failed}
 use Rattle.cf_hall.proofs.closing.close_in.Goals as goal

@@ -4,7 +4,7 @@ use mathlib.Core.List.{IsPrefix}
 use Rattle.std.specs.Vec.Iter.{into_iter_items}
 use Rattle.cf_turns.specs.Lists.{TaggedCall, TaggedEntry, calls_of, places_of}
 use Rattle.cf_turns.specs.States.{PassState}
-use Rattle.cf_names.specs.Closing.{faults_in, receipts_of}
+use Rattle.cf_hall_names.specs.Closing.{faults_in, receipts_of}
 use Rattle.cf_hall.proofs.Ending.{nothing_more, mapped_on, yielded_on, accepted_on, counted_on, faulted_on, quiet_on, parts_on, apart_on}
 use Rattle.cf_hall.proofs.closing.end_all.Goals as goal
 

@@ -3,7 +3,7 @@ use mathlib.Core.List.{IsPrefix}
 use Rattle.std.specs.Vec.{vec_capacity}
 use Rattle.std.specs.Vec.Iter.{into_iter_items}
 use Rattle.cf_turns.specs.Lists.{calls_of, places_of}
-use Rattle.cf_names.specs.Closing.{AreApart, accepted_of, failed_calls, faults_in, receipts_of}
+use Rattle.cf_hall_names.specs.Closing.{AreApart, accepted_of, failed_calls, faults_in, receipts_of}
 use Rattle.cf_hall.proofs.closing.end_all.Given as goal
 
 abbrev pub invariant-loop-pass : goal.invariant-loop-pass

@@ -1,5 +1,5 @@
 use Rattle.std.proofs.Common.{◌≡◌, ◌+◌, ◌<◌, ◌≤◌, ℕ}
-use Rattle.cf_names.specs.Lists.{total_at}
+use Rattle.cf_hall_names.specs.Lists.{total_at}
 use Rattle.cf_hall.proofs.opening.add_all.Given as goal
 
 -- the counts before this one have theirs

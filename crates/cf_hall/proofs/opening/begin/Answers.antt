@@ -1,5 +1,5 @@
 use Rattle.std.proofs.Common.{arith}
-use Rattle.cf_names.proofs.Eight.{eight}
+use Rattle.cf_hall_names.proofs.Eight.{eight}
 use Rattle.cf_hall.proofs.Begun.{counted}
 use Rattle.cf_hall.proofs.opening.begin.Goals as goal
 

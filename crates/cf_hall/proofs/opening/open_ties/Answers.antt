@@ -1,4 +1,4 @@
-use Rattle.cf_names.proofs.Eight.{eight}
+use Rattle.cf_hall_names.proofs.Eight.{eight}
 use Rattle.cf_hall.proofs.opening.open_ties.Goals as goal
 
 pub returns-clause-counts : goal.returns-clause-counts

@@ -1,10 +1,10 @@
 use Rattle.std.proofs.Common.{◌≡◌, ℕ, ◌+◌, ◌++◌, ◌∷◌, [], List, take, length, sym, ap, subst, ◌∙◌, arith, length-append}
 use Rattle.std.proofs.lemmas.List.{take_more}
 use Rattle.cf_calls.specs.declared.entry.Entry.{Entry}
-use Rattle.cf_names.specs.Closing.{HasFirst}
-use Rattle.cf_names.specs.Lists.{entries_of}
-use Rattle.cf_names.specs.Shares.{TotalsState}
-use Rattle.cf_names.proofs.Entries.{entries_push}
+use Rattle.cf_hall_names.specs.Closing.{HasFirst}
+use Rattle.cf_hall_names.specs.Lists.{entries_of}
+use Rattle.cf_hall_names.specs.Shares.{TotalsState}
+use Rattle.cf_hall_names.proofs.Entries.{entries_push}
 use Rattle.cf_hall.proofs.Begun.{first_more}
 use Rattle.cf_hall.proofs.opening.record_all.Goals as goal
 

@@ -1,6 +1,6 @@
 use Rattle.std.proofs.Common.{◌≡◌, ◌+◌, take, length, []}
-use Rattle.cf_names.specs.Closing.{HasFirst}
-use Rattle.cf_names.specs.Lists.{entries_of}
+use Rattle.cf_hall_names.specs.Closing.{HasFirst}
+use Rattle.cf_hall_names.specs.Lists.{entries_of}
 use Rattle.cf_hall.specs.Recordings.{SameRecorder}
 use Rattle.cf_hall.proofs.opening.record_all.Given as goal
 

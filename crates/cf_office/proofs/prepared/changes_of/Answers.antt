@@ -1,7 +1,7 @@
 use Rattle.std.proofs.Common.{◌≡◌, ◌∙◌, None, Some, true, List, Vec, Global, length, ap, sym, subst}
 use Rattle.std.proofs.lemmas.Result.{IfOk-weaker}
 use Rattle.std.specs.Result.{IfOk}
-use Rattle.cf_history.specs.HistoryState.{HistoryState}
+use Rattle.cf_office_history.specs.HistoryState.{HistoryState}
 use Rattle.cf_office.specs.Rolled.{changes_to}
 use Rattle.cf_budget.specs.declared.changes.LineChange.{LineChange}
 use Rattle.cf_budget.specs.Tables.{has_line}

@@ -1,6 +1,6 @@
 use Rattle.std.proofs.Common.{◌≡◌, ◌*◌, ◌≤◌, take}
 use Rattle.std.specs.List.{sum_by}
-use Rattle.cf_talk.specs.Desks.{end_links}
+use Rattle.cf_serve_laws.specs.Desks.{end_links}
 use Rattle.cf_serve.proofs.serving.links_given.Given as goal
 
 abbrev pub invariant-loop-desk : goal.invariant-loop-desk

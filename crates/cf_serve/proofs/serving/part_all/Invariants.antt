@@ -1,7 +1,7 @@
 use Rattle.std.proofs.Common.{◌≡◌, ◌++◌, length, map}
 use Rattle.std.specs.Vec.{vec_capacity}
 use Rattle.std.specs.Vec.Iter.{into_iter_items}
-use Rattle.cf_talk.specs.ServeRuns.{door_of}
+use Rattle.cf_serve_laws.specs.ServeRuns.{door_of}
 use Rattle.cf_serve.proofs.serving.part_all.Given as goal
 
 abbrev pub invariant-loop-desk : goal.invariant-loop-desk

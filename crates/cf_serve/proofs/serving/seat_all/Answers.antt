@@ -1,9 +1,9 @@
 use Rattle.std.proofs.Common.{All, List, IfSome, sym, subst, ◌∙◌}
 use Rattle.std.proofs.lemmas.List.Elements.{All-push, All-pop}
 use Rattle.std.specs.Vec.Iter.{into_iter_items}
-use Rattle.cf_names.specs.Closing.{IsFreshPass}
-use Rattle.cf_talk.specs.Desks.{DeskState}
-use Rattle.cf_talk.specs.ServeRuns.{door_of}
+use Rattle.cf_hall_names.specs.Closing.{IsFreshPass}
+use Rattle.cf_serve_laws.specs.Desks.{DeskState}
+use Rattle.cf_serve_laws.specs.ServeRuns.{door_of}
 use Rattle.cf_serve.proofs.Seating.{one_on, long_on, fewer_on, paired_on}
 use Rattle.cf_serve.proofs.serving.seat_all.Goals as goal
 

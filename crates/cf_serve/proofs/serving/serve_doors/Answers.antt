@@ -1,5 +1,5 @@
 use Rattle.std.proofs.Common.{List, sym}
-use Rattle.cf_talk.specs.Desks.{DeskState, end_links, is_fault}
+use Rattle.cf_serve_laws.specs.Desks.{DeskState, end_links, is_fault}
 use Rattle.cf_serve.proofs.Seating.{added, any_of}
 use Rattle.cf_serve.proofs.serving.serve_doors.Goals as goal
 

@@ -1,9 +1,9 @@
 use Rattle.std.proofs.Common.{◌≡◌, Some, map, string_bytes, refl, ap, ◌∙◌}
-use Rattle.cf_runs.specs.Devices.{device}
+use Rattle.cf_run_status.specs.Devices.{device}
 use Rattle.cf_top.specs.DoorKinds.{door_kind}
 use Rattle.cf_top.specs.Runs.{outside}
-use Rattle.cf_words.specs.Words.{command_of}
-use Rattle.cf_words.specs.declared.words.Command.TheVariants as command
+use Rattle.cf_run_words.specs.Words.{command_of}
+use Rattle.cf_run_words.specs.declared.words.Command.TheVariants as command
 use Rattle.cf_top.proofs.Ending.{ends_unread, serve_reads}
 use Rattle.cf_top.proofs.running.run.Goals as goal
 

@@ -1,4 +1,4 @@
-use Rattle.cf_runs.specs.Devices.{device}
+use Rattle.cf_run_status.specs.Devices.{device}
 use Rattle.cf_top.specs.DoorKinds.{door_kind}
 use Rattle.cf_top.proofs.Ending.{ends_unprepared}
 use Rattle.cf_top.proofs.serve_command.run_serve.Goals as goal

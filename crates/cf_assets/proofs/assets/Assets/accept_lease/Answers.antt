@@ -3,13 +3,13 @@ use Rattle.std.proofs.lemmas.List.{length-append}
 use Rattle.cf_assets.specs.Register.{Register}
 use Rattle.cf_assets.specs.Rows.{view_asset, view_origin, view_stage}
 use Rattle.cf_assets.specs.Years.{let_in}
-use Rattle.cf_rows.proofs.Cells.{cells_most}
+use Rattle.cf_register_parts.proofs.Cells.{cells_most}
 use Rattle.cf_assets.proofs.Leases.{lease_years, let_most, new_months}
 use Rattle.cf_assets.proofs.Standing.{extents_gift}
 use Rattle.cf_model.specs.Assets.{Asset, is_leased, voucher_of}
 use Rattle.cf_assets.proofs.assets.Assets.accept_lease.Goals as goal
 use Rattle.cf_base.specs.Limits.{most_entries}
-use Rattle.cf_rows.specs.Limits.{most_total}
+use Rattle.cf_register_parts.specs.Limits.{most_total}
 
 pub raise-requires-clause-fits : goal.raise-requires-clause-fits
 raise-requires-clause-fits c =

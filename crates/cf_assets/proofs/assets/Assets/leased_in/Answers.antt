@@ -1,6 +1,6 @@
 use Rattle.std.proofs.Common.{sum_by, arith}
 use Rattle.cf_assets.specs.Years.{let_in}
-use Rattle.cf_rows.proofs.Cells.{year_is}
+use Rattle.cf_register_parts.proofs.Cells.{year_is}
 use Rattle.cf_assets.proofs.Leases.{let_most}
 use Rattle.cf_assets.proofs.assets.Assets.leased_in.Goals as goal
 

@@ -3,9 +3,9 @@ use Rattle.cf_assets.specs.Inventory.{AreKept}
 use Rattle.cf_assets.specs.Register.{Register}
 use Rattle.cf_assets.specs.Years.{let_in}
 use Rattle.cf_assets.proofs.Leases.{let_most}
-use Rattle.cf_rows.proofs.Cells.{cells_to, cells_most, to_most}
+use Rattle.cf_register_parts.proofs.Cells.{cells_to, cells_most, to_most}
 use Rattle.cf_assets.proofs.assets.Assets.leased_through.Goals as goal
-use Rattle.cf_rows.specs.Limits.{most_total}
+use Rattle.cf_register_parts.specs.Limits.{most_total}
 
 pub total_through-requires : goal.total_through-requires
 total_through-requires c =

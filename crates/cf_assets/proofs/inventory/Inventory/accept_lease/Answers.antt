@@ -5,7 +5,7 @@ use Rattle.cf_assets.specs.Rows.{view_asset, IsStage}
 use Rattle.cf_assets.proofs.InService.{serving_push}
 use Rattle.cf_assets.proofs.Keeping.{rows_push, accumulated_push, lease_bought, lease_given, new_book}
 use Rattle.cf_assets.proofs.inventory.Inventory.accept_lease.Goals as goal
-use Rattle.cf_rows.specs.Limits.{most_items}
+use Rattle.cf_register_parts.specs.Limits.{most_items}
 
 pub invariant_of-self : goal.invariant_of-self
 invariant_of-self c =

@@ -3,9 +3,9 @@ use Rattle.cf_assets.specs.Inventory.{Inventory, AreKept}
 use Rattle.cf_assets.specs.Rows.{view_asset}
 use Rattle.cf_assets.specs.Years.{bought_in, given_in}
 use Rattle.cf_assets.proofs.Keeping.{year_most, bought_most, given_most, kept}
-use Rattle.cf_rows.proofs.Cells.{cells_to, cells_most, to_most}
+use Rattle.cf_register_parts.proofs.Cells.{cells_to, cells_most, to_most}
 use Rattle.cf_assets.proofs.inventory.Inventory.acquired_through.Goals as goal
-use Rattle.cf_rows.specs.Limits.{most_total}
+use Rattle.cf_register_parts.specs.Limits.{most_total}
 
 pub total_through-requires : goal.total_through-requires
 total_through-requires c =

@@ -5,9 +5,9 @@ use Rattle.cf_assets.specs.Rows.{view_asset, IsStage}
 use Rattle.cf_assets.specs.Years.{bought_in}
 use Rattle.cf_assets.proofs.InService.{serving_push}
 use Rattle.cf_assets.proofs.Keeping.{rows_push, accumulated_push, buy_bought, buy_given, new_book, year_most, bought_most}
-use Rattle.cf_rows.proofs.Cells.{cells_most}
+use Rattle.cf_register_parts.proofs.Cells.{cells_most}
 use Rattle.cf_assets.proofs.inventory.Inventory.buy.Goals as goal
-use Rattle.cf_rows.specs.Limits.{most_items, most_total}
+use Rattle.cf_register_parts.specs.Limits.{most_items, most_total}
 
 pub raise-requires-clause-fits : goal.raise-requires-clause-fits
 raise-requires-clause-fits c =

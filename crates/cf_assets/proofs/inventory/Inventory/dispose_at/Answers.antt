@@ -9,10 +9,10 @@ use Rattle.cf_assets.specs.declared.rows.AssetRow.{AssetRow}
 use Rattle.cf_assets.specs.declared.rows.StageNow.TheVariants.{Disposed, Held}
 use Rattle.cf_assets.proofs.InService.{serving_set}
 use Rattle.cf_assets.proofs.Keeping.{IsAt, restaged, row_is, restage_rows, restage_same, gone_accumulated, gone_bought, gone_book, held_row, view_set, viewed, year_most, book_most}
-use Rattle.cf_rows.proofs.Cells.{cells_most}
+use Rattle.cf_register_parts.proofs.Cells.{cells_most}
 use Rattle.cf_model.specs.Assets.{Asset, disposed, depreciation}
 use Rattle.cf_assets.proofs.inventory.Inventory.dispose_at.Goals as goal
-use Rattle.cf_rows.specs.Limits.{most_total}
+use Rattle.cf_register_parts.specs.Limits.{most_total}
 
 there : (a : Inside) (i : Inventory) (k : ℕ) (r : AssetRow) → inventory_of a ≡ i → k < length i.assets → r ≡ get_or a.rows.items k r → IsAt k a.rows.items r
 there a i k r view l is = record { within = omega (arith, subst (λ (j : Inventory). k < length j.assets) (sym view) l, length-map a.rows.items view_asset); is = is }

@@ -2,9 +2,9 @@ use Rattle.std.proofs.Common.{◌-◌, length, map, sum_by, ◌∙◌, arith}
 use Rattle.cf_assets.specs.Rows.{view_asset}
 use Rattle.cf_assets.specs.Years.{book_in}
 use Rattle.cf_assets.proofs.Keeping.{year_most, book_most}
-use Rattle.cf_rows.proofs.Cells.{cells_to, cells_most, to_most}
+use Rattle.cf_register_parts.proofs.Cells.{cells_to, cells_most, to_most}
 use Rattle.cf_assets.proofs.inventory.Inventory.gone_through.Goals as goal
-use Rattle.cf_rows.specs.Limits.{most_total}
+use Rattle.cf_register_parts.specs.Limits.{most_total}
 
 pub total_through-requires : goal.total_through-requires
 total_through-requires c =

@@ -1,5 +1,5 @@
 use Rattle.std.proofs.Common.{arith, refl}
-use Rattle.cf_rows.proofs.Cells.{none_years}
+use Rattle.cf_register_parts.proofs.Cells.{none_years}
 use Rattle.cf_assets.proofs.inventory.Inventory.new.Goals as goal
 
 pub invariant_of-result : goal.invariant_of-result

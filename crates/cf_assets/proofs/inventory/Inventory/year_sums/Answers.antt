@@ -1,7 +1,7 @@
 use Rattle.std.proofs.Common.{length, map, sum_by, arith}
 use Rattle.cf_assets.specs.Rows.{view_asset}
 use Rattle.cf_assets.specs.Years.{bought_in, given_in, book_in}
-use Rattle.cf_rows.proofs.Cells.{year_is}
+use Rattle.cf_register_parts.proofs.Cells.{year_is}
 use Rattle.cf_assets.proofs.Keeping.{year_most, bought_most, given_most, book_most}
 use Rattle.cf_assets.proofs.inventory.Inventory.year_sums.Goals as goal
 

@@ -1,14 +1,14 @@
 use Rattle.std.proofs.Common.{◌≡◌, ◌<◌, ◌^◌, ◌++◌, List, ap, subst, sym, ◌∙◌, unsigned_abs}
 use Rattle.std.specs.List.{All}
 use Rattle.std.proofs.lemmas.Result.{on_ok_weaker}
-use Rattle.cf_book.specs.Watching.{Posted, all_posted, shown_as}
+use Rattle.cf_journal_book.specs.Watching.{Posted, all_posted, shown_as}
 use Rattle.cf_ledger.specs.declared.post.Post.{Post}
 use Rattle.cf_model.specs.Registers.{Registers, registers_of}
 use Rattle.cf_registers.specs.Moved.{IsCleared}
 use Rattle.cf_registers.proofs.Taken.{accepted_cleared}
-use Rattle.cf_ledger_rows.specs.Rolls.{AreReleased}
-use Rattle.cf_ledger_rows.specs.Entries.{entry_rows}
-use Rattle.cf_ledger_rows.proofs.Orderly.{released_always}
+use Rattle.cf_office_rows.specs.Rolls.{AreReleased}
+use Rattle.cf_office_rows.specs.Entries.{entry_rows}
+use Rattle.cf_office_rows.proofs.Orderly.{released_always}
 use Rattle.cf_books_ledger.proofs.Gathering.{posts_fit, rows_push}
 use Rattle.cf_books_ledger.proofs.gather.GatheredWatch.see.Goals as goal
 

@@ -1,6 +1,6 @@
 use Rattle.std.proofs.Common.{◌++◌, ap, sym, ◌∙◌, append_assoc}
 use Rattle.std.proofs.lemmas.Result.{on_ok_weaker}
-use Rattle.cf_book.specs.Watching.{Posted, all_posted, shown_as}
+use Rattle.cf_journal_book.specs.Watching.{Posted, all_posted, shown_as}
 use Rattle.cf_calls.specs.declared.read.Basis.TheVariants.{Fund as FundBasis, Gov as GovBasis}
 use Rattle.cf_books_lists.specs.Posts.{placed}
 use Rattle.cf_books_lists.proofs.Seen.{placed_push}

@@ -4,7 +4,7 @@ use mir.Val.{SFits}
 use mir.Syntax.{w128}
 use Rattle.cf_debt.specs.Register.{Register, registers_with}
 use Rattle.cf_debt.specs.Rows.{view_bonds, view_payments}
-use Rattle.cf_rows.specs.Years.{sum_of}
+use Rattle.cf_register_parts.specs.Years.{sum_of}
 use Rattle.cf_debt.proofs.RunningSums.{accrued_is}
 use Rattle.cf_model.specs.Items as items
 use Rattle.cf_debt.proofs.debt.Debt.accrued.Goals as goal

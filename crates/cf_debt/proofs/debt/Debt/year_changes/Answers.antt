@@ -4,7 +4,7 @@ use mir.Val.{SFits}
 use mir.Syntax.{w128}
 use Rattle.cf_debt.specs.Register.{Register, debt_changes, registers_with}
 use Rattle.cf_debt.specs.Rows.{view_bonds, view_payments}
-use Rattle.cf_rows.specs.Years.{sum_of}
+use Rattle.cf_register_parts.specs.Years.{sum_of}
 use Rattle.cf_debt.proofs.RunningSums.{leases_issued_is, principal_is, proceeds_is}
 use Rattle.cf_debt.proofs.debt.Debt.year_changes.Goals as goal
 

@@ -6,11 +6,11 @@ use Rattle.cf_calls.specs.declared.call.Call.{Call}
 use Rattle.cf_calls.specs.declared.entry.Entry.{Entry}
 use Rattle.cf_calls.specs.declared.reply.Posted.TheVariants as posted
 use Rattle.cf_chart.specs.Plan.{Plan}
-use Rattle.cf_book.specs.DurableState.{state_of}
-use Rattle.cf_names.specs.Closing.{RoseBy}
-use Rattle.cf_names.specs.Lists.{calls_in, entries_of}
-use Rattle.cf_names.specs.Shares.{TotalsState}
-use Rattle.cf_names.proofs.Entries.{entries_length}
+use Rattle.cf_journal_book.specs.DurableState.{state_of}
+use Rattle.cf_hall_names.specs.Closing.{RoseBy}
+use Rattle.cf_hall_names.specs.Lists.{calls_in, entries_of}
+use Rattle.cf_hall_names.specs.Shares.{TotalsState}
+use Rattle.cf_hall_names.proofs.Entries.{entries_length}
 use Rattle.cf_registers.specs.Moved.{AreTablesOf}
 use Rattle.cf_turns.specs.Lists.{TaggedCall, TaggedEntry}
 use Rattle.cf_turns.specs.States.{RecorderState}

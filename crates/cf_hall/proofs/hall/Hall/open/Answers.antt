@@ -1,10 +1,10 @@
 use Rattle.std.proofs.Common.{◌≡◌, List, [], length, sym, ap, subst, ◌∙◌, inl, arith}
-use Rattle.cf_book.specs.DurableState.{DurableBook}
+use Rattle.cf_journal_book.specs.DurableState.{DurableBook}
 use Rattle.cf_calls.specs.declared.entry.Entry.{Entry}
 use Rattle.cf_chart.specs.Plan.{Plan}
-use Rattle.cf_names.specs.Lists.{calls_in, entries_of}
-use Rattle.cf_names.specs.Shares.{TotalsState}
-use Rattle.cf_names.proofs.Entries.{entries_length}
+use Rattle.cf_hall_names.specs.Lists.{calls_in, entries_of}
+use Rattle.cf_hall_names.specs.Shares.{TotalsState}
+use Rattle.cf_hall_names.proofs.Entries.{entries_length}
 use Rattle.cf_registers.specs.Moved.{AreTablesOf}
 use Rattle.cf_turns.specs.Lists.{TaggedEntry}
 use Rattle.cf_turns.specs.States.{RecorderState}

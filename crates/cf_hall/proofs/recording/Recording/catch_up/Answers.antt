@@ -1,8 +1,8 @@
 use Rattle.std.proofs.Common.{◌≡◌, ℕ, ◌<◌, List, [], ◌∷◌, Option, None, refl, sym, ap, subst}
 use Rattle.cf_budget.specs.declared.changes.LineChange.{LineChange}
-use Rattle.cf_names.specs.Following.{AllFollow}
-use Rattle.cf_names.specs.Lists.{total_at}
-use Rattle.cf_names.proofs.Eight.{eight}
+use Rattle.cf_hall_names.specs.Following.{AllFollow}
+use Rattle.cf_hall_names.specs.Lists.{total_at}
+use Rattle.cf_hall_names.proofs.Eight.{eight}
 use Rattle.cf_turns.specs.Lists.{TaggedEntry}
 use Rattle.cf_turns.specs.States.{RecorderState}
 use Rattle.cf_hall.specs.TakenState.{AreTakenStripes}

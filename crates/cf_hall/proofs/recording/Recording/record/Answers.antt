@@ -6,13 +6,13 @@ use Rattle.cf_model.specs.Step.{Adds, IsLegal}
 use Rattle.cf_model.specs.Stripes.{touches}
 use Rattle.cf_model.proofs.Accepted.{accepted_fits}
 use Rattle.cf_model.proofs.Legal.{legal_push}
-use Rattle.cf_names.specs.Following.{AreCounts}
-use Rattle.cf_names.specs.Lists.{entries_of, total_at}
-use Rattle.cf_names.proofs.Entries.{entries_length, entries_push}
+use Rattle.cf_hall_names.specs.Following.{AreCounts}
+use Rattle.cf_hall_names.specs.Lists.{entries_of, total_at}
+use Rattle.cf_hall_names.proofs.Entries.{entries_length, entries_push}
 use Rattle.cf_registers.specs.Lines.{LendsTouched}
 use Rattle.cf_turns.specs.Lists.{TaggedEntry}
 use Rattle.cf_turns.specs.States.{RecorderState}
-use Rattle.cf_book.specs.Archives.{IsOwed}
+use Rattle.cf_journal_book.specs.Archives.{IsOwed}
 use Rattle.cf_hall.specs.TakenState.{AreTakenStripes, AllSeen}
 use Rattle.cf_hall.proofs.Standing.{owing, taken_own, taken_more}
 use Rattle.cf_hall.proofs.recording.Recording.record.Goals as goal

@@ -1,6 +1,6 @@
 use Rattle.std.proofs.Common.{◌≡◌, ◌<◌, Option, None, is_some, ap, sym, subst, ◌∙◌, arith}
 use Rattle.cf_budget.specs.Tables.{Table, table_of, has_stripe}
-use Rattle.cf_names.proofs.Eight.{eight}
+use Rattle.cf_hall_names.proofs.Eight.{eight}
 use Rattle.cf_hall.specs.Standing.{IsStripe}
 use Rattle.cf_hall.proofs.Resting.{taken_of, same_there}
 use Rattle.cf_hall.proofs.taken.Taken.of.Goals as goal

@@ -1,5 +1,5 @@
 use Rattle.std.proofs.Common.{◌∙◌}
-use Rattle.cf_heads.specs.Heads.{IsOpenHead}
+use Rattle.cf_http_heads.specs.Heads.{IsOpenHead}
 use Rattle.cf_http.proofs.CameLaws.{came_more}
 use Rattle.cf_http.proofs.ReadLaws.{read_over}
 use Rattle.cf_http.proofs.server.Server.next_head.Goals as goal

@@ -1,5 +1,5 @@
 use Rattle.std.proofs.Common.{◌≡◌, ◌-◌, length}
-use Rattle.cf_heads.specs.Heads.{IsOpenHead}
+use Rattle.cf_http_heads.specs.Heads.{IsOpenHead}
 use Rattle.cf_http.specs.Links.{OnlyReads}
 use Rattle.cf_http.specs.Stages.{Came, ReadsOver}
 use Rattle.cf_http.proofs.server.Server.next_head.Given as goal

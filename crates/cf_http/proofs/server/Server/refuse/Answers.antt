@@ -1,5 +1,5 @@
 use Rattle.std.proofs.Common.{ap, subst}
-use Rattle.cf_heads.specs.Answers.{refusal_answer}
+use Rattle.cf_http_heads.specs.Answers.{refusal_answer}
 use Rattle.cf_http.specs.Links.{LinkTells}
 use Rattle.cf_http.specs.Serving.{Gave}
 use Rattle.cf_http.specs.Stages.{Stage}

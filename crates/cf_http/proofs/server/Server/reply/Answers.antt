@@ -1,5 +1,5 @@
 use Rattle.std.proofs.Common.{◌∙◌, ◌+◌, ap, drop, sym, subst, take}
-use Rattle.cf_heads.specs.Answers.{miss_answer}
+use Rattle.cf_http_heads.specs.Answers.{miss_answer}
 use Rattle.cf_http.specs.Links.{LinkTells}
 use Rattle.cf_http.specs.Turns.{Said, Told}
 use Rattle.cf_http.proofs.TurnLaws.{missed_open, missed_over, missed_kind, told_open, told_over, told_kind, route_at}

@@ -1,5 +1,5 @@
 use Rattle.std.proofs.Common.{sym, subst}
-use Rattle.cf_rows.specs.declared.extents.Extent.{Extent}
+use Rattle.cf_register_parts.specs.declared.extents.Extent.{Extent}
 use Rattle.cf_orders.specs.RegisterView.{register_of}
 use Rattle.cf_orders.specs.RowRolls.{ended_in, lapsed_hold}
 use Rattle.cf_orders.specs.Steps.{IsChangedIn}

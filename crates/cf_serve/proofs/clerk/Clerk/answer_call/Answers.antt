@@ -1,5 +1,5 @@
-use Rattle.cf_names.specs.Telling.{Tells}
-use Rattle.cf_talk.proofs.Clerking.{answers_call, lost_call}
+use Rattle.cf_hall_names.specs.Telling.{Tells}
+use Rattle.cf_serve_laws.proofs.Clerking.{answers_call, lost_call}
 use Rattle.cf_serve.proofs.clerk.Clerk.answer_call.Goals as goal
 
 pub returns-clause-ok : goal.returns-clause-ok

@@ -1,6 +1,6 @@
 use Rattle.std.proofs.Common.{refl, []}
-use Rattle.cf_talk.specs.Clerks.{unread}
-use Rattle.cf_talk.proofs.Clerking.{fault_is, answered_call, memory_call, unread_is, answered_form}
+use Rattle.cf_serve_laws.specs.Clerks.{unread}
+use Rattle.cf_serve_laws.proofs.Clerking.{fault_is, answered_call, memory_call, unread_is, answered_form}
 use Rattle.cf_serve.proofs.clerk.ClerkAnswer.answer.Goals as goal
 
 pub returns-in_err-reserve-clause-memory : goal.returns-in_err-reserve-clause-memory

@@ -1,6 +1,6 @@
 use Rattle.std.proofs.Common.{subst}
-use Rattle.cf_talk.specs.Desks.{DeskState, DeskKept}
-use Rattle.cf_talk.proofs.Keeping.{desk_kept}
+use Rattle.cf_serve_laws.specs.Desks.{DeskState, DeskKept}
+use Rattle.cf_serve_laws.proofs.Keeping.{desk_kept}
 use Rattle.cf_serve.proofs.desk.Desk.keep.Goals as goal
 
 pub returns : goal.returns

@@ -1,4 +1,4 @@
-use Rattle.cf_runs.specs.Devices.{device}
+use Rattle.cf_run_status.specs.Devices.{device}
 use Rattle.cf_top.proofs.Answering.{one_more}
 use Rattle.cf_top.proofs.clerk.ClerkOffice.answer.Goals as goal
 

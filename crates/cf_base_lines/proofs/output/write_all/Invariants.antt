@@ -1,0 +1,9 @@
+use Rattle.std.proofs.Common.{◌≡◌, length}
+use Rattle.cf_base_lines.specs.Sinks.{Wrote}
+use Rattle.cf_base_lines.proofs.output.write_all.Given as goal
+
+abbrev pub invariant-loop-rest : goal.invariant-loop-rest
+invariant-loop-rest g l = Wrote (g.K.Sink.held l.initial.sink) (g.K.Sink.held l.sink) l.bytes l.rest × (g.K.Sink.faults l.sink ≡ g.K.Sink.faults l.initial.sink)
+
+abbrev pub decreases-loop-rest : goal.decreases-loop-rest
+decreases-loop-rest g l = length l.rest

@@ -1,4 +1,0 @@
-use Rattle.cf_book.proofs.book.Book.major_rows.Goals as goal
-
-pub returns : goal.returns
-returns g c = rw (← c.history.ensures.plan, ← c.history.ensures.entries) c.major_rows.ensures

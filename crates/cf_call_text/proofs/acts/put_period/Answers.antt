@@ -1,4 +1,0 @@
-use Rattle.cf_call_text.proofs.acts.put_period.Goals as goal
-
-pub returns-in-Month : goal.returns-in-Month
-returns-in-Month c = rw c.in-Month.is c.put_fields.ensures

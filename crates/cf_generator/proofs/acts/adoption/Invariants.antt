@@ -1,7 +1,0 @@
-use Rattle.std.proofs.Common.{◌≡◌, ◌+◌, ℕ, map}
-use Rattle.std.specs.List.{range_with_len}
-use Rattle.cf_generator.specs.Acts.{line_amount}
-use Rattle.cf_generator.proofs.acts.adoption.Given as goal
-
-abbrev pub invariant-loop-line : goal.invariant-loop-line
-invariant-loop-line l = (k : ℕ) × (l.first + k ≡ l.line) × (l.lines ≡ map line_amount (range_with_len l.first k))

@@ -1,7 +1,0 @@
-use Rattle.std.proofs.Common.{rules}
-use Rattle.cf_generator.specs.Generated.{chart_text}
-use Rattle.cf_generator.proofs.city.city_bytes.Goals as goal
-
-pub returns : goal.returns
-unfolding chart_text
-returns c = search rules

@@ -1,8 +1,0 @@
-use Rattle.std.proofs.Common.{refl}
-use Rattle.std.specs.Fmt.{digits}
-use Rattle.cf_heads.specs.Answers.{lines_of}
-use Rattle.cf_heads.proofs.lines.no_memory.Goals as goal
-
-pub returns : goal.returns
-unfolding digits lines_of
-returns c = refl

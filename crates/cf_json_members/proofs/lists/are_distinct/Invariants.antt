@@ -1,0 +1,5 @@
+use Rattle.std.proofs.Common.{◌≡◌, map, take}
+use Rattle.cf_json_members.proofs.lists.are_distinct.Given as goal
+
+abbrev pub invariant-loop-item : goal.invariant-loop-item
+invariant-loop-item g l = l.keys.items ≡ map g.T.Item.key (take l.item-index l.items)

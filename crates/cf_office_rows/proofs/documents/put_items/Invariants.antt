@@ -1,0 +1,12 @@
+use Rattle.std.proofs.Common.{◌≡◌, ◌+◌, ◌++◌, drop}
+use Rattle.cf_model.specs.Moves.{document_moves}
+use Rattle.cf_model.specs.Results.{document_number}
+use Rattle.cf_office_rows.specs.Items.{item_rows}
+use Rattle.cf_office_rows.specs.Rows.{kept}
+use Rattle.cf_office_rows.proofs.documents.put_items.Given as goal
+
+-- what was added, and what is still to come
+abbrev pub invariant-loop-nth : goal.invariant-loop-nth
+invariant-loop-nth l =
+    l.out.items ++ kept (item_rows l.chart l.place l.document (l.nth + 1) (drop l.nth (document_moves l.chart l.orders.documents (document_number l.orders.documents l.act) l.on l.act)))
+    ≡ l.initial.out.items ++ kept (item_rows l.chart l.place l.document 1 (document_moves l.chart l.orders.documents (document_number l.orders.documents l.act) l.on l.act))

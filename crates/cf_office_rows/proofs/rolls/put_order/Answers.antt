@@ -1,0 +1,11 @@
+use Rattle.std.proofs.Common.{◌∙◌, sym}
+use Rattle.cf_office_rows.specs.Rolls.{order_rows}
+use Rattle.cf_office_rows.proofs.Rolled.{none_added, none_live}
+use Rattle.cf_office_rows.proofs.rolls.put_order.Goals as goal
+
+pub returns-in-Some : goal.returns-in-Some
+returns-in-Some c =
+    let plan = c.args.chart.now in
+    let s = c.args.orders.now.documents in
+    none_added c.args.out.now.items (order_rows plan c.args.place c.args.year s.items c.args.number)
+    (none_live plan s c.args.on c.args.place c.args.number c.args.year _ (sym c.check.ensures ∙ c.in-Some.is))

@@ -1,4 +1,0 @@
-use Rattle.cf_reply_text.proofs.refusals.put_asset_state.Goals as goal
-
-pub returns-clause-text : goal.returns-clause-text
-returns-clause-text c = rw (c.from.ensures, c.number.ensures.value, c.refusal_word.ensures.value, c.fault_word.ensures.value) at c.put_object.ensures.text

@@ -1,4 +1,0 @@
-use Rattle.cf_reply_text.proofs.shown.put_asset.Goals as goal
-
-pub returns : goal.returns
-returns c = rw (← c.asset_word.ensures.value) c.put_object.ensures.text

@@ -1,0 +1,22 @@
+use Rattle.std.proofs.Common.{◌∷◌, [], ◌∙◌, sym, subst}
+use Rattle.cf_calls.specs.Form.{IsActInForm}
+use Rattle.cf_run_generate.specs.Acts.{change_of, first_day}
+use Rattle.cf_run_generate.specs.Generated.{after}
+use Rattle.cf_run_generate.proofs.Stepping.{three}
+use Rattle.cf_run_generate.proofs.office.receive_cash.Goals as goal
+
+pub take-requires : goal.take-requires
+take-requires c = subst (IsActInForm first_day) (sym c.receipt.ensures) tt
+
+pub take-requires-2 : goal.take-requires-2
+take-requires-2 c = subst (IsActInForm first_day) (sym c.receipt-2.ensures) tt
+
+pub take-requires-3 : goal.take-requires-3
+take-requires-3 c = subst (IsActInForm first_day) (sym c.receipt-3.ensures) tt
+
+pub returns-clause-ok : goal.returns-clause-ok
+returns-clause-ok c =
+    let plan = c.args.office.now.plan in
+    let h = c.args.office.now.entries in
+    three plan _ _ h _ _ _ (change_of 4 c.receipt.result) (change_of 5 c.receipt-2.result) (change_of 6 c.receipt-3.result) c.take.ensures.plan c.take-2.ensures.plan c.in_ok-take.ensures.ok c.in_ok-take-2.ensures.ok c.in_ok-take-3.ensures.ok
+    ∙ (λ j. after plan h (change_of 4 (c.receipt.ensures j) ∷ change_of 5 (c.receipt-2.ensures j) ∷ change_of 6 (c.receipt-3.ensures j) ∷ []))
