@@ -40,7 +40,26 @@ impl Assets {
                 self.amortized.reserve(1)?;
                 self.inventory.reserve_month()
             }
-            _ => Ok(()),
+            Act::Adopt(_)
+            | Act::Amend(_)
+            | Act::Transfer(_)
+            | Act::Requisition(_)
+            | Act::Withdraw(_)
+            | Act::Order(_)
+            | Act::ChangeOrder(_)
+            | Act::CancelOrder(_)
+            | Act::VoidVoucher(_)
+            | Act::Pay(_)
+            | Act::Bill(_)
+            | Act::Collect(_)
+            | Act::Receive(_)
+            | Act::WriteOff(_)
+            | Act::Asset(AssetAct::Dispose(_))
+            | Act::Issue(_)
+            | Act::PayDue(_)
+            | Act::Leave(_)
+            | Act::Interfund(_)
+            | Act::Close(Period::Year(_)) => Ok(()),
         }
     }
 
@@ -66,7 +85,23 @@ impl Assets {
             Act::Asset(what) => self.take_asset(chart, on, what, drawn),
             Act::Close(period) => self.close(period),
             Act::Lease(lease) => self.accept_lease(chart, on, lease, drawn.number),
-            _ => self.count_act(),
+            Act::Adopt(_)
+            | Act::Amend(_)
+            | Act::Transfer(_)
+            | Act::Requisition(_)
+            | Act::Withdraw(_)
+            | Act::Order(_)
+            | Act::ChangeOrder(_)
+            | Act::CancelOrder(_)
+            | Act::Pay(_)
+            | Act::Bill(_)
+            | Act::Collect(_)
+            | Act::Receive(_)
+            | Act::WriteOff(_)
+            | Act::Issue(_)
+            | Act::PayDue(_)
+            | Act::Leave(_)
+            | Act::Interfund(_) => self.count_act(),
         }
     }
 

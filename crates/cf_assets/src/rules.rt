@@ -32,7 +32,27 @@ impl Assets {
         match act {
             Act::VoidVoucher(voucher) => self.void_refusal(*voucher),
             Act::Asset(AssetAct::Dispose(disposal)) => self.disposal_refusal(on, disposal.asset),
-            _ => None,
+            Act::Adopt(_)
+            | Act::Amend(_)
+            | Act::Transfer(_)
+            | Act::Requisition(_)
+            | Act::Withdraw(_)
+            | Act::Order(_)
+            | Act::ChangeOrder(_)
+            | Act::CancelOrder(_)
+            | Act::Voucher(_)
+            | Act::Pay(_)
+            | Act::Bill(_)
+            | Act::Collect(_)
+            | Act::Receive(_)
+            | Act::WriteOff(_)
+            | Act::Asset(AssetAct::Donate(_))
+            | Act::Issue(_)
+            | Act::PayDue(_)
+            | Act::Leave(_)
+            | Act::Interfund(_)
+            | Act::Close(_)
+            | Act::Lease(_) => None,
         }
     }
 

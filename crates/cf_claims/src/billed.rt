@@ -38,7 +38,28 @@ fn billed(source: u16, change: &Change) -> u64
     match change.act {
         Act::Bill(bill) if bill.source == source && is_claim_key(change.key.as_str().as_bytes()) =>
             { bill.amount }
-        _ => 0,
+        Act::Adopt(_)
+        | Act::Amend(_)
+        | Act::Transfer(_)
+        | Act::Requisition(_)
+        | Act::Withdraw(_)
+        | Act::Order(_)
+        | Act::ChangeOrder(_)
+        | Act::CancelOrder(_)
+        | Act::Voucher(_)
+        | Act::VoidVoucher(_)
+        | Act::Pay(_)
+        | Act::Bill(_)
+        | Act::Collect(_)
+        | Act::Receive(_)
+        | Act::WriteOff(_)
+        | Act::Asset(_)
+        | Act::Issue(_)
+        | Act::PayDue(_)
+        | Act::Leave(_)
+        | Act::Interfund(_)
+        | Act::Close(_)
+        | Act::Lease(_) => 0,
     }
 }
 

@@ -75,7 +75,27 @@ pub fn eligible(chart: &Chart, lines: &[u16], entry: &Entry) -> u64
     let year = voucher_year(chart, entry);
     match &entry.change.act {
         Act::Voucher(voucher) => eligible_sum(chart, lines, year, voucher.items.as_slice()),
-        _ => 0,
+        Act::Adopt(_)
+        | Act::Amend(_)
+        | Act::Transfer(_)
+        | Act::Requisition(_)
+        | Act::Withdraw(_)
+        | Act::Order(_)
+        | Act::ChangeOrder(_)
+        | Act::CancelOrder(_)
+        | Act::VoidVoucher(_)
+        | Act::Pay(_)
+        | Act::Bill(_)
+        | Act::Collect(_)
+        | Act::Receive(_)
+        | Act::WriteOff(_)
+        | Act::Asset(_)
+        | Act::Issue(_)
+        | Act::PayDue(_)
+        | Act::Leave(_)
+        | Act::Interfund(_)
+        | Act::Close(_)
+        | Act::Lease(_) => 0,
     }
 }
 

@@ -39,7 +39,27 @@ fn vouchers_of(act: &Act) -> &[u32]
 {
     match act {
         Act::Pay(payment) => payment.vouchers.as_slice(),
-        _ => &[],
+        Act::Adopt(_)
+        | Act::Amend(_)
+        | Act::Transfer(_)
+        | Act::Requisition(_)
+        | Act::Withdraw(_)
+        | Act::Order(_)
+        | Act::ChangeOrder(_)
+        | Act::CancelOrder(_)
+        | Act::Voucher(_)
+        | Act::VoidVoucher(_)
+        | Act::Bill(_)
+        | Act::Collect(_)
+        | Act::Receive(_)
+        | Act::WriteOff(_)
+        | Act::Asset(_)
+        | Act::Issue(_)
+        | Act::PayDue(_)
+        | Act::Leave(_)
+        | Act::Interfund(_)
+        | Act::Close(_)
+        | Act::Lease(_) => &[],
     }
 }
 
@@ -59,7 +79,28 @@ fn year_of(act: &Act) -> Option<u16>
 {
     match act {
         Act::Close(Period::Year(year)) => Some(*year),
-        _ => None,
+        Act::Adopt(_)
+        | Act::Amend(_)
+        | Act::Transfer(_)
+        | Act::Requisition(_)
+        | Act::Withdraw(_)
+        | Act::Order(_)
+        | Act::ChangeOrder(_)
+        | Act::CancelOrder(_)
+        | Act::Voucher(_)
+        | Act::VoidVoucher(_)
+        | Act::Pay(_)
+        | Act::Bill(_)
+        | Act::Collect(_)
+        | Act::Receive(_)
+        | Act::WriteOff(_)
+        | Act::Asset(_)
+        | Act::Issue(_)
+        | Act::PayDue(_)
+        | Act::Leave(_)
+        | Act::Interfund(_)
+        | Act::Close(Period::Month(_))
+        | Act::Lease(_) => None,
     }
 }
 
@@ -99,7 +140,27 @@ pub fn claimed_number(change: &Change) -> Option<u32>
 {
     match change.act {
         Act::Bill(_) => claim_number(change.key.as_str()),
-        _ => None,
+        Act::Adopt(_)
+        | Act::Amend(_)
+        | Act::Transfer(_)
+        | Act::Requisition(_)
+        | Act::Withdraw(_)
+        | Act::Order(_)
+        | Act::ChangeOrder(_)
+        | Act::CancelOrder(_)
+        | Act::Voucher(_)
+        | Act::VoidVoucher(_)
+        | Act::Pay(_)
+        | Act::Collect(_)
+        | Act::Receive(_)
+        | Act::WriteOff(_)
+        | Act::Asset(_)
+        | Act::Issue(_)
+        | Act::PayDue(_)
+        | Act::Leave(_)
+        | Act::Interfund(_)
+        | Act::Close(_)
+        | Act::Lease(_) => None,
     }
 }
 

@@ -35,7 +35,25 @@ impl Debt {
                 LeaveAct::Use(part) => self.reserve_leave(part.fund, part.dept),
                 LeaveAct::Mature(part) => self.reserve_leave(part.fund, part.dept),
             },
-            _ => Ok(()),
+            Act::Adopt(_)
+            | Act::Amend(_)
+            | Act::Transfer(_)
+            | Act::Requisition(_)
+            | Act::Withdraw(_)
+            | Act::Order(_)
+            | Act::ChangeOrder(_)
+            | Act::CancelOrder(_)
+            | Act::Voucher(_)
+            | Act::VoidVoucher(_)
+            | Act::Pay(_)
+            | Act::Bill(_)
+            | Act::Collect(_)
+            | Act::Receive(_)
+            | Act::WriteOff(_)
+            | Act::Asset(_)
+            | Act::PayDue(_)
+            | Act::Interfund(_)
+            | Act::Close(_) => Ok(()),
         }
     }
 
@@ -80,7 +98,23 @@ impl Debt {
             Act::PayDue(payment) => self.pay(payment),
             Act::Leave(leave) => self.change_leave(chart, on, leave),
             Act::Close(period) => self.close(chart, period),
-            _ => self.count_act(),
+            Act::Adopt(_)
+            | Act::Amend(_)
+            | Act::Transfer(_)
+            | Act::Requisition(_)
+            | Act::Withdraw(_)
+            | Act::Order(_)
+            | Act::ChangeOrder(_)
+            | Act::CancelOrder(_)
+            | Act::Voucher(_)
+            | Act::VoidVoucher(_)
+            | Act::Pay(_)
+            | Act::Bill(_)
+            | Act::Collect(_)
+            | Act::Receive(_)
+            | Act::WriteOff(_)
+            | Act::Asset(_)
+            | Act::Interfund(_) => self.count_act(),
         }
         drawn
     }

@@ -180,7 +180,25 @@ impl Debt {
             Act::Issue(_) => drawn(self.bonds.len() as u32 + 1, 0),
             Act::Lease(_) => drawn(0, self.bonds.len() as u32 + 1),
             Act::PayDue(payment) => drawn(self.payment_number(payment.bond), 0),
-            _ => drawn(0, 0),
+            Act::Adopt(_)
+            | Act::Amend(_)
+            | Act::Transfer(_)
+            | Act::Requisition(_)
+            | Act::Withdraw(_)
+            | Act::Order(_)
+            | Act::ChangeOrder(_)
+            | Act::CancelOrder(_)
+            | Act::Voucher(_)
+            | Act::VoidVoucher(_)
+            | Act::Pay(_)
+            | Act::Bill(_)
+            | Act::Collect(_)
+            | Act::Receive(_)
+            | Act::WriteOff(_)
+            | Act::Asset(_)
+            | Act::Leave(_)
+            | Act::Interfund(_)
+            | Act::Close(_) => drawn(0, 0),
         }
     }
 

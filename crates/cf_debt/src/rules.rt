@@ -31,7 +31,26 @@ impl Debt {
             Act::PayDue(payment) => self.payment_refusal(chart, on, payment),
             Act::Leave(leave) => self.leave_refusal(leave),
             Act::Close(Period::Month(month)) => self.close_refusal(chart, on, *month),
-            _ => None,
+            Act::Adopt(_)
+            | Act::Amend(_)
+            | Act::Transfer(_)
+            | Act::Requisition(_)
+            | Act::Withdraw(_)
+            | Act::Order(_)
+            | Act::ChangeOrder(_)
+            | Act::CancelOrder(_)
+            | Act::Voucher(_)
+            | Act::VoidVoucher(_)
+            | Act::Pay(_)
+            | Act::Bill(_)
+            | Act::Collect(_)
+            | Act::Receive(_)
+            | Act::WriteOff(_)
+            | Act::Asset(_)
+            | Act::Issue(_)
+            | Act::Interfund(_)
+            | Act::Close(Period::Year(_))
+            | Act::Lease(_) => None,
         }
     }
 

@@ -27,7 +27,9 @@ use crate::schedule::add_schedule;
 use cf_base::{Day, Month};
 use cf_calls::acts::{BondIssue, DebtPayment, NewLease};
 use cf_chart::Chart;
-use cf_register_parts::{add_at, amount_at, number_of_day, number_of_month, put_in, raise, year_of_day};
+use cf_register_parts::{
+    add_at, amount_at, number_of_day, number_of_month, put_in, raise, year_of_day,
+};
 
 impl Debt {
     /// Counts an act that is none of the register's own.

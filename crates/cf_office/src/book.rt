@@ -17,8 +17,8 @@ use crate::prepared::{Prepared, apply_lines, apply_rest, reserve};
 use cf_budget::Lines;
 use cf_calls::{Basis, Entry, Made};
 use cf_chart::Chart;
-use cf_office_history::{History, Rest};
 use cf_ledger::Post;
+use cf_office_history::{History, Rest};
 use std::alloc::{AllocError, Global};
 use std::marker::Model;
 

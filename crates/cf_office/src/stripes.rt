@@ -117,7 +117,14 @@ pub fn touched_stripes(chart: &Chart, act: &Act) -> [bool; 8]
         | Act::CancelOrder(_)
         | Act::VoidVoucher(_)
         | Act::Close(_) => marks = ALL,
-        _ => {}
+        Act::Pay(_)
+        | Act::Bill(_)
+        | Act::Collect(_)
+        | Act::Receive(_)
+        | Act::WriteOff(_)
+        | Act::Asset(_)
+        | Act::Issue(_)
+        | Act::Interfund(_) => {}
     }
     marks
 }

@@ -34,8 +34,8 @@ use cf_calls::{Act, Basis, Change, Entry, Made, same_call};
 use cf_chart::Chart;
 use cf_ledger::Post;
 use cf_recon::Changes;
-use cf_registers::{Accounts, Registers, made_of, whole};
 use cf_register_parts::{NumberPair, is_month_closed, put_in, reserve_in, value_in};
+use cf_registers::{Accounts, Registers, made_of, whole};
 use std::alloc::{AllocError, Global};
 use std::collections::BTreeMap;
 use std::marker::Model;
@@ -296,7 +296,28 @@ fn open_year_after(act: &Act, open_year: u16) -> u16
 {
     match act {
         Act::Close(Period::Year(_)) => open_year + 1,
-        _ => open_year,
+        Act::Adopt(_)
+        | Act::Amend(_)
+        | Act::Transfer(_)
+        | Act::Requisition(_)
+        | Act::Withdraw(_)
+        | Act::Order(_)
+        | Act::ChangeOrder(_)
+        | Act::CancelOrder(_)
+        | Act::Voucher(_)
+        | Act::VoidVoucher(_)
+        | Act::Pay(_)
+        | Act::Bill(_)
+        | Act::Collect(_)
+        | Act::Receive(_)
+        | Act::WriteOff(_)
+        | Act::Asset(_)
+        | Act::Issue(_)
+        | Act::PayDue(_)
+        | Act::Leave(_)
+        | Act::Interfund(_)
+        | Act::Close(Period::Month(_))
+        | Act::Lease(_) => open_year,
     }
 }
 

@@ -364,6 +364,13 @@ pub fn name_refusal(chart: &Chart, orders: &Orders, on: Day, act: &Act) -> Optio
             fund_refusal(chart, m.from),
             or(fund_refusal(chart, m.to), None),
         ),
-        _ => None,
+        Act::Collect(_)
+        | Act::WriteOff(_)
+        | Act::Asset(_)
+        | Act::Issue(_)
+        | Act::PayDue(_)
+        | Act::Leave(_)
+        | Act::Close(_)
+        | Act::Lease(_) => None,
     }
 }

@@ -20,9 +20,9 @@ use cf_calls::items::AccountItem;
 use cf_calls::{Act, NameKind, Refusal};
 use cf_chart::Chart;
 use cf_debt::Debt;
+use cf_register_parts::{is_capital, is_current, is_interest, is_principal, year_of_day};
 use cf_registers::Registers;
 use cf_revenue::Revenue;
-use cf_register_parts::{is_capital, is_current, is_interest, is_principal, year_of_day};
 
 /// Refuses a department that isn't in the chart.
 pub fn dept_refusal(chart: &Chart, dept: u16) -> Option<Refusal>
@@ -194,6 +194,20 @@ pub fn register_name_refusal(
         ),
         Act::Leave(leave) => leave_act_refusal(chart, registers, on, leave),
         Act::Lease(lease) => leased_refusal(chart, on, &lease.account),
-        _ => None,
+        Act::Adopt(_)
+        | Act::Amend(_)
+        | Act::Transfer(_)
+        | Act::Requisition(_)
+        | Act::Withdraw(_)
+        | Act::Order(_)
+        | Act::ChangeOrder(_)
+        | Act::CancelOrder(_)
+        | Act::Voucher(_)
+        | Act::VoidVoucher(_)
+        | Act::Pay(_)
+        | Act::Bill(_)
+        | Act::Receive(_)
+        | Act::Interfund(_)
+        | Act::Close(_) => None,
     }
 }

@@ -19,8 +19,8 @@ use cf_calls::items::{AccountItem, Charge, LineAmount, SourceAmount, VoucherItem
 use cf_calls::{Act, Refusal, Role, has_role, role_of};
 use cf_chart::{Chart, ObjectKind};
 use cf_office_history::History;
-use cf_revenue::Revenue;
 use cf_register_parts::{document_year, year_of_day};
+use cf_revenue::Revenue;
 
 /// The first of two refusals.
 pub fn or(first: Option<Refusal>, second: Option<Refusal>) -> Option<Refusal>
@@ -223,7 +223,12 @@ pub fn amount_refusal(act: &Act) -> Option<Refusal>
             one_amount_refusal(lease.account.amount),
             principals_amount_refusal(lease.principals.as_slice()),
         ),
-        _ => None,
+        Act::Withdraw(_)
+        | Act::CancelOrder(_)
+        | Act::VoidVoucher(_)
+        | Act::Pay(_)
+        | Act::PayDue(_)
+        | Act::Close(_) => None,
     }
 }
 
@@ -265,7 +270,24 @@ fn stated_refusal(first_open: u16, act: &Act) -> Option<Refusal>
         Act::Amend(a) => or(open_refusal(first_open, a.year), None),
         Act::Transfer(t) => or(open_refusal(first_open, t.year), None),
         Act::Bill(b) => or(open_refusal(first_open, b.levy_year), None),
-        _ => None,
+        Act::Requisition(_)
+        | Act::Withdraw(_)
+        | Act::Order(_)
+        | Act::ChangeOrder(_)
+        | Act::CancelOrder(_)
+        | Act::Voucher(_)
+        | Act::VoidVoucher(_)
+        | Act::Pay(_)
+        | Act::Collect(_)
+        | Act::Receive(_)
+        | Act::WriteOff(_)
+        | Act::Asset(_)
+        | Act::Issue(_)
+        | Act::PayDue(_)
+        | Act::Leave(_)
+        | Act::Interfund(_)
+        | Act::Close(_)
+        | Act::Lease(_) => None,
     }
 }
 
@@ -293,7 +315,27 @@ pub fn closing_refusal(history: &History, on: Day, act: &Act) -> Option<Refusal>
             last_year_refusal(history.open_year() + 2, year)
         }
         Act::Close(Period::Year(year)) => last_year_refusal(history.open_year(), *year),
-        _ => None,
+        Act::Adopt(_)
+        | Act::Amend(_)
+        | Act::Transfer(_)
+        | Act::Requisition(_)
+        | Act::Withdraw(_)
+        | Act::Order(_)
+        | Act::ChangeOrder(_)
+        | Act::CancelOrder(_)
+        | Act::Voucher(_)
+        | Act::VoidVoucher(_)
+        | Act::Pay(_)
+        | Act::Bill(_)
+        | Act::Collect(_)
+        | Act::Receive(_)
+        | Act::WriteOff(_)
+        | Act::Asset(_)
+        | Act::Issue(_)
+        | Act::PayDue(_)
+        | Act::Leave(_)
+        | Act::Interfund(_)
+        | Act::Lease(_) => None,
     }
 }
 
@@ -328,7 +370,26 @@ pub fn levy_refusal(history: &History, on: Day, act: &Act) -> Option<Refusal>
     match act {
         Act::Collect(part) => bill_levy_refusal(revenue, year, part.bill),
         Act::WriteOff(part) => bill_levy_refusal(revenue, year, part.bill),
-        _ => None,
+        Act::Adopt(_)
+        | Act::Amend(_)
+        | Act::Transfer(_)
+        | Act::Requisition(_)
+        | Act::Withdraw(_)
+        | Act::Order(_)
+        | Act::ChangeOrder(_)
+        | Act::CancelOrder(_)
+        | Act::Voucher(_)
+        | Act::VoidVoucher(_)
+        | Act::Pay(_)
+        | Act::Bill(_)
+        | Act::Receive(_)
+        | Act::Asset(_)
+        | Act::Issue(_)
+        | Act::PayDue(_)
+        | Act::Leave(_)
+        | Act::Interfund(_)
+        | Act::Close(_)
+        | Act::Lease(_) => None,
     }
 }
 
@@ -376,7 +437,21 @@ pub fn closed_refusal(history: &History, on: Day, act: &Act) -> Option<Refusal>
             history.orders().voucher_year(*number),
         ),
         Act::Close(Period::Year(year)) => or(closed_year_refusal(first_open, *year), None),
-        _ => None,
+        Act::Requisition(_)
+        | Act::Withdraw(_)
+        | Act::Order(_)
+        | Act::CancelOrder(_)
+        | Act::Pay(_)
+        | Act::Collect(_)
+        | Act::Receive(_)
+        | Act::WriteOff(_)
+        | Act::Asset(_)
+        | Act::Issue(_)
+        | Act::PayDue(_)
+        | Act::Leave(_)
+        | Act::Interfund(_)
+        | Act::Close(Period::Month(_))
+        | Act::Lease(_) => None,
     }
 }
 
@@ -391,7 +466,27 @@ pub fn adopted_refusal(history: &History, act: &Act) -> Option<Refusal>
             Some(was) => Some(Refusal::Adopted { was }),
             None => None,
         },
-        _ => None,
+        Act::Amend(_)
+        | Act::Transfer(_)
+        | Act::Requisition(_)
+        | Act::Withdraw(_)
+        | Act::Order(_)
+        | Act::ChangeOrder(_)
+        | Act::CancelOrder(_)
+        | Act::Voucher(_)
+        | Act::VoidVoucher(_)
+        | Act::Pay(_)
+        | Act::Bill(_)
+        | Act::Collect(_)
+        | Act::Receive(_)
+        | Act::WriteOff(_)
+        | Act::Asset(_)
+        | Act::Issue(_)
+        | Act::PayDue(_)
+        | Act::Leave(_)
+        | Act::Interfund(_)
+        | Act::Close(_)
+        | Act::Lease(_) => None,
     }
 }
 
@@ -477,7 +572,22 @@ pub fn unadopted_refusal(history: &History, on: Day, act: &Act) -> Option<Refusa
                 None,
             )
         }
-        _ => None,
+        Act::Adopt(_)
+        | Act::Withdraw(_)
+        | Act::ChangeOrder(_)
+        | Act::CancelOrder(_)
+        | Act::VoidVoucher(_)
+        | Act::Pay(_)
+        | Act::Bill(_)
+        | Act::Collect(_)
+        | Act::Receive(_)
+        | Act::WriteOff(_)
+        | Act::Asset(_)
+        | Act::Issue(_)
+        | Act::PayDue(_)
+        | Act::Leave(LeaveAct::Earn(_) | LeaveAct::Use(_))
+        | Act::Interfund(_)
+        | Act::Close(_) => None,
     }
 }
 
@@ -490,6 +600,26 @@ pub fn payment_refusal(history: &History, act: &Act) -> Option<Refusal>
             Some(due) => unadopted_fund_refusal(history, payment.fund, due.year),
             None => None,
         },
-        _ => None,
+        Act::Adopt(_)
+        | Act::Amend(_)
+        | Act::Transfer(_)
+        | Act::Requisition(_)
+        | Act::Withdraw(_)
+        | Act::Order(_)
+        | Act::ChangeOrder(_)
+        | Act::CancelOrder(_)
+        | Act::Voucher(_)
+        | Act::VoidVoucher(_)
+        | Act::Pay(_)
+        | Act::Bill(_)
+        | Act::Collect(_)
+        | Act::Receive(_)
+        | Act::WriteOff(_)
+        | Act::Asset(_)
+        | Act::Issue(_)
+        | Act::Leave(_)
+        | Act::Interfund(_)
+        | Act::Close(_)
+        | Act::Lease(_) => None,
     }
 }

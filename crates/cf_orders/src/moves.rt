@@ -168,7 +168,21 @@ impl Orders {
             Act::CancelOrder(number) => self.ordered(*number),
             Act::Voucher(voucher) => 2 * voucher.items.as_slice().len(),
             Act::VoidVoucher(number) => 2 * self.spent(*number),
-            _ => 0,
+            Act::Adopt(_)
+            | Act::Amend(_)
+            | Act::Transfer(_)
+            | Act::Pay(_)
+            | Act::Bill(_)
+            | Act::Collect(_)
+            | Act::Receive(_)
+            | Act::WriteOff(_)
+            | Act::Asset(_)
+            | Act::Issue(_)
+            | Act::PayDue(_)
+            | Act::Leave(_)
+            | Act::Interfund(_)
+            | Act::Close(_)
+            | Act::Lease(_) => 0,
         }
     }
 

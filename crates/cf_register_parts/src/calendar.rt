@@ -65,6 +65,27 @@ pub fn rolled_year(chart: &Chart, on: Day, act: &Act) -> Option<u16>
                 None
             }
         }
-        _ => None,
+        Act::Adopt(_)
+        | Act::Amend(_)
+        | Act::Transfer(_)
+        | Act::Requisition(_)
+        | Act::Withdraw(_)
+        | Act::Order(_)
+        | Act::ChangeOrder(_)
+        | Act::CancelOrder(_)
+        | Act::Voucher(_)
+        | Act::VoidVoucher(_)
+        | Act::Pay(_)
+        | Act::Bill(_)
+        | Act::Collect(_)
+        | Act::Receive(_)
+        | Act::WriteOff(_)
+        | Act::Asset(_)
+        | Act::Issue(_)
+        | Act::PayDue(_)
+        | Act::Leave(_)
+        | Act::Interfund(_)
+        | Act::Close(Period::Year(_))
+        | Act::Lease(_) => None,
     }
 }

@@ -19,8 +19,8 @@ use cf_calls::items::{AccountItem, SourceAmount, VoucherItem};
 use cf_chart::Chart;
 use cf_orders::Orders;
 use cf_post::deed::{self, Collection, Deed, FundAmount, FundsAmount, Spent, SpentItem};
-use cf_revenue::Revenue;
 use cf_register_parts::{document_year, function_of, fund_of, is_capital, year_of_day};
+use cf_revenue::Revenue;
 use std::alloc::{AllocError, Global};
 
 /// What an account is charged for: an asset, or its department's function.
@@ -264,6 +264,14 @@ pub fn deeds(
         Act::Leave(what) => leave(alloc, chart, on, what),
         Act::Interfund(moved) => one(alloc, move_funds(year_of_day(chart, on), moved)),
         Act::Close(Period::Month(_)) => close_month(alloc, chart, registers),
-        _ => Ok(Vec::new(alloc)),
+        Act::Adopt(_)
+        | Act::Amend(_)
+        | Act::Transfer(_)
+        | Act::Requisition(_)
+        | Act::Withdraw(_)
+        | Act::Order(_)
+        | Act::ChangeOrder(_)
+        | Act::CancelOrder(_)
+        | Act::Close(Period::Year(_)) => Ok(Vec::new(alloc)),
     }
 }

@@ -16,8 +16,8 @@ use cf_calls::items::VoucherItem;
 use cf_calls::{Act, Drawn, Entry, Made};
 use cf_chart::Chart;
 use cf_debt::Debt;
-use cf_revenue::Revenue;
 use cf_register_parts::is_capital;
+use cf_revenue::Revenue;
 
 /// What an accepted entry made, over the registers before it.
 pub fn made_of(chart: &Chart, registers: &Registers, entry: &Entry) -> Made
@@ -90,6 +90,19 @@ fn made_by(chart: &Chart, registers: &Registers, on: Day, drawn: Drawn, act: &Ac
             bond: drawn.second,
         },
         Act::PayDue(payment) => made_paid(chart, registers.debt(), payment.bond),
-        _ => Made::Nothing,
+        Act::Adopt(_)
+        | Act::Amend(_)
+        | Act::Transfer(_)
+        | Act::Withdraw(_)
+        | Act::ChangeOrder(_)
+        | Act::CancelOrder(_)
+        | Act::VoidVoucher(_)
+        | Act::Pay(_)
+        | Act::Receive(_)
+        | Act::WriteOff(_)
+        | Act::Asset(AssetAct::Dispose(_))
+        | Act::Leave(_)
+        | Act::Interfund(_)
+        | Act::Close(_) => Made::Nothing,
     }
 }

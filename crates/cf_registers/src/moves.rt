@@ -151,7 +151,25 @@ fn moves(chart: &Chart, registers: &Registers, act: &Act) -> usize
 {
     match act {
         Act::PayDue(_) | Act::Leave(_) | Act::Lease(_) => spendings(chart, registers, act),
-        _ => registers.orders().moves(act),
+        Act::Adopt(_)
+        | Act::Amend(_)
+        | Act::Transfer(_)
+        | Act::Requisition(_)
+        | Act::Withdraw(_)
+        | Act::Order(_)
+        | Act::ChangeOrder(_)
+        | Act::CancelOrder(_)
+        | Act::Voucher(_)
+        | Act::VoidVoucher(_)
+        | Act::Pay(_)
+        | Act::Bill(_)
+        | Act::Collect(_)
+        | Act::Receive(_)
+        | Act::WriteOff(_)
+        | Act::Asset(_)
+        | Act::Issue(_)
+        | Act::Interfund(_)
+        | Act::Close(_) => registers.orders().moves(act),
     }
 }
 
@@ -166,7 +184,25 @@ fn move_at(chart: &Chart, registers: &Registers, on: Day, act: &Act, nth: usize)
         Act::PayDue(_) | Act::Leave(_) | Act::Lease(_) => {
             spending_at(chart, registers, on, act, nth)
         }
-        _ => registers.orders().move_at(chart, on, act, nth),
+        Act::Adopt(_)
+        | Act::Amend(_)
+        | Act::Transfer(_)
+        | Act::Requisition(_)
+        | Act::Withdraw(_)
+        | Act::Order(_)
+        | Act::ChangeOrder(_)
+        | Act::CancelOrder(_)
+        | Act::Voucher(_)
+        | Act::VoidVoucher(_)
+        | Act::Pay(_)
+        | Act::Bill(_)
+        | Act::Collect(_)
+        | Act::Receive(_)
+        | Act::WriteOff(_)
+        | Act::Asset(_)
+        | Act::Issue(_)
+        | Act::Interfund(_)
+        | Act::Close(_) => registers.orders().move_at(chart, on, act, nth),
     }
 }
 

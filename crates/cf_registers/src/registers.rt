@@ -140,7 +140,23 @@ impl Registers {
             Act::Bill(_) => self.revenue.draws(act).number,
             Act::Asset(_) | Act::Lease(_) => self.assets.draws(act).number,
             Act::Issue(_) | Act::PayDue(_) => self.debt.draws(act).number,
-            _ => self.orders.draws(act).number,
+            Act::Adopt(_)
+            | Act::Amend(_)
+            | Act::Transfer(_)
+            | Act::Requisition(_)
+            | Act::Withdraw(_)
+            | Act::Order(_)
+            | Act::ChangeOrder(_)
+            | Act::CancelOrder(_)
+            | Act::Voucher(_)
+            | Act::VoidVoucher(_)
+            | Act::Pay(_)
+            | Act::Collect(_)
+            | Act::Receive(_)
+            | Act::WriteOff(_)
+            | Act::Leave(_)
+            | Act::Interfund(_)
+            | Act::Close(_) => self.orders.draws(act).number,
         }
     }
 
@@ -151,7 +167,26 @@ impl Registers {
         match act {
             Act::Voucher(_) => self.assets.draws(act).second,
             Act::Lease(_) => self.debt.draws(act).second,
-            _ => 0,
+            Act::Adopt(_)
+            | Act::Amend(_)
+            | Act::Transfer(_)
+            | Act::Requisition(_)
+            | Act::Withdraw(_)
+            | Act::Order(_)
+            | Act::ChangeOrder(_)
+            | Act::CancelOrder(_)
+            | Act::VoidVoucher(_)
+            | Act::Pay(_)
+            | Act::Bill(_)
+            | Act::Collect(_)
+            | Act::Receive(_)
+            | Act::WriteOff(_)
+            | Act::Asset(_)
+            | Act::Issue(_)
+            | Act::PayDue(_)
+            | Act::Leave(_)
+            | Act::Interfund(_)
+            | Act::Close(_) => 0,
         }
     }
 

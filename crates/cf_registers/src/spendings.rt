@@ -105,7 +105,26 @@ pub fn spendings(chart: &Chart, registers: &Registers, act: &Act) -> usize
             None => 0,
         },
         Act::Leave(LeaveAct::Mature(_)) | Act::Lease(_) => 1,
-        _ => 0,
+        Act::Adopt(_)
+        | Act::Amend(_)
+        | Act::Transfer(_)
+        | Act::Requisition(_)
+        | Act::Withdraw(_)
+        | Act::Order(_)
+        | Act::ChangeOrder(_)
+        | Act::CancelOrder(_)
+        | Act::Voucher(_)
+        | Act::VoidVoucher(_)
+        | Act::Pay(_)
+        | Act::Bill(_)
+        | Act::Collect(_)
+        | Act::Receive(_)
+        | Act::WriteOff(_)
+        | Act::Asset(_)
+        | Act::Issue(_)
+        | Act::Leave(LeaveAct::Earn(_) | LeaveAct::Use(_))
+        | Act::Interfund(_)
+        | Act::Close(_) => 0,
     }
 }
 
@@ -129,6 +148,25 @@ pub fn spending_at(
         },
         Act::Leave(LeaveAct::Mature(leave)) => maturity_at(leave, year_of_day(chart, on), nth),
         Act::Lease(lease) => lease_at(lease, year_of_day(chart, on), nth),
-        _ => None,
+        Act::Adopt(_)
+        | Act::Amend(_)
+        | Act::Transfer(_)
+        | Act::Requisition(_)
+        | Act::Withdraw(_)
+        | Act::Order(_)
+        | Act::ChangeOrder(_)
+        | Act::CancelOrder(_)
+        | Act::Voucher(_)
+        | Act::VoidVoucher(_)
+        | Act::Pay(_)
+        | Act::Bill(_)
+        | Act::Collect(_)
+        | Act::Receive(_)
+        | Act::WriteOff(_)
+        | Act::Asset(_)
+        | Act::Issue(_)
+        | Act::Leave(LeaveAct::Earn(_) | LeaveAct::Use(_))
+        | Act::Interfund(_)
+        | Act::Close(_) => None,
     }
 }

@@ -148,7 +148,27 @@ impl Revenue {
     {
         let number = match act {
             Act::Bill(_) => self.bills.len() as u32 + 1,
-            _ => 0,
+            Act::Adopt(_)
+            | Act::Amend(_)
+            | Act::Transfer(_)
+            | Act::Requisition(_)
+            | Act::Withdraw(_)
+            | Act::Order(_)
+            | Act::ChangeOrder(_)
+            | Act::CancelOrder(_)
+            | Act::Voucher(_)
+            | Act::VoidVoucher(_)
+            | Act::Pay(_)
+            | Act::Collect(_)
+            | Act::Receive(_)
+            | Act::WriteOff(_)
+            | Act::Asset(_)
+            | Act::Issue(_)
+            | Act::PayDue(_)
+            | Act::Leave(_)
+            | Act::Interfund(_)
+            | Act::Close(_)
+            | Act::Lease(_) => 0,
         };
         Drawn { number, second: 0 }
     }
