@@ -4,8 +4,8 @@ ghost use Rattle.std.specs.Prelude.{⊤, IfOk};
 ghost use Rattle.cf_http.specs.Asking.{IsAnswerCode};
 
 use cf_base::Kind;
-use cf_http_heads::Route;
 use cf_http::{Answer, Request};
+use cf_http_heads::Route;
 use std::alloc::{AllocError, Global};
 
 /// How a call in form is answered.

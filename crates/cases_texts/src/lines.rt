@@ -3,9 +3,9 @@
 ghost use Rattle.cf_calls.specs.Form.{IsCallInForm, IsChangeInForm};
 
 use crate::page::Page;
-use cf_json_calls::write_call;
 use cf_calls::{Call, Change};
 use cf_json::{CallRefused, FormFault, read_call};
+use cf_json_calls::write_call;
 use cf_json_replies::write_form;
 use std::alloc::Global;
 

@@ -9,8 +9,8 @@ ghost use Rattle.cf_model.specs.Step.{IsLegal};
 ghost use Rattle.cf_books.specs.Again.{after_calls, calls_of};
 ghost use Rattle.cf_books.specs.Calls.{ReadsBack, call_line, calls_text};
 
-use cf_json_calls::write_call;
 use cf_calls::Entry;
+use cf_json_calls::write_call;
 use std::alloc::AllocError;
 
 /// Appends the line of an entry's call.

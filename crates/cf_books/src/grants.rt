@@ -12,7 +12,6 @@ use crate::answers::{Answer, damaged, nothing};
 use crate::fault_rows;
 use crate::office::{open_book, refused_answer};
 use crate::status::Status;
-use cf_journal_book::Book;
 use cf_books_front::read_whole;
 use cf_books_grants::{document_text, fault_id, vouchers_text};
 use cf_books_lists::Layout;
@@ -21,6 +20,7 @@ use cf_claims::vouchers_of_grant;
 use cf_disk::MemDisk;
 use cf_grants::{GrantFault, GrantRefused, Grants};
 use cf_journal::OpenRefused;
+use cf_journal_book::Book;
 use std::alloc::{AllocError, Global};
 
 /// What is said of a document with a fault.

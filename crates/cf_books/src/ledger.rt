@@ -14,11 +14,11 @@ use crate::lists::done;
 use crate::office::refused_answer;
 use crate::status::Status;
 use crate::unknown::unknown_in_ledger;
-use cf_journal_book::{Book, BookRefused, NotOpened};
 use cf_books_ledger::{ledger_text, open_with_ledger};
 use cf_books_lists::Layout;
 use cf_books_words::LedgerFilter;
 use cf_disk::MemDisk;
+use cf_journal_book::{Book, BookRefused, NotOpened};
 use cf_office_rows::LedgerRow;
 use std::alloc::{AllocError, Global};
 

@@ -10,8 +10,8 @@ ghost use Rattle.cf_books_lists.specs.Rows.{added};
 use cf_base::{day_text, money_text};
 use cf_books_lists::{Layout, Rows, decimal_text, drawn_text};
 use cf_books_payments::Tables;
-use cf_json_calls::call_word;
 use cf_calls::Entry;
+use cf_json_calls::call_word;
 use std::alloc::{AllocError, Global};
 
 /// The text of an amount in units of money, empty where there is none.

@@ -16,13 +16,13 @@ use crate::status::Status;
 use crate::through::{balances_through, posts_through, statement_through};
 use crate::unknown::unknown_in_posts;
 use cf_base::{Day, LAST_YEAR};
-use cf_journal_book::{Book, BookRefused, NotOpened};
 use cf_books_lists::{
     Layout, PlacedPost, balances_text, open_text, open_with_posts, posts_text, statement_text,
 };
 use cf_books_words::PostFilter;
 use cf_books_year::{paid_text, year_balances_text};
 use cf_disk::MemDisk;
+use cf_journal_book::{Book, BookRefused, NotOpened};
 use cf_run_words::ReportKind;
 use std::alloc::{AllocError, Global};
 

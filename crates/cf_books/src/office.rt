@@ -13,8 +13,8 @@ use crate::refused::refused_at;
 use crate::room::put_room;
 use crate::status::Status;
 use crate::summary::put_journal;
-use cf_journal_book::{Book, BookRefused, NotOpened, open};
 use cf_disk::MemDisk;
+use cf_journal_book::{Book, BookRefused, NotOpened, open};
 use std::alloc::{AllocError, Global};
 
 /// The book of a journal's bytes, or why they aren't those of an office. All entries are judged by

@@ -12,8 +12,8 @@ use crate::answers::answer_of;
 use crate::notices::put_notice;
 use crate::status::Status;
 use cf_base::{Failed, Sink, Source};
-use cf_books_words::{Command, Request};
 use cf_base_lines::{Unread, read_all, write_all};
+use cf_books_words::{Command, Request};
 use std::alloc::Global;
 
 /// Whether a command reads a journal beside its file.

@@ -19,13 +19,13 @@ use crate::office::refused_answer;
 use crate::status::Status;
 use crate::unknown::{early, unknown_in_posts};
 use cf_base::{Day, Kind, LAST_YEAR};
-use cf_journal_book::{Book, BookRefused, NotOpened};
 use cf_books_days::{
     Dated, DatedKind, balances_through_text, open_dated, posts_through_text, statement_through_text,
 };
 use cf_books_lists::{Layout, PlacedPost};
 use cf_books_words::PostFilter;
 use cf_disk::MemDisk;
+use cf_journal_book::{Book, BookRefused, NotOpened};
 use cf_office::Rest;
 use cf_run_words::ReportKind;
 use std::alloc::{AllocError, Global};

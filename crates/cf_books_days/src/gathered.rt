@@ -6,11 +6,11 @@ ghost use Rattle.cf_journal_book.specs.Watching.{all_posted};
 ghost use Rattle.cf_books_days.specs.Gathered as spec;
 
 use cf_base::Day;
-use cf_journal_book::{Book, NotOpened, Watch, open_watched};
 use cf_budget::LineChange;
 use cf_calls::Entry;
 use cf_chart::Chart;
 use cf_disk::Disk;
+use cf_journal_book::{Book, NotOpened, Watch, open_watched};
 use cf_ledger::Post;
 use cf_registers::Registers;
 use std::alloc::{AllocError, Global};

@@ -8,11 +8,11 @@ ghost use Rattle.cf_books_days.specs.Posts as spec;
 
 use crate::days::is_through;
 use cf_base::Day;
-use cf_journal_book::Book;
 use cf_books_lists::{Layout, PlacedPost, posts_text};
 use cf_books_words::PostFilter;
 use cf_calls::Entry;
 use cf_disk::Disk;
+use cf_journal_book::Book;
 use std::alloc::{AllocError, Global};
 
 /// Whether there is an entry, and it is dated through a day.

@@ -15,10 +15,10 @@ use cf_base::{Day, Kind};
 use cf_books_lists::{Layout, text_of_rows};
 use cf_calls::Row;
 use cf_office_history::Rest;
+use cf_run_words::ReportKind;
 use cf_statements::{
     balance_sheet, comparison, net_position, operating_statement, statement_of_activities,
 };
-use cf_run_words::ReportKind;
 use std::alloc::{AllocError, Global};
 
 /// A statement that is made of sums alone, so that it can be made of the entries through a day.

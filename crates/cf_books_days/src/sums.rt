@@ -18,8 +18,8 @@ use crate::lines::{DayLines, lines_through, room};
 use cf_base::Day;
 use cf_calls::{Basis, Entry, LineNumbers};
 use cf_chart::Chart;
-use cf_office_history::Rest;
 use cf_ledger::Ledger;
+use cf_office_history::Rest;
 use cf_statements::Figures;
 use std::alloc::{AllocError, Global};
 

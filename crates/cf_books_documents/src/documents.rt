@@ -20,8 +20,8 @@ use cf_calls::acts::{
 use cf_calls::items::{AccountItem, VoucherItem};
 use cf_calls::{Act, Entry, Read, Shown};
 use cf_chart::Chart;
-use cf_registers::Registers;
 use cf_register_parts::{document_year, fund_of, is_capital};
+use cf_registers::Registers;
 use std::alloc::{AllocError, Global};
 
 /// What documents stand in: a chart, and the registers of a whole history.

@@ -5,11 +5,11 @@ ghost use Rattle.cf_journal_book.specs.Openings.{OpensBook, OpensNone};
 ghost use Rattle.cf_office_rows.specs.History.{AddUp, history_rows};
 ghost use Rattle.cf_books_ledger.specs.Seen.{rows_in};
 
-use cf_journal_book::{Book, NotOpened, Watch, open_watched};
 use cf_budget::LineChange;
 use cf_calls::Entry;
 use cf_chart::Chart;
 use cf_disk::Disk;
+use cf_journal_book::{Book, NotOpened, Watch, open_watched};
 use cf_ledger::Post;
 use cf_office_rows::{LedgerRow, put_entry};
 use cf_registers::{Registers, whole};

@@ -12,8 +12,8 @@ use crate::parties::{Parties, all_parties, party_of};
 use cf_base::{day_text, money_text};
 use cf_books_lists::{Layout, Rows, decimal_text, drawn_text};
 use cf_books_words::LedgerFilter;
-use cf_json_calls::call_word;
 use cf_calls::Entry;
+use cf_json_calls::call_word;
 use cf_office_rows::{Amounts, LedgerRow};
 use std::alloc::{AllocError, Global};
 

@@ -14,12 +14,12 @@ use crate::names::{department_name, fund_name};
 use crate::rows::{Layout, Rows};
 use crate::texts::{decimal_text, drawn_text};
 use cf_base::{Day, day_text, money_text, month_text};
-use cf_json_calls::call_word;
 use cf_calls::acts::Period;
 use cf_calls::items::LineAmount;
 use cf_calls::shown::{ItemState, OrderItemShown, RequisitionState, VoucherState};
 use cf_calls::{Act, Entry, Read, Shown};
 use cf_chart::{Chart, Line};
+use cf_json_calls::call_word;
 use cf_office::Rest;
 use std::alloc::{AllocError, Global};
 

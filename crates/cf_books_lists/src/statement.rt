@@ -16,10 +16,10 @@ use crate::names::department_name;
 use crate::open::{line_of, number_text};
 use crate::rows::{Layout, Rows};
 use cf_base::{Kind, money_text};
-use cf_journal_book::Book;
 use cf_calls::Row;
 use cf_chart::{Chart, Fund, Line, RevenueSource};
 use cf_disk::Disk;
+use cf_journal_book::Book;
 use cf_run_words::ReportKind;
 use std::alloc::{AllocError, Global};
 

@@ -13,10 +13,10 @@ use crate::opening::{Opening, begin, open_ties, record_all};
 use crate::pass::HallPass;
 use crate::shared::Shared;
 use crate::taken::Taken;
-use cf_journal_book::Book;
 use cf_chart::Chart;
 use cf_disk::Disk;
 use cf_hall_names::{City, Shares, Totals};
+use cf_journal_book::Book;
 use cf_turns::Receipts;
 
 /// A hall that is open. What threads share stands apart from the rest, which its owner keeps.

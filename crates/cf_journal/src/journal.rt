@@ -17,8 +17,8 @@ use crate::refused::Disk_;
 use crate::steps::write_synced;
 use cf_calls::{Act, Entry};
 use cf_codec::{NoMemory, payload_len, write_entry};
-use cf_disk::Disk;
 use cf_codec_fields::kind::is_of;
+use cf_disk::Disk;
 use std::alloc::Global;
 
 /// A file that grows does so to a multiple of so many bytes, by zeros behind the record. A sync of a file that keeps its

@@ -27,10 +27,10 @@ use cf_budget::Lines;
 use cf_calls::{Act, Body, Call, Change, Drawn, Entry, Posted, Reply, Verdict, entry_of};
 use cf_disk::Disk;
 use cf_journal::Journal;
-use cf_office_looks::look_reply;
 use cf_office::{
     History, Prepared, PreparedLines, Rest, apply_rest, judge, refusal_reply, repeat_reply, reserve,
 };
+use cf_office_looks::look_reply;
 use std::alloc::Global;
 use std::marker::Model;
 use std::snapshot::Snapshot;

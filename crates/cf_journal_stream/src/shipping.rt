@@ -9,9 +9,9 @@ ghost use Rattle.cf_journal_stream.specs.Streams.{most_chart, head_of, stream_of
 ghost use Rattle.cf_journal_stream.specs.Readings.{Ships};
 
 use cf_base::Sink;
+use cf_base_lines::write_all;
 use cf_calls::Entry;
 use cf_codec::{payload_len, write_entry};
-use cf_base_lines::write_all;
 use std::alloc::{AllocError, Global};
 
 /// How shipping ended.

@@ -24,8 +24,8 @@ use cf_calls::{Act, Drawn, Entry};
 use cf_chart::Chart;
 use cf_ledger::Post;
 use cf_orders::Orders;
-use cf_registers::Registers;
 use cf_register_parts::{document_year, rolled_year, year_of_day};
+use cf_registers::Registers;
 use std::alloc::{AllocError, Global};
 
 /// Adds the rows of the items of the requisition that an order takes up, if it takes up one.

@@ -6,11 +6,11 @@ ghost use Rattle.cf_pool_cash.specs.Moves as spec;
 ghost use Rattle.cf_pool.specs.Balances.{sizes};
 
 use cf_base::Day;
-use cf_journal_book::{Book, NotOpened, Watch, open_watched};
 use cf_budget::LineChange;
 use cf_calls::Entry;
 use cf_chart::Chart;
 use cf_disk::Disk;
+use cf_journal_book::{Book, NotOpened, Watch, open_watched};
 use cf_ledger::Post;
 use cf_pool::CashMove;
 use cf_post::accounts::CASH;

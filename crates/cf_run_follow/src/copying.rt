@@ -4,10 +4,10 @@ ghost use Rattle.std.specs.Prelude.{◌≡◌};
 ghost use Rattle.cf_run_follow.specs.Copies.{IsReached, reached_on, said_as};
 ghost use Rattle.cf_run_status.specs.Devices.{device};
 
-use cf_journal_book::Book;
 use cf_calls::Entry;
 use cf_disk::Disk;
 use cf_follow::{Admission, Follower};
+use cf_journal_book::Book;
 use std::marker::Model;
 
 /// A book that takes the entries of another one's history.

@@ -12,9 +12,9 @@ ghost use Rattle.cf_run_words.specs.Words.{command_of};
 
 use crate::copying::Copying;
 use cf_base::{Sink, Source};
-use cf_journal_book::{Book, NotOpened, open_with_bytes};
 use cf_disk::Disk;
 use cf_follow::{FollowEnd, follow};
+use cf_journal_book::{Book, NotOpened, open_with_bytes};
 use cf_run_status::{Ran, Status, print, refusal_status};
 use cf_run_words::{Command, WordsRefused, read_words};
 use itoa::Buffer;

@@ -7,10 +7,10 @@ ghost use Rattle.cf_run_follow.specs.Ships.{ShipEnds, status_of_shipped};
 ghost use Rattle.cf_run_words.specs.Words.{command_of};
 
 use cf_base::Sink;
-use cf_journal_book::{NotOpened, open_with_bytes};
 use cf_disk::Disk;
-use cf_run_status::{Ran, Status, refusal_status};
+use cf_journal_book::{NotOpened, open_with_bytes};
 use cf_journal_stream::{ShipEnd, ship};
+use cf_run_status::{Ran, Status, refusal_status};
 use cf_run_words::{Command, WordsRefused, read_words};
 use std::alloc::Global;
 

@@ -9,11 +9,11 @@ ghost use Rattle.cf_run_status.specs.Devices.{device};
 ghost use Rattle.cf_run_words.specs.Words.{command_of};
 
 use cf_base::{Day, Sink, Source};
-use cf_journal_book::{Book, NotOpened, open};
-use cf_claims::claim_text;
 use cf_base_lines::{Unread, read_all};
+use cf_claims::claim_text;
 use cf_disk::Disk;
 use cf_grants::GrantRefused;
+use cf_journal_book::{Book, NotOpened, open};
 use cf_run_status::{Ran, Status, print, refusal_status};
 use cf_run_words::{Command, WordsRefused, read_words};
 use std::alloc::Global;

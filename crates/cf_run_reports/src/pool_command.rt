@@ -10,11 +10,11 @@ ghost use Rattle.cf_run_reports.specs.Pools.{PoolEnds, PoolMakes, PrintsShares};
 ghost use Rattle.cf_run_words.specs.Words.{command_of};
 
 use cf_base::{Month, Sink};
-use cf_journal_book::NotOpened;
-use cf_pool_cash::open_with_moves;
 use cf_chart::Chart;
 use cf_disk::Disk;
+use cf_journal_book::NotOpened;
 use cf_pool::{CashMove, PoolRefused, pool_lines};
+use cf_pool_cash::open_with_moves;
 use cf_run_status::{Ran, Status, print, refusal_status};
 use cf_run_words::{Command, WordsRefused, read_words};
 use std::alloc::Global;

@@ -9,14 +9,14 @@ ghost use Rattle.cf_run_words.specs.Words.{command_of};
 ghost use Rattle.cf_run_words.specs.declared.words.ReportKind.{ReportKind};
 
 use cf_base::Sink;
-use cf_journal_book::{Book, NotOpened, open};
 use cf_calls::Row;
 use cf_classes::{classes_title, components_title, major_title};
 use cf_disk::Disk;
+use cf_journal_book::{Book, NotOpened, open};
 use cf_run_status::{Ran, Status, print, refusal_status};
+use cf_run_words::{Command, ReportKind, WordsRefused, read_words};
 use cf_statements::title;
 use cf_text::statement_bytes;
-use cf_run_words::{Command, ReportKind, WordsRefused, read_words};
 use std::alloc::{AllocError, Global};
 
 /// What a statement is called, without city and year.

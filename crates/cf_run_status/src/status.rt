@@ -4,9 +4,9 @@ ghost use Rattle.std.specs.Prelude.{◌≡◌};
 ghost use Rattle.cf_run_status.specs.Notices.{code_of, text_of};
 ghost use Rattle.cf_run_status.specs.Refused.{status_of_refused};
 
-use cf_journal_book::BookRefused;
 use cf_chart::ChartFault;
 use cf_grants::GrantFault;
+use cf_journal_book::BookRefused;
 
 /// How a run ends.
 #[derive(Clone, Copy)]

@@ -6,8 +6,8 @@ ghost use Rattle.cf_serve_laws.specs.Desks.{DeskKept};
 
 use crate::clerk::Clerk;
 use cf_disk::Disk;
-use cf_http::{Door, DoorEnd, serve_door};
 use cf_hall_names::City;
+use cf_http::{Door, DoorEnd, serve_door};
 use std::alloc::Global;
 use std::marker::Model;
 use std::sync::Wait;

@@ -10,9 +10,9 @@ ghost use Rattle.cf_run_words.specs.Words.{command_of};
 
 use crate::clerk::Clerk;
 use cf_base::{Sink, Source};
-use cf_journal_book::{Book, NotOpened, open};
 use cf_base_lines::{Ended, run_lines};
 use cf_disk::Disk;
+use cf_journal_book::{Book, NotOpened, open};
 use cf_run_status::{Ran, Status, refusal_status};
 use cf_run_words::{Command, WordsRefused, read_words};
 use std::alloc::Global;

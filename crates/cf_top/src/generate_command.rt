@@ -11,11 +11,11 @@ ghost use Rattle.cf_run_words.specs.Words.{command_of};
 use cf_base::Sink;
 use cf_calls::shown::ReconShown;
 use cf_calls::{Label, List, Row};
-use cf_run_generate::generate;
 use cf_office::{BookOffice, History};
+use cf_run_generate::generate;
 use cf_run_status::{Status, print};
-use cf_text::{put_count, put_row};
 use cf_run_words::{Command, WordsRefused, read_words};
+use cf_text::{put_count, put_row};
 use std::alloc::{AllocError, Global};
 
 /// Adds the line of an amount.

@@ -12,14 +12,14 @@ ghost use Rattle.cf_top.specs.Serves.{KeepsDoors, PutsLine, ServeEnds, TellsKept
 ghost use Rattle.cf_run_words.specs.Words.{command_of};
 
 use cf_base::Sink;
-use cf_journal_book::{BookRefused, NotOpened, open_with_chart};
 use cf_base_lines::write_all;
 use cf_disk::Disk;
 use cf_hall::Opening;
 use cf_http::Door;
+use cf_journal_book::{BookRefused, NotOpened, open_with_chart};
 use cf_run_status::{Ran, Status, refusal_status, unread};
-use cf_serve::{ServeEnd, serve_hall};
 use cf_run_words::{Command, WordsRefused, read_words};
+use cf_serve::{ServeEnd, serve_hall};
 use itoa::Buffer;
 use std::alloc::{AllocError, Global};
 use std::marker::Brand;

@@ -1,12 +1,12 @@
 //! A caller: its calls, and what it was answered.
 
 use crate::halls::board::{Begin, Board, Held, Hold};
-use cf_journal_book::Book;
 use cf_calls::Posted;
 use cf_disk::{Disk, MemDisk};
 use cf_hall::{HallPass, Shared};
-use cf_json::read_call;
 use cf_hall_names::City;
+use cf_journal_book::Book;
+use cf_json::read_call;
 use cf_json_replies::write_posted;
 use std::alloc::{AllocError, Global};
 use std::sync::Wait;

@@ -6,11 +6,11 @@ ghost use Rattle.cf_hall.specs.OpeningNames.{name_at};
 
 use crate::halls::board::Board;
 use crate::halls::caller::Caller;
-use cf_journal_book::{Book, open_with_chart};
 use cf_chart::Chart;
 use cf_disk::Disk;
 use cf_hall::{Hall, HallPass, Opening, Shared};
 use cf_hall_names::City;
+use cf_journal_book::{Book, open_with_chart};
 use cf_turns::Receipts;
 use std::alloc::{AllocError, Global};
 use std::marker::Brand;

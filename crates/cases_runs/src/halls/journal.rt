@@ -2,10 +2,10 @@
 
 use crate::halls::caller::Caller;
 use crate::stage::disk_with;
-use cf_journal_book::{Book, open};
 use cf_chart::Chart;
 use cf_disk::MemDisk;
 use cf_journal::found;
+use cf_journal_book::{Book, open};
 use std::alloc::Global;
 
 /// Founds a journal with these bytes of a chart, and says whether it did.
