@@ -5,7 +5,7 @@ ghost use Rattle.std.specs.Prelude.{◌≡◌, true, false, ◌+◌, ◌<◌, �
 ghost use Rattle.cf_base.specs.Causes.{HasCause};
 ghost use Rattle.cf_calls.specs.declared.entry.Entry.{Entry as EntryOf};
 ghost use Rattle.cf_disk.specs.Moments.{AtEachMoment};
-ghost use Rattle.cf_journal.specs.Journal.{count_of, has_act, in_doubt, Reserves, IsSettled};
+ghost use Rattle.cf_journal.specs.Journal.{count_of, version_of, has_act, in_doubt, Reserves, IsSettled};
 ghost use Rattle.cf_journal.specs.Layout.{RecoversTo as FramesTo};
 ghost use Rattle.cf_journal_book.specs.Books.{Keeps, IsDoubtAfter, FramesNear};
 ghost use Rattle.cf_journal_book.specs.Snapshots.{doubt_of, IsOneOf};
@@ -35,6 +35,7 @@ fn mend_doubt<D: Disk>(
     ensures same { OnErr result (doubt_of doubt.new ≡ doubt_of doubt.old) }
     ensures reserved { (e : EntryOf) → Reserves journal.old e → Reserves journal.new e }
     ensures count { count_of journal.new ≡ count_of journal.old }
+    ensures version { version_of journal.new ≡ version_of journal.old }
     ensures clear { OnOk result (in_doubt journal.new ≡ false) }
     ensures cause { HasCause (D.faults disk.old) (D.faults disk.new) result }
     ensures quiet { OnOk result (D.faults disk.new ≡ D.faults disk.old) }
@@ -62,6 +63,7 @@ fn raise_for<D: Disk>(journal: &mut Journal, disk: &mut D, act: &Act) -> Result<
 
     ensures reserved { (e : EntryOf) → Reserves journal.old e → Reserves journal.new e }
     ensures count { count_of journal.new ≡ count_of journal.old }
+    ensures version { has_act journal.old act.now ≡ true → version_of journal.new ≡ version_of journal.old }
     ensures clear { in_doubt journal.new ≡ false }
     ensures cause { HasCause (D.faults disk.old) (D.faults disk.new) result }
     ensures quiet { OnOk result (D.faults disk.new ≡ D.faults disk.old) }
@@ -96,6 +98,7 @@ fn append<D: Disk>(
         → IsSettled D.tells D.is_image journal.old disk.old chart history
         → AtEachMoment D.moment D.was_image disk.old disk.new (FramesNear chart history (λ e. e ≡ entry.value)) }
 
+    ensures version { version_of journal.new ≡ version_of journal.old }
     ensures none { OnOk result (doubt_of doubt.new ≡ None) }
     ensures which { OnErr result (IsDoubtAfter None entry.value (doubt_of doubt.new)) }
     ensures cause { HasCause (D.faults disk.old) (D.faults disk.new) result }
@@ -135,6 +138,9 @@ pub fn write<D: Disk>(
     ensures any_moment { IsTrue D.tells → (chart : List ℕ) (history : List EntryOf)
         → Keeps D.tells D.is_image journal.old disk.old chart history (doubt_of doubt.old)
         → AtEachMoment D.moment D.was_image disk.old disk.new (FramesNear chart history (IsOneOf (doubt_of doubt.old) entry.value)) }
+
+    // A journal of version 1 stays so until its first lease.
+    ensures version { has_act journal.old act.now ≡ true → version_of journal.new ≡ version_of journal.old }
 
     ensures none { OnOk result (doubt_of doubt.new ≡ None) }
     ensures which { OnErr result (IsDoubtAfter (doubt_of doubt.old) entry.value (doubt_of doubt.new)) }

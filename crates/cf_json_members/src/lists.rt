@@ -38,7 +38,7 @@ fn read_all<T: Item>(alloc: Global, values: &[Value]) -> Result<Option<Vec<T::Ou
     ensures answer { IfOk result (λ o. option_map (λ v. v.items) o ≡ each T.FieldKind.kind (items_view values.now)) }
     ensures form { IfOk result (λ o. IfSome o (λ v. All T.FieldKind.fits v.items)) }
 {
-    let mut items = Vec::new(alloc);
+    let mut items = Vec::with_capacity(alloc, values.len())?;
     for value in values {
         match T::read(value) {
             Some(item) => items.push(item)?,
