@@ -94,7 +94,8 @@ fn show_opened<D: Disk>(
     }
 }
 
-/// Opens the journal in a file, and appends the entry of another file's payload. The call `fail_at` of its file fails.
+/// Opens the journal in a file, and appends the entry of another file's payload. The call `fail_at`
+/// of its file fails.
 pub fn show_append<R: Files<File = File> + Print + AllocGlobal>(
     rt: &R,
     fail_at: u64,
@@ -116,7 +117,8 @@ fn append_opened<D: Disk>(alloc: Global, disk: &mut D, payload: &[u8]) -> bool {
     }
 }
 
-/// Founds a journal in a file, opens it by a second disk, and appends an entry. Whether all was done.
+/// Founds a journal in a file, opens it by a second disk, and appends an entry. Whether all was
+/// done.
 fn found_and_append<R: Files<File = File> + Print>(
     log: &CallLog<'_, R>,
     alloc: Global,
@@ -131,8 +133,8 @@ fn found_and_append<R: Files<File = File> + Print>(
     append_opened(alloc, &mut FileDisk::new(&files, path), payload)
 }
 
-/// Founds a journal and appends an entry, with each call of its files failing in turn: how many calls there are, and how
-/// many of the failures were told.
+/// Founds a journal and appends an entry, with each call of its files failing in turn: how many
+/// calls there are, and how many of the failures were told.
 pub fn show_faults<R: Files<File = File> + Print + AllocGlobal>(
     rt: &R,
     path: &str,

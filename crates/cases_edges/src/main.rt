@@ -1,5 +1,5 @@
-//! Plays a script of what the program reads from and writes to, and of runs over lines, and prints beside each line of it
-//! what the public calls give.
+//! Plays a script of what the program reads from and writes to, and of runs over lines, and prints
+//! beside each line of it what the public calls give.
 //!
 //! | Line of the script | What is printed below it |
 //! |---|---|

@@ -49,7 +49,8 @@ impl Display for FileCall<'_> {
     }
 }
 
-/// Numbers the calls from 1, and prints them where they are to be told. The call `fail_at` fails and isn't made.
+/// Numbers the calls from 1, and prints them where they are to be told. The call `fail_at` fails
+/// and isn't made.
 #[derive(Drop)]
 pub struct CallLog<'a, R> {
     rt: &'a R,

@@ -17,7 +17,8 @@ pub enum Verdict {
     NoMemory,
 }
 
-/// Answers a call, which stands in braces, by a verdict, and a look by its route. It counts what it is asked.
+/// Answers a call, which stands in braces, by a verdict, and a look by its route. It counts what it
+/// is asked.
 #[derive(Drop)]
 pub struct Clerk {
     pub alloc: Global,

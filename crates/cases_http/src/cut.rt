@@ -4,7 +4,8 @@ use cf_base::Failed;
 use cf_http::Link;
 use cf_http_links::MemLink;
 
-/// A link whose next read gives at most so many bytes, and every later one all that it has room for.
+/// A link whose next read gives at most so many bytes, and every later one all that it has room
+/// for.
 #[derive(Drop)]
 pub struct CutLink {
     pub link: MemLink,

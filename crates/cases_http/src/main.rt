@@ -1,4 +1,5 @@
-//! Plays a script of links in memory and over the loopback device, and prints what each one was answered and how it ended.
+//! Plays a script of links in memory and over the loopback device, and prints what each one was
+//! answered and how it ended.
 #![tactic(auto)]
 
 mod clerk;

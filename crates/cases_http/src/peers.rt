@@ -71,8 +71,8 @@ fn see_at(
     see_served(rt, door, links, clerk, peers.as_mut_slice())
 }
 
-/// Serves so many links of a door that waits a tenth of a second for each read and write, and at which a peer for
-/// each of these texts stands.
+/// Serves so many links of a door that waits a tenth of a second for each read and write, and at
+/// which a peer for each of these texts stands.
 pub fn see_peers(
     rt: &HostRuntime,
     links: u32,

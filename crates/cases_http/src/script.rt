@@ -1,5 +1,5 @@
-//! The lines of a script. In a text `\r` and `\n` stand for the bytes 13 and 10, and a backslash before another byte
-//! for that byte.
+//! The lines of a script. In a text `\r` and `\n` stand for the bytes 13 and 10, and a backslash
+//! before another byte for that byte.
 //!
 //! | Line | What it does |
 //! |---|---|

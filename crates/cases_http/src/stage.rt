@@ -71,7 +71,8 @@ impl Stage {
         Ok(Played { sent, how, asked })
     }
 
-    /// Serves a link whose first read gives at most so many bytes of the text, and the next one all the rest.
+    /// Serves a link whose first read gives at most so many bytes of the text, and the next one all
+    /// the rest.
     pub fn serve_cut(&self, first: usize) -> Result<Played, AllocError> {
         let link = self.link(usize::MAX)?;
         let link = CutLink { link, most: first };
@@ -82,13 +83,15 @@ impl Stage {
         Ok(Played { sent, how, asked })
     }
 
-    /// Serves a link that gives the text in pieces of at most so many bytes: what had passed before each of its reads.
+    /// Serves a link that gives the text in pieces of at most so many bytes: what had passed before
+    /// each of its reads.
     pub fn serve_noted(&self, piece: usize) -> Result<Vec<Passed>, AllocError> {
         let (link, _) = serve_link(self.alloc, self.link(piece)?, &mut self.clerk());
         Vec::from_slice(self.alloc, link.reads())
     }
 
-    /// Serves the text whole, each request by one answer: how the link ended, and how many bytes it took.
+    /// Serves the text whole, each request by one answer: how the link ended, and how many bytes it
+    /// took.
     pub fn serve_fixed(&self) -> Result<(LinkEnd, usize), AllocError> {
         let bytes = Vec::from_slice(self.alloc, self.text.as_slice())?;
         let link = MemLink::new(self.alloc, bytes, usize::MAX);

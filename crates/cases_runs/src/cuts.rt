@@ -30,7 +30,8 @@ fn show_alike(rt: &impl Print, alike: &Alike) -> io::Result<()> {
     )
 }
 
-/// Prints how a desk ends over each front of what the disk holds, the empty one and the whole among them.
+/// Prints how a desk ends over each front of what the disk holds, the empty one and the whole among
+/// them.
 pub fn show_cuts(rt: &impl Print, stage: &Stage) -> io::Result<()> {
     let mut alike = Alike {
         from: 0,

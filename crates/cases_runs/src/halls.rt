@@ -1,5 +1,5 @@
-//! Callers over a hall, each in a thread of its own, and what they are answered. A hall that holds up a call for ever is told
-//! by a count of turns, and not by a program that hangs.
+//! Callers over a hall, each in a thread of its own, and what they are answered. A hall that holds
+//! up a call for ever is told by a count of turns, and not by a program that hangs.
 //!
 //! | Line of the script | What it does |
 //! |---|---|

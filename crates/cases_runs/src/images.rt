@@ -109,7 +109,8 @@ impl Torn {
     }
 }
 
-/// An image of a disk that held these bytes, after these calls. Changes that aren't synced are torn in turn.
+/// An image of a disk that held these bytes, after these calls. Changes that aren't synced are torn
+/// in turn.
 pub fn image_after(
     alloc: Global,
     before: &[u8],

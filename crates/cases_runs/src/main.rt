@@ -1,5 +1,5 @@
-//! Plays a script of runs over a disk in memory, and prints each line of it with what the run said, how it ended
-//! and what it left.
+//! Plays a script of runs over a disk in memory, and prints each line of it with what the run said,
+//! how it ended and what it left.
 //!
 //! | Line of the script | What it does |
 //! |---|---|

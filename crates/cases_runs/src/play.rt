@@ -24,8 +24,8 @@ fn show_shipped(
     println!(rt; "= {ended}; {} bytes shipped", stream.len())
 }
 
-/// A run of these words: what was said at its doors, what it said, how it ended and how long the journal is. Of a stream only its
-/// length is said.
+/// A run of these words: what was said at its doors, what it said, how it ended and how long the
+/// journal is. Of a stream only its length is said.
 fn show_run<R: Print + Threads + Wait + Sync>(
     rt: &R,
     stage: &mut Stage,

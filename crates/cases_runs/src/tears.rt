@@ -26,8 +26,8 @@ impl Texts {
     }
 }
 
-/// What a desk with the lines said over an image, or how it ended where that isn't well; and whether the disk
-/// then holds another.
+/// What a desk with the lines said over an image, or how it ended where that isn't well; and
+/// whether the disk then holds another.
 fn left_text(alloc: Global, left: &Left, image: &[u8]) -> Result<String, AllocError> {
     let mut text = match left.status {
         Status::Ok => String::from_str(alloc, left.said().trim_end())?,

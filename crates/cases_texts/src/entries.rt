@@ -17,7 +17,8 @@ fn is_written_so(alloc: Global, entry: &Entry, bytes: &[u8]) -> bool
     is_written && out.as_slice() == bytes && payload_len(entry) == bytes.len() as u64
 }
 
-/// Appends an entry's change with its drawn numbers and its length, where it is written again as it was read.
+/// Appends an entry's change with its drawn numbers and its length, where it is written again as it
+/// was read.
 fn tell_entry(page: &mut Page, alloc: Global, entry: &Entry, length: usize, bytes: &[u8])
     requires { IsEntryInForm entry.now }
 {
@@ -34,8 +35,8 @@ fn tell_entry(page: &mut Page, alloc: Global, entry: &Entry, length: usize, byte
     }
 }
 
-/// Writes an entry's payload behind a byte 7 in so much room, and says how much room there then is, the first byte,
-/// and whether the bytes that follow are the payload's.
+/// Writes an entry's payload behind a byte 7 in so much room, and says how much room there then is,
+/// the first byte, and whether the bytes that follow are the payload's.
 fn tell_room(page: &mut Page, entry: &Entry, bytes: &[u8], out: &mut Vec<u8>)
     requires { IsEntryInForm entry.now }
 {
@@ -73,7 +74,8 @@ fn tell_refused(page: &mut Page, refused: CodecRefused) {
     }
 }
 
-/// Appends the entry that a payload begins with in a journal of this version, or the offset of the fault.
+/// Appends the entry that a payload begins with in a journal of this version, or the offset of the
+/// fault.
 pub fn tell_payload(page: &mut Page, alloc: Global, bytes: &[u8], version: u8) {
     page.put("  ");
     match read_entry(alloc, bytes, version) {

@@ -1,6 +1,7 @@
 //! Bytes as hexadecimal digits.
 
-/// Appends the bytes that hexadecimal digits write, blanks aside, and says whether there was memory for them.
+/// Appends the bytes that hexadecimal digits write, blanks aside, and says whether there was memory
+/// for them.
 pub fn put_digits(digits: &str, bytes: &mut Vec<u8>) -> bool {
     let mut is_there = true;
     let mut high = None;

@@ -1,4 +1,5 @@
-//! Plays a script of charts, lines and payloads, and prints beside each line of it what the public calls say.
+//! Plays a script of charts, lines and payloads, and prints beside each line of it what the public
+//! calls say.
 //!
 //! | Line of the script | What is printed below it |
 //! |---|---|

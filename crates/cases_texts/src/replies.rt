@@ -1,4 +1,5 @@
-//! The text of each refusal, each result, what is no reply, and each look, with the values that the code states.
+//! The text of each refusal, each result, what is no reply, and each look, with the values that the
+//! code states.
 
 use crate::page::Page;
 use crate::refusals::{REFUSALS, RESULTS};

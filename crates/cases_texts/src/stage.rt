@@ -48,7 +48,8 @@ impl Stage {
         tell_document(&mut self.said, self.alloc, text.as_bytes(), asked);
     }
 
-    /// Makes the draft the text with a change, in which `;` is the end of a line, where the text has the old words.
+    /// Makes the draft the text with a change, in which `;` is the end of a line, where the text
+    /// has the old words.
     fn change(&mut self, old: &str, new: &str) {
         self.draft.clear();
         match self.text.text().split_once(old) {

@@ -1,4 +1,5 @@
--- The rows of capital assets and right-to-use assets in the change of a fiscal year (GASB Statement 34).
+-- The rows of capital assets and right-to-use assets in the change of a fiscal year (GASB Statement
+-- 34).
 use Rattle.std.specs.Prelude.{ℕ, List, pos, ◌-ℤ◌}
 use Rattle.cf_assets.specs.declared.changes.AssetChanges.{AssetChanges}
 use Rattle.cf_chart.specs.Plan.{Plan}

@@ -19,15 +19,20 @@ charge_in is_lease closed a = if is_kind is_lease a then charge closed a else 0
 
 -- the sum of the function of this id is an amount more, and the others stay
 abbrev pub AddsTo : ℕ → ℕ → List Function → List ℕ → List ℕ → Type 0
-AddsTo id amount functions old new = (k : ℕ) (d : Function) → k < length functions → slice_index_or new k 0 ≡ slice_index_or old k 0 + (if id == (slice_index_or functions k d).id then amount else 0)
+AddsTo id amount functions old new = (k : ℕ) (d : Function) → k < length functions
+    → slice_index_or new k 0
+    ≡ slice_index_or old k 0 + (if id == (slice_index_or functions k d).id then amount else 0)
 
--- each sum is what is charged to the function of its place in the chart's table (GASB Statement 34: depreciation by function)
+-- each sum is what is charged to the function of its place in the chart's table (GASB Statement 34:
+-- depreciation by function)
 abbrev pub AreCharges : ℕ → List Asset → List Function → List ℕ → Type 0
-AreCharges closed assets functions sums = (k : ℕ) (d : Function) → k < length functions → slice_index_or sums k 0 ≡ function_charge closed assets (slice_index_or functions k d).id
+AreCharges closed assets functions sums = (k : ℕ) (d : Function) → k < length functions
+    → slice_index_or sums k 0 ≡ function_charge closed assets (slice_index_or functions k d).id
 
 -- no function has an id, or the one at a place has it
 abbrev pub HasNot : ℕ → List Function → Type 0
-HasNot id functions = (k : ℕ) (d : Function) → k < length functions → (slice_index_or functions k d).id ≢ id
+HasNot id functions = (k : ℕ) (d : Function) → k < length functions
+    → (slice_index_or functions k d).id ≢ id
 
 pub record StandsAt (id : ℕ) (functions : List Function) (place : ℕ) : Type 0 where
   pub within : place < length functions

@@ -15,11 +15,13 @@ pub record Inventory : Type 0 where
 
 -- assets have the numbers 1, 2, 3 ..
 abbrev pub AreNumbered : List Asset → Type 0
-AreNumbered assets = (k : ℕ) (d : Asset) → k < length assets → (slice_index_or assets k d).number ≡ k + 1
+AreNumbered assets = (k : ℕ) (d : Asset) → k < length assets
+    → (slice_index_or assets k d).number ≡ k + 1
 
 -- no cost is above the largest amount
 abbrev pub AreCheap : List Asset → Type 0
-AreCheap assets = (k : ℕ) (d : Asset) → k < length assets → (slice_index_or assets k d).cost ≤ most_cents
+AreCheap assets = (k : ℕ) (d : Asset) → k < length assets
+    → (slice_index_or assets k d).cost ≤ most_cents
 
 -- each is of a fiscal year that is kept
 abbrev pub AreKept : List Asset → Type 0
@@ -31,7 +33,8 @@ staged stage a = record a { stage = stage }
 
 -- one asset is in another stage, and all else stays
 abbrev pub StagesOne : ℕ → Stage → List Asset → List Asset → Type 0
-StagesOne at stage old new = (d : Asset) → new ≡ slice_set old at (staged stage (slice_index_or old at d))
+StagesOne at stage old new = (d : Asset)
+    → new ≡ slice_set old at (staged stage (slice_index_or old at d))
 
 -- a new asset: it has the next number, is held, and serves from a month that isn't closed
 pub record IsNew (r : AssetRow) (i : Inventory) : Type 0 where

@@ -15,13 +15,15 @@ abbrev pub inventory_of : Inside → Inventory
 inventory_of a = record {
   assets = map view_asset a.rows.items;
   closed = length a.accumulated.items;
-  room = min (vec_capacity a.rows - length a.rows.items) (vec_capacity a.serving - length a.serving.items);
+  room = min (vec_capacity a.rows - length a.rows.items)
+      (vec_capacity a.serving - length a.serving.items);
   months = vec_capacity a.accumulated - length a.accumulated.items;
 }
 
 -- the number after so many closed months is the depreciation of all assets over them
 abbrev pub AreAccumulated : List Asset → List ℕ → Type 0
-AreAccumulated assets accumulated = (n : ℕ) → n < length accumulated → slice_index_or accumulated n 0 ≡ sum_by (depreciation (n + 1)) assets
+AreAccumulated assets accumulated = (n : ℕ) → n < length accumulated
+    → slice_index_or accumulated n 0 ≡ sum_by (depreciation (n + 1)) assets
 
 pub record IsSound (a : Inside) : Type 0 where
   pub few : length a.rows.items ≤ most_items
@@ -31,4 +33,6 @@ pub record IsSound (a : Inside) : Type 0 where
   pub accumulated : AreAccumulated (map view_asset a.rows.items) a.accumulated.items
   pub outlay : AreYears (λ year. sum_by (bought_in year) (map view_asset a.rows.items)) a.outlay
   pub donated : AreYears (λ year. sum_by (given_in year) (map view_asset a.rows.items)) a.donated
-  pub disposals : AreYears (λ year. sum_by (book_in (length a.accumulated.items) year) (map view_asset a.rows.items)) a.disposals
+  pub disposals : AreYears
+      (λ year. sum_by (book_in (length a.accumulated.items) year) (map view_asset a.rows.items))
+      a.disposals

@@ -10,7 +10,8 @@ use Rattle.cf_model.specs.RegisterRules.{asset_at}
 
 -- an asset's cost and function, and its depreciation over the closed months
 abbrev pub asset_now : ℕ → Asset → AssetNow
-asset_now closed a = record { cost = a.cost; depreciation = depreciation closed a; function = a.function }
+asset_now closed a =
+    record { cost = a.cost; depreciation = depreciation closed a; function = a.function }
 
 abbrev pub asset_now_at : ℕ → ℕ → List Asset → Option AssetNow
 asset_now_at closed number assets = option_map (asset_now closed) (asset_at number assets)

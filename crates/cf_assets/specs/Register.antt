@@ -65,7 +65,8 @@ abbrev pub IsNextAsset : AssetAct → Drawn → Register → Type 0
 IsNextAsset (Donate d) drawn r = drawn.number ≡ length r.assets + 1
 IsNextAsset (Dispose d) drawn r = Unit {0}
 
--- a voucher has the next voucher's number and the next asset's, and a gift and a lease the next asset's
+-- a voucher has the next voucher's number and the next asset's, and a gift and a lease the next
+-- asset's
 abbrev pub IsNext : Act → Drawn → Register → Type 0
 IsNext (act.Voucher v) drawn r = IsNextVoucher drawn r
 IsNext (act.Asset what) drawn r = IsNextAsset what drawn r
@@ -76,10 +77,12 @@ abbrev pub asset_number : AssetAct → ℕ → ℕ
 asset_number (Donate d) next = next
 asset_number (Dispose d) next = 0
 
--- the numbers that an act draws of assets: a gift and a lease their own, and a voucher that of its first asset, or of the next one where it has none
+-- the numbers that an act draws of assets: a gift and a lease their own, and a voucher that of its
+-- first asset, or of the next one where it has none
 abbrev pub asset_draws : List Asset → Act → Drawn
 asset_draws assets (act.Voucher v) = record { number = 0; second = length assets + 1 }
-asset_draws assets (act.Asset what) = record { number = asset_number what (length assets + 1); second = 0 }
+asset_draws assets (act.Asset what) =
+    record { number = asset_number what (length assets + 1); second = 0 }
 asset_draws assets (act.Lease l) = record { number = length assets + 1; second = 0 }
 asset_draws assets _ = record { number = 0; second = 0 }
 

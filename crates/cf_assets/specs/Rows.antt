@@ -45,12 +45,25 @@ pub record IsRow (closed k : ℕ) (r : AssetRow) : Type 0 where
   pub stage : IsStage closed r.stage
 
 abbrev pub AreRows : ℕ → List AssetRow → Type 0
-AreRows closed rows = (k : ℕ) (d : AssetRow) → k < length rows → IsRow closed k (slice_index_or rows k d)
+AreRows closed rows = (k : ℕ) (d : AssetRow) → k < length rows
+    → IsRow closed k (slice_index_or rows k d)
 
 -- no cost is above the largest amount
 abbrev pub AreSmall : List AssetRow → Type 0
-AreSmall rows = (k : ℕ) (d : AssetRow) → k < length rows → (slice_index_or rows k d).cost ≤ most_cents
+AreSmall rows = (k : ℕ) (d : AssetRow) → k < length rows
+    → (slice_index_or rows k d).cost ≤ most_cents
 
 -- a row of nothing
 abbrev pub no_row : AssetRow
-no_row = record { cost = 0; number = 0; acquired = Given; function = 0; life = 0; on = record { year = 0; month = 0; day = 0 }; year = 0; service = 0; stage = Held }
+no_row = record {
+  cost = 0;
+  number = 0;
+  acquired = Given;
+  function = 0;
+  life = 0;
+  on =
+      record { year = 0; month = 0; day = 0 };
+  year = 0;
+  service = 0;
+  stage = Held;
+}

@@ -23,13 +23,15 @@ serves_at months rows at = serves_if months (slice_get rows at)
 abbrev pub enlisted : ℕ → AssetRow → List ℕ → List ℕ
 enlisted at r serving = if nat_lt 0 r.life then serving ++ at ∷ [] else serving
 
--- the places rise, and each asset that may still be charged has its place among them; the first asset stands at n
+-- the places rise, and each asset that may still be charged has its place among them; the first
+-- asset stands at n
 abbrev pub ServeFrom : ℕ → ℕ → List AssetRow → List ℕ → Type 0
 ServeFrom months n [] [] = Unit {0}
 ServeFrom months n [] (at ∷ serving) = ⊥
 ServeFrom months n (r ∷ rows) [] = (serves months r ≡ false) × ServeFrom months (n + 1) rows []
 ServeFrom months n (r ∷ rows) (at ∷ serving) =
-    ((at ≡ n) × ServeFrom months (n + 1) rows serving) ⊎ ((serves months r ≡ false) × ServeFrom months (n + 1) rows (at ∷ serving))
+    ((at ≡ n) × ServeFrom months (n + 1) rows serving)
+    ⊎ ((serves months r ≡ false) × ServeFrom months (n + 1) rows (at ∷ serving))
 
 abbrev pub ServeAll : ℕ → List AssetRow → List ℕ → Type 0
 ServeAll months rows serving = ServeFrom months 0 rows serving

@@ -12,7 +12,8 @@ use Rattle.cf_base.specs.Limits.{most_cents}
 
 -- no amount is above the largest one
 abbrev pub AreMost : List VoucherItem → Type 0
-AreMost items = (k : ℕ) (d : VoucherItem) → k < length items → (slice_index_or items k d).account.amount ≤ most_cents
+AreMost items = (k : ℕ) (d : VoucherItem) → k < length items
+    → (slice_index_or items k d).account.amount ≤ most_cents
 
 -- an asset serves from the month of its day
 abbrev pub IsTitled : Plan → Title → Type 0
@@ -23,7 +24,8 @@ pub record CanVoid (at : ℕ) (i : Inventory) : Type 0 where
   pub bought : (d : Asset) → is_some (voucher_of (slice_index_or i.assets at d).origin) ≡ true
   pub allowed : (d : Asset) → voided_asset i.closed (slice_index_or i.assets at d) ≡ None
 
--- what a void of a voucher makes of an asset, and a disposal in a year, when so many months are closed
+-- what a void of a voucher makes of an asset, and a disposal in a year, when so many months are
+-- closed
 abbrev pub voids : ℕ → Asset → Asset
 voids voucher a = if is_number (voucher_of a.origin) voucher then staged void a else a
 

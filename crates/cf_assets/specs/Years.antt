@@ -1,11 +1,13 @@
--- What each asset adds to the amounts of the fiscal years, in cents (GASB Statement 34: the rows of the reconciliation).
+-- What each asset adds to the amounts of the fiscal years, in cents (GASB Statement 34: the rows of
+-- the reconciliation).
 use Rattle.std.specs.Prelude.{ℕ, ◌-◌, not, if◌then◌else◌, ◌==◌, ◌&&◌, is_some}
 use Rattle.cf_model.specs.Assets.{Asset, depreciation, voucher_of, is_given, is_leased}
 use Rattle.cf_model.specs.Changes.{is_void, is_disposed_in}
 
 -- what a voucher bought in a year, if it isn't void
 abbrev pub bought_in : ℕ → Asset → ℕ
-bought_in year a = if is_some (voucher_of a.origin) && (a.year == year) && not (is_void a.stage) then a.cost else 0
+bought_in year a = if is_some (voucher_of a.origin) && (a.year == year) && not (is_void a.stage)
+    then a.cost else 0
 
 -- what was given in a year
 abbrev pub given_in : ℕ → Asset → ℕ

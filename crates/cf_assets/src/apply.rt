@@ -63,8 +63,8 @@ impl Assets {
         }
     }
 
-    /// Takes in an act that the rules allow and that drew these numbers. It takes no memory, as that was reserved.
-    /// Another act than the register's own is only counted.
+    /// Takes in an act that the rules allow and that drew these numbers. It takes no memory, as
+    /// that was reserved. Another act than the register's own is only counted.
     pub fn apply(&mut self, chart: &Chart, on: Day, act: &Act, drawn: Drawn)
         requires reserved { HasRoomFor act.now self.old.room }
         requires day { is_day on ≡ true }
@@ -74,7 +74,9 @@ impl Assets {
         requires drawn { IsNext act.now drawn self.old }
         requires timely { IsTimely chart.now self.old.closed on act.now }
         requires few { self.old.acts < most_entries }
-        ensures assets { self.new.assets ≡ map (asset_step chart.now self.old.closed on act.now) self.old.assets ++ assets_by chart.now on act.now drawn }
+        ensures assets { self.new.assets
+            ≡ map (asset_step chart.now self.old.closed on act.now) self.old.assets
+            ++ assets_by chart.now on act.now drawn }
         ensures closed { self.new.closed ≡ closed_after act.now self.old.closed }
         ensures vouchers { self.new.vouchers ≡ self.old.vouchers + draws_voucher act.now }
         ensures acts { self.new.acts ≡ self.old.acts + 1 }
@@ -109,11 +111,14 @@ impl Assets {
         requires reserved { HasRoomForAsset what.now self.old.room }
         requires day { is_day on ≡ true }
         requires amounts { amount_refusal (act.Asset what.now) ≡ None }
-        requires allowed { (s : Registers) → IsOf s self.old → asset_refusal s on (act.Asset what.now) ≡ None }
+        requires allowed { (s : Registers) → IsOf s self.old
+            → asset_refusal s on (act.Asset what.now) ≡ None }
         requires drawn { IsNextAsset what.now drawn self.old }
         requires early { self.old.closed ≤ number_of_day chart.now on }
         requires few { self.old.acts < most_entries }
-        ensures assets { self.new.assets ≡ map (asset_step chart.now self.old.closed on (act.Asset what.now)) self.old.assets ++ assets_by chart.now on (act.Asset what.now) drawn }
+        ensures assets { self.new.assets
+            ≡ map (asset_step chart.now self.old.closed on (act.Asset what.now)) self.old.assets
+            ++ assets_by chart.now on (act.Asset what.now) drawn }
         ensures closed { self.new.closed ≡ self.old.closed }
         ensures vouchers { self.new.vouchers ≡ self.old.vouchers }
         ensures acts { self.new.acts ≡ self.old.acts + 1 }

@@ -22,8 +22,9 @@ use cf_register_parts::{Extent, YEARS, no_years};
 use std::alloc::Global;
 use std::marker::Model;
 
-/// Capital assets with their depreciation, and right-to-use assets with their amortization. Assets have the numbers 1, 2, 3 ..; the assets of each voucher stand one
-/// after another, and the sums by fiscal year are kept as they run.
+/// Capital assets with their depreciation, and right-to-use assets with their amortization. Assets
+/// have the numbers 1, 2, 3 ..; the assets of each voucher stand one after another, and the sums by
+/// fiscal year are kept as they run.
 #[derive(Drop)]
 pub struct Assets {
     pub(crate) inventory: Inventory,
@@ -31,7 +32,8 @@ pub struct Assets {
     pub(crate) vouchers: Vec<Extent>,
     /// The cost of what was leased, in cents, by fiscal year.
     pub(crate) leased: [u128; YEARS],
-    /// The amortization of all leased assets after one closed month, after two, and so on, in cents.
+    /// The amortization of all leased assets after one closed month, after two, and so on, in
+    /// cents.
     pub(crate) amortized: Vec<u128>,
     pub(crate) acts: u32,
 }
@@ -92,8 +94,8 @@ impl Assets {
         self.inventory.count() + 1
     }
 
-    /// The numbers that an act draws of assets: a gift and a lease their own, and a voucher that of its first asset, or of the next
-    /// one where it has none.
+    /// The numbers that an act draws of assets: a gift and a lease their own, and a voucher that of
+    /// its first asset, or of the next one where it has none.
     pub fn draws(&self, act: &Act) -> Drawn
         ensures { result ≡ asset_draws self.now.assets act.now }
     {
@@ -136,7 +138,8 @@ impl Assets {
     /// An asset as it stands: `None` exactly where there is no asset of this number.
     pub fn asset(&self, number: u32) -> Option<AssetNow>
         ensures value { result ≡ asset_now_at self.now.closed number self.now.assets }
-        ensures alone { filter (λ a. a.number == number) self.now.assets ≡ option_to_list (asset_at number self.now.assets) }
+        ensures alone { filter (λ a. a.number == number) self.now.assets
+            ≡ option_to_list (asset_at number self.now.assets) }
     {
         match self.inventory.find(number) {
             None => None,
@@ -148,7 +151,8 @@ impl Assets {
         }
     }
 
-    /// What a look at an asset shows: `None` exactly where there is no such asset, and at other looks.
+    /// What a look at an asset shows: `None` exactly where there is no such asset, and at other
+    /// looks.
     pub fn look(&self, read: &Read) -> Option<Shown>
         ensures { result ≡ look_shown self.now.closed self.now.assets read.now }
     {
@@ -173,8 +177,10 @@ impl Assets {
 
     /// What the close of the next month charges to each function.
     pub fn month_charges(&self, chart: &Chart) -> MonthCharges
-        ensures owned { AreCharges self.now.closed (of_kind false self.now.assets) chart.now.functions result.owned }
-        ensures leased { AreCharges self.now.closed (of_kind true self.now.assets) chart.now.functions result.leased }
+        ensures owned { AreCharges self.now.closed
+            (of_kind false self.now.assets) chart.now.functions result.owned }
+        ensures leased { AreCharges self.now.closed
+            (of_kind true self.now.assets) chart.now.functions result.leased }
         ensures most_owned { (k : ℕ) → slice_index_or result.owned k 0 ≤ most_total }
         ensures most_leased { (k : ℕ) → slice_index_or result.leased k 0 ≤ most_total }
     {

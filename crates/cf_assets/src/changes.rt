@@ -1,5 +1,5 @@
-//! Capital assets and right-to-use assets in the reconciliation of fund balances and net position (GASB Statements 34 and
-//! 87).
+//! Capital assets and right-to-use assets in the reconciliation of fund balances and net position
+//! (GASB Statements 34 and 87).
 
 ghost use Rattle.std.specs.Prelude.{◌≡◌, ◌≤◌, ◌-◌, sum_by};
 ghost use Rattle.std.specs.List.{AllByRecursion};
@@ -34,12 +34,14 @@ pub struct AssetChanges {
 }
 
 impl Assets {
-    /// Capital assets, net, through a fiscal year: what was acquired in years up to it and isn't void, and wasn't
-    /// disposed of in one up to it, at cost less the depreciation of closed months of years up to it, in cents.
+    /// Capital assets, net, through a fiscal year: what was acquired in years up to it and isn't
+    /// void, and wasn't disposed of in one up to it, at cost less the depreciation of closed months
+    /// of years up to it, in cents.
     pub fn net(&self, chart: &Chart, year: u16) -> i128
         requires year { IsYear year }
         requires sound { AllByRecursion (IsSoundAsset chart.now self.now.closed) self.now.assets }
-        ensures { result ≡ int_sum (spec.net chart.now self.now.closed year) (spec.owned self.now.assets) }
+        ensures { result ≡ int_sum (spec.net chart.now self.now.closed year)
+            (spec.owned self.now.assets) }
     {
         let months = closed_through(chart, self.closed(), year);
         let acquired = self.inventory.acquired_through(year);
@@ -47,18 +49,20 @@ impl Assets {
         difference(acquired, gone + self.depreciated_to(months))
     }
 
-    /// Right-to-use assets, net, through a fiscal year: what was leased in years up to it, at cost less the amortization of
-    /// closed months of years up to it, in cents.
+    /// Right-to-use assets, net, through a fiscal year: what was leased in years up to it, at cost
+    /// less the amortization of closed months of years up to it, in cents.
     pub fn right_to_use(&self, chart: &Chart, year: u16) -> i128
         requires year { IsYear year }
         requires sound { AllByRecursion (IsSoundAsset chart.now self.now.closed) self.now.assets }
-        ensures { result ≡ int_sum (spec.net chart.now self.now.closed year) (spec.leased self.now.assets) }
+        ensures { result ≡ int_sum (spec.net chart.now self.now.closed year)
+            (spec.leased self.now.assets) }
     {
         let months = closed_through(chart, self.closed(), year);
         difference(self.leased_through(year), self.amortized_to(months))
     }
 
-    /// The depreciation of what the city owns over the first so many months, which are closed, in cents.
+    /// The depreciation of what the city owns over the first so many months, which are closed, in
+    /// cents.
     fn depreciated_to(&self, months: u32) -> u128
         requires { months ≤ self.now.closed }
         ensures value { result ≡ sum_by (depreciation months) (spec.owned self.now.assets) }
@@ -67,7 +71,8 @@ impl Assets {
         self.inventory.accumulated_to(months) - self.amortized_to(months)
     }
 
-    /// The amortization of what it leases over the first so many months, which are closed, in cents.
+    /// The amortization of what it leases over the first so many months, which are closed, in
+    /// cents.
     fn amortized_to(&self, months: u32) -> u128
         requires { months ≤ self.now.closed }
         ensures value { result ≡ sum_by (depreciation months) (spec.leased self.now.assets) }

@@ -16,8 +16,8 @@ use cf_chart::Function;
 /// How many functions a chart may have.
 pub const MOST_FUNCTIONS: usize = 64;
 
-/// The depreciation of a cost, in cents, after so many months of service: the straight line by whole months, at most
-/// those of its life (own rule). Land, whose life is 0, has none.
+/// The depreciation of a cost, in cents, after so many months of service: the straight line by
+/// whole months, at most those of its life (own rule). Land, whose life is 0, has none.
 #[tactic(auto, using(crate::proofs::Charging::fits, crate::proofs::Charging::land))]
 pub fn depreciated(cost: u64, life: u16, months: u32) -> u64
     requires { cost ≤ most_cents }
@@ -90,7 +90,8 @@ pub struct TotalCharges {
     pub leased: u128,
 }
 
-/// What the close of the next month charges: one pass over the assets in service, for no other is charged.
+/// What the close of the next month charges: one pass over the assets in service, for no other is
+/// charged.
 pub fn total_charges(rows: &[AssetRow], serving: &[u32], closed: u32) -> TotalCharges
     requires rows { AreRows closed rows.now }
     requires serving { ServeAll closed rows.now serving.now }
@@ -160,8 +161,8 @@ fn add_to(sums: &mut [u128; MOST_FUNCTIONS], functions: &[Function], id: u16, am
     }
 }
 
-/// Adds what the close of the next month charges for an asset: to its function's amortization where it is leased, else to
-/// the depreciation.
+/// Adds what the close of the next month charges for an asset: to its function's amortization where
+/// it is leased, else to the depreciation.
 fn charge_row(charges: &mut MonthCharges, functions: &[Function], row: &AssetRow, closed: u32)
     requires cost { row.now.cost ≤ most_cents }
     requires months { closed ≤ most_entries }
@@ -169,10 +170,16 @@ fn charge_row(charges: &mut MonthCharges, functions: &[Function], row: &AssetRow
     requires rising { is_rising (λ f. f.id) functions.now ≡ true }
     requires owned_fits { (k : ℕ) → slice_index_or charges.old.owned k 0 + most_cents < 2 ^ 128 }
     requires leased_fits { (k : ℕ) → slice_index_or charges.old.leased k 0 + most_cents < 2 ^ 128 }
-    ensures owned { AddsTo row.now.function (charge_in false closed (view_asset row.now)) functions.now charges.old.owned charges.new.owned }
-    ensures leased { AddsTo row.now.function (charge_in true closed (view_asset row.now)) functions.now charges.old.leased charges.new.leased }
-    ensures most_owned { (k : ℕ) → slice_index_or charges.new.owned k 0 ≤ slice_index_or charges.old.owned k 0 + most_cents }
-    ensures most_leased { (k : ℕ) → slice_index_or charges.new.leased k 0 ≤ slice_index_or charges.old.leased k 0 + most_cents }
+    ensures owned { AddsTo row.now.function
+        (charge_in false closed (view_asset row.now)) functions.now charges.old.owned
+        charges.new.owned }
+    ensures leased { AddsTo row.now.function
+        (charge_in true closed (view_asset row.now)) functions.now charges.old.leased
+        charges.new.leased }
+    ensures most_owned { (k : ℕ)
+        → slice_index_or charges.new.owned k 0 ≤ slice_index_or charges.old.owned k 0 + most_cents }
+    ensures most_leased { (k : ℕ) → slice_index_or charges.new.leased k 0
+        ≤ slice_index_or charges.old.leased k 0 + most_cents }
 {
     let amount = charge_of(row, closed);
     if is_leased(row) {
@@ -195,8 +202,10 @@ pub fn function_charges(
     requires months { closed ≤ most_entries }
     requires few { length functions.now ≤ 64 }
     requires rising { is_rising (λ f. f.id) functions.now ≡ true }
-    ensures owned { AreCharges closed (of_kind false (map view_asset rows.now)) functions.now result.owned }
-    ensures leased { AreCharges closed (of_kind true (map view_asset rows.now)) functions.now result.leased }
+    ensures owned { AreCharges closed
+        (of_kind false (map view_asset rows.now)) functions.now result.owned }
+    ensures leased { AreCharges closed
+        (of_kind true (map view_asset rows.now)) functions.now result.leased }
     ensures most_owned { (k : ℕ) → slice_index_or result.owned k 0 ≤ most_total }
     ensures most_leased { (k : ℕ) → slice_index_or result.leased k 0 ≤ most_total }
 {

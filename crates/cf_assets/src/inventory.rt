@@ -21,8 +21,9 @@ use cf_register_parts::{YEARS, lower, no_years, raise};
 use std::alloc::{AllocError, Global};
 use std::marker::Model;
 
-/// Assets by number, from 1. What all of them were depreciated by is kept after each closed month, and what was
-/// bought, given and disposed of by fiscal year, so that nothing goes over all assets again.
+/// Assets by number, from 1. What all of them were depreciated by is kept after each closed month,
+/// and what was bought, given and disposed of by fiscal year, so that nothing goes over all assets
+/// again.
 #[derive(Drop)]
 pub struct Inventory {
     pub(crate) rows: Vec<AssetRow>,
@@ -95,7 +96,8 @@ impl Inventory {
     /// The asset of a number.
     pub fn find(&self, number: u32) -> Option<AssetRow>
         ensures value { option_map view_asset result ≡ asset_at number self.now.assets }
-        ensures alone { filter (λ a. a.number == number) self.now.assets ≡ option_to_list (asset_at number self.now.assets) }
+        ensures alone { filter (λ a. a.number == number) self.now.assets
+            ≡ option_to_list (asset_at number self.now.assets) }
         ensures small { IfSome result (λ r. r.cost ≤ most_cents) }
     {
         if number == 0 || number as usize > self.rows.len() {
@@ -186,7 +188,8 @@ impl Inventory {
         requires held { spec.IsHeldAt at self.old }
         requires from { 1970 ≤ year }
         requires to { year ≤ last_fiscal_year }
-        ensures assets { StagesOne at (disposed year self.old.closed) self.old.assets self.new.assets }
+        ensures assets { StagesOne at
+            (disposed year self.old.closed) self.old.assets self.new.assets }
         ensures closed { self.new.closed ≡ self.old.closed }
     {
         let row = self.rows[at];
@@ -196,8 +199,8 @@ impl Inventory {
         self.rows[at] = staged(row, StageNow::Disposed { year, closed });
     }
 
-    /// Closes a month: each asset in service is charged. Gives what is charged for leased assets, in cents. It takes no
-    /// memory.
+    /// Closes a month: each asset in service is charged. Gives what is charged for leased assets,
+    /// in cents. It takes no memory.
     pub fn close(&mut self) -> u128
         requires few { self.old.closed < most_entries }
         requires room { 1 ≤ self.old.months }
@@ -218,8 +221,10 @@ impl Inventory {
     pub fn month_charges(&self, functions: &[Function]) -> MonthCharges
         requires few { length functions.now ≤ 64 }
         requires rising { is_rising (λ f. f.id) functions.now ≡ true }
-        ensures owned { AreCharges self.now.closed (of_kind false self.now.assets) functions.now result.owned }
-        ensures leased { AreCharges self.now.closed (of_kind true self.now.assets) functions.now result.leased }
+        ensures owned { AreCharges self.now.closed
+            (of_kind false self.now.assets) functions.now result.owned }
+        ensures leased { AreCharges self.now.closed
+            (of_kind true self.now.assets) functions.now result.leased }
         ensures most_owned { (k : ℕ) → slice_index_or result.owned k 0 ≤ most_total }
         ensures most_leased { (k : ℕ) → slice_index_or result.leased k 0 ≤ most_total }
     {

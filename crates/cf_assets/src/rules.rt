@@ -24,8 +24,9 @@ use cf_chart::Chart;
 use cf_register_parts::{Extent, extent_of, is_before};
 
 impl Assets {
-    /// The rule of the register that an act breaks: an asset that isn't in the needed state. Of a voucher's assets the
-    /// one of the least number speaks. `None` at other acts than the void of a voucher and a disposal.
+    /// The rule of the register that an act breaks: an asset that isn't in the needed state. Of a
+    /// voucher's assets the one of the least number speaks. `None` at other acts than the void of a
+    /// voucher and a disposal.
     pub fn check(&self, _chart: &Chart, on: Day, act: &Act) -> Option<Refusal>
         ensures { (s : Registers) → IsOf s self.now → result ≡ asset_refusal s on act.now }
     {
@@ -58,13 +59,15 @@ impl Assets {
 
     /// An asset of a voucher that can't be voided.
     fn void_refusal(&self, voucher: u32) -> Option<Refusal>
-        ensures { result ≡ first_refusal (spec.voided_asset self.now.closed) (filter (λ a. is_number (voucher_of a.origin) voucher) self.now.assets) }
+        ensures { result ≡ first_refusal (spec.voided_asset self.now.closed)
+            (filter (λ a. is_number (voucher_of a.origin) voucher) self.now.assets) }
     {
         bought_refusal(&self.inventory, &self.vouchers, voucher)
     }
 
     fn disposal_refusal(&self, on: Day, number: u32) -> Option<Refusal>
-        ensures { result ≡ first_refusal (spec.disposed_asset on) (filter (λ a. a.number == number) self.now.assets) }
+        ensures { result ≡ first_refusal (spec.disposed_asset on)
+            (filter (λ a. a.number == number) self.now.assets) }
     {
         match self.inventory.find(number) {
             None => None,
@@ -76,7 +79,8 @@ impl Assets {
 /// The first asset of a voucher that can't be voided.
 fn bought_refusal(inventory: &Inventory, vouchers: &Vec<Extent>, voucher: u32) -> Option<Refusal>
     requires { AreExtents vouchers.now.items inventory.now.assets }
-    ensures { result ≡ first_refusal (spec.voided_asset inventory.now.closed) (filter (λ a. is_number (voucher_of a.origin) voucher) inventory.now.assets) }
+    ensures { result ≡ first_refusal (spec.voided_asset inventory.now.closed)
+        (filter (λ a. is_number (voucher_of a.origin) voucher) inventory.now.assets) }
 {
     let closed = inventory.closed();
     let extent = extent_of(vouchers, voucher);

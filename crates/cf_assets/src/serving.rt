@@ -1,4 +1,5 @@
-//! The assets in service: those that the close of a month may still charge, by their places among all assets.
+//! The assets in service: those that the close of a month may still charge, by their places among
+//! all assets.
 
 ghost use Rattle.std.specs.Prelude.{◌≡◌, ◌≤◌, ◌<◌, vec_len, vec_capacity};
 ghost use Rattle.std.specs.List.{filter};
@@ -7,8 +8,8 @@ ghost use Rattle.cf_assets.specs.Serving.{enlisted};
 
 use crate::rows::{AssetRow, StageNow};
 
-/// Whether an asset may still be charged, once so many months are closed: it is held, and its life isn't over. Land,
-/// whose life is 0, never is.
+/// Whether an asset may still be charged, once so many months are closed: it is held, and its life
+/// isn't over. Land, whose life is 0, never is.
 fn serves(row: &AssetRow, months: u32) -> bool
     ensures { result ≡ spec.serves months row.now }
 {

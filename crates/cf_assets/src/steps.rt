@@ -68,9 +68,13 @@ impl Assets {
         requires amounts { AreMost voucher.now.items }
         requires drawn { IsNextVoucher drawn self.old }
         requires early { self.old.closed ≤ number_of_day chart.now on }
-        requires year { chart.now.first_year + (if voucher.now.back then 1 else 0) ≤ year_of_day chart.now on }
+        requires year { chart.now.first_year + (if voucher.now.back then 1 else 0)
+            ≤ year_of_day chart.now on }
         requires few { self.old.acts < most_entries }
-        ensures assets { self.new.assets ≡ self.old.assets ++ bought chart.now drawn.number on (if voucher.now.back then year_of_day chart.now on - 1 else year_of_day chart.now on) drawn.second voucher.now.items }
+        ensures assets { self.new.assets
+            ≡ self.old.assets ++ bought chart.now drawn.number on
+            (if voucher.now.back then year_of_day chart.now on - 1 else year_of_day chart.now on)
+            drawn.second voucher.now.items }
         ensures closed { self.new.closed ≡ self.old.closed }
         ensures vouchers { self.new.vouchers ≡ self.old.vouchers + 1 }
         ensures acts { self.new.acts ≡ self.old.acts + 1 }
@@ -93,7 +97,8 @@ impl Assets {
 
     /// Voids the assets of a voucher.
     pub(crate) fn void_voucher(&mut self, voucher: u32)
-        requires allowed { first_refusal (rules.voided_asset self.old.closed) (filter (λ a. is_number (voucher_of a.origin) voucher) self.old.assets) ≡ None }
+        requires allowed { first_refusal (rules.voided_asset self.old.closed)
+            (filter (λ a. is_number (voucher_of a.origin) voucher) self.old.assets) ≡ None }
         requires few { self.old.acts < most_entries }
         ensures assets { self.new.assets ≡ map (voids voucher) self.old.assets }
         ensures closed { self.new.closed ≡ self.old.closed }
@@ -112,7 +117,10 @@ impl Assets {
         requires number { number ≡ length self.old.assets + 1 }
         requires early { self.old.closed ≤ number_of_day chart.now on }
         requires few { self.old.acts < most_entries }
-        ensures assets { self.new.assets ≡ self.old.assets ++ new_asset chart.now spec.gift on (year_of_day chart.now on) number gift.now.dept (spec.life_of chart.now gift.now.object) gift.now.amount ∷ [] }
+        ensures assets { self.new.assets
+            ≡ self.old.assets ++ new_asset chart.now spec.gift on
+            (year_of_day chart.now on) number gift.now.dept
+            (spec.life_of chart.now gift.now.object) gift.now.amount ∷ [] }
         ensures closed { self.new.closed ≡ self.old.closed }
         ensures vouchers { self.new.vouchers ≡ self.old.vouchers }
         ensures acts { self.new.acts ≡ self.old.acts + 1 }
@@ -138,7 +146,10 @@ impl Assets {
         requires number { number ≡ length self.old.assets + 1 }
         requires early { self.old.closed ≤ number_of_day chart.now on }
         requires few { self.old.acts < most_entries }
-        ensures assets { self.new.assets ≡ self.old.assets ++ new_asset chart.now spec.lease on (year_of_day chart.now on) number lease.now.account.dept (leased_life chart.now lease.now) lease.now.account.amount ∷ [] }
+        ensures assets { self.new.assets
+            ≡ self.old.assets ++ new_asset chart.now spec.lease on
+            (year_of_day chart.now on) number lease.now.account.dept
+            (leased_life chart.now lease.now) lease.now.account.amount ∷ [] }
         ensures closed { self.new.closed ≡ self.old.closed }
         ensures vouchers { self.new.vouchers ≡ self.old.vouchers }
         ensures acts { self.new.acts ≡ self.old.acts + 1 }
@@ -161,9 +172,11 @@ impl Assets {
     /// Disposes of an asset.
     pub(crate) fn dispose(&mut self, chart: &Chart, on: Day, number: u32)
         requires day { is_day on ≡ true }
-        requires allowed { first_refusal (rules.disposed_asset on) (filter (λ a. a.number == number) self.old.assets) ≡ None }
+        requires allowed { first_refusal (rules.disposed_asset on)
+            (filter (λ a. a.number == number) self.old.assets) ≡ None }
         requires few { self.old.acts < most_entries }
-        ensures assets { self.new.assets ≡ map (disposes number (year_of_day chart.now on) self.old.closed) self.old.assets }
+        ensures assets { self.new.assets
+            ≡ map (disposes number (year_of_day chart.now on) self.old.closed) self.old.assets }
         ensures closed { self.new.closed ≡ self.old.closed }
         ensures vouchers { self.new.vouchers ≡ self.old.vouchers }
         ensures acts { self.new.acts ≡ self.old.acts + 1 }
@@ -189,7 +202,8 @@ impl Assets {
     }
 }
 
-/// A leased asset serves for the lesser of the lease's term and its object's life, and for the term where that is land.
+/// A leased asset serves for the lesser of the lease's term and its object's life, and for the term
+/// where that is land.
 fn life_of_lease(chart: &Chart, lease: &NewLease) -> u16
     requires { (on : Day) × IsLeaseForm on lease.now }
     ensures { result ≡ leased_life chart.now lease.now }
@@ -201,7 +215,9 @@ fn life_of_lease(chart: &Chart, lease: &NewLease) -> u16
 
 fn new_row(chart: &Chart, title: Title, number: u32, dept: u16, life: u16, cost: u64) -> AssetRow
     requires { IsTitled chart.now title }
-    ensures is { view_asset result ≡ new_asset chart.now (view_origin title.acquired) title.on title.year number dept life cost }
+    ensures is { view_asset result
+        ≡ new_asset chart.now
+        (view_origin title.acquired) title.on title.year number dept life cost }
     ensures stage { result.stage ≡ StageNow.Held }
     ensures year { result.year ≡ title.year }
     ensures service { result.service ≡ title.service }
@@ -232,7 +248,10 @@ fn buy_all(inventory: &mut Inventory, chart: &Chart, title: Title, items: &[Vouc
     requires amounts { AreMost items.now }
     requires room { length items.now ≤ inventory.old.room }
     requires few { length inventory.old.assets + length items.now ≤ most_items }
-    ensures assets { (n : ℕ) → title.acquired ≡ Bought n → inventory.new.assets ≡ inventory.old.assets ++ bought chart.now n title.on title.year (length inventory.old.assets + 1) items.now }
+    ensures assets { (n : ℕ) → title.acquired ≡ Bought n
+        → inventory.new.assets
+        ≡ inventory.old.assets
+        ++ bought chart.now n title.on title.year (length inventory.old.assets + 1) items.now }
     ensures closed { inventory.new.closed ≡ inventory.old.closed }
     ensures most { length inventory.new.assets ≤ length inventory.old.assets + length items.now }
 {
@@ -256,7 +275,8 @@ fn buy_all(inventory: &mut Inventory, chart: &Chart, title: Title, items: &[Vouc
 /// Voids the assets of a voucher.
 fn void_all(inventory: &mut Inventory, vouchers: &Vec<Extent>, voucher: u32)
     requires extents { AreExtents vouchers.now.items inventory.old.assets }
-    requires allowed { first_refusal (rules.voided_asset inventory.old.closed) (filter (λ a. is_number (voucher_of a.origin) voucher) inventory.old.assets) ≡ None }
+    requires allowed { first_refusal (rules.voided_asset inventory.old.closed)
+        (filter (λ a. is_number (voucher_of a.origin) voucher) inventory.old.assets) ≡ None }
     ensures assets { inventory.new.assets ≡ map (voids voucher) inventory.old.assets }
     ensures closed { inventory.new.closed ≡ inventory.old.closed }
 {
@@ -282,8 +302,11 @@ fn void_one(inventory: &mut Inventory, at: usize)
 /// Disposes of the asset of a number, in the fiscal year of the day.
 fn dispose_of(inventory: &mut Inventory, chart: &Chart, on: Day, number: u32)
     requires day { is_day on ≡ true }
-    requires allowed { first_refusal (rules.disposed_asset on) (filter (λ a. a.number == number) inventory.old.assets) ≡ None }
-    ensures assets { inventory.new.assets ≡ map (disposes number (year_of_day chart.now on) inventory.old.closed) inventory.old.assets }
+    requires allowed { first_refusal (rules.disposed_asset on)
+        (filter (λ a. a.number == number) inventory.old.assets) ≡ None }
+    ensures assets { inventory.new.assets
+        ≡ map (disposes number (year_of_day chart.now on) inventory.old.closed)
+        inventory.old.assets }
     ensures closed { inventory.new.closed ≡ inventory.old.closed }
 {
     let year = year_of_day(chart, on);

@@ -21,7 +21,8 @@ pub struct YearSums {
 }
 
 impl Inventory {
-    /// What all assets were depreciated by over the first so many months, which are closed, in cents.
+    /// What all assets were depreciated by over the first so many months, which are closed, in
+    /// cents.
     pub fn accumulated_to(&self, months: u32) -> u128
         requires { months ≤ self.now.closed }
         ensures value { result ≡ sum_by (depreciation months) self.now.assets }
@@ -51,7 +52,9 @@ impl Inventory {
     /// The cost of what was bought and given in the fiscal years up to a year, in cents.
     pub fn acquired_through(&self, year: u16) -> u128
         requires { year ≤ last_fiscal_year }
-        ensures value { result ≡ sum_to (λ y. sum_by (bought_in y) self.now.assets) (year - 1969) + sum_to (λ y. sum_by (given_in y) self.now.assets) (year - 1969) }
+        ensures value { result
+            ≡ sum_to (λ y. sum_by (bought_in y) self.now.assets) (year - 1969)
+            + sum_to (λ y. sum_by (given_in y) self.now.assets) (year - 1969) }
         ensures most { result ≤ 2 * most_in_years }
         ensures first { AreKept self.now.assets }
     {
@@ -61,7 +64,8 @@ impl Inventory {
     /// The book value of what was disposed of in the fiscal years up to a year, in cents.
     pub fn gone_through(&self, year: u16) -> u128
         requires { year ≤ last_fiscal_year }
-        ensures value { result ≡ sum_to (λ y. sum_by (book_in self.now.closed y) self.now.assets) (year - 1969) }
+        ensures value { result
+            ≡ sum_to (λ y. sum_by (book_in self.now.closed y) self.now.assets) (year - 1969) }
         ensures most { result ≤ most_in_years }
     {
         total_through(&self.disposals, year)

@@ -1,4 +1,5 @@
--- Civil days and months, and the fiscal year of a month (GASB Codification 1700: the fiscal period).
+-- Civil days and months, and the fiscal year of a month (GASB Codification 1700: the fiscal
+-- period).
 use Rattle.std.specs.Prelude.{ℕ, zero, suc, ℤ, ◌+◌, ◌-◌, ◌*◌, ◌/◌, ◌%◌, ◌≤◌, Bool, ◌==◌, ◌&&◌, ◌||◌, nat_lt, nat_le, if◌then◌else◌, List, [], ◌∷◌, length, slice_index, Option, Some, None, pos}
 use Rattle.jiff.specs.Words.{days_in_month}
 use Rattle.jiff_core.specs.Calendar.{days_from_civil}
@@ -8,7 +9,8 @@ use Rattle.cf_base.specs.Limits.{last_fiscal_year, last_year}
 
 -- a day that the office knows: a civil date from 1970-01-01 to 2199-12-31
 abbrev pub is_day : Day → Bool
-is_day d = nat_le 1970 d.year && nat_le d.year last_year && nat_le 1 d.month && nat_le d.month 12 && nat_le 1 d.day && nat_le d.day (days_in_month (pos d.year) d.month)
+is_day d = nat_le 1970 d.year && nat_le d.year last_year && nat_le 1 d.month && nat_le d.month 12
+    && nat_le 1 d.day && nat_le d.day (days_in_month (pos d.year) d.month)
 
 -- a month of these years, or, as the last answer, of 2200
 pub record IsMonth (m : Month) : Type 0 where
@@ -41,10 +43,12 @@ pair_at text k = 10 * digit_at text k + digit_at text (k + 1)
 -- a text of the form YYYY-MM-DD
 abbrev pub is_day_form : List ℕ → Bool
 is_day_form text =
-    (length text == 10) && are_digits text 0 && are_digits text 2 && (slice_index text 4 == 45) && are_digits text 5 && (slice_index text 7 == 45) && are_digits text 8
+    (length text == 10) && are_digits text 0 && are_digits text 2 && (slice_index text 4 == 45)
+    && are_digits text 5 && (slice_index text 7 == 45) && are_digits text 8
 
 abbrev pub day_written : List ℕ → Day
-day_written text = record { year = 100 * pair_at text 0 + pair_at text 2; month = pair_at text 5; day = pair_at text 8 }
+day_written text = record
+    { year = 100 * pair_at text 0 + pair_at text 2; month = pair_at text 5; day = pair_at text 8 }
 
 abbrev pub day_if : Day → Option Day
 day_if d = if is_day d then Some d else None
@@ -56,14 +60,16 @@ day_of_text text = if is_day_form text then day_if (day_written text) else None
 -- a text of the form YYYY-MM
 abbrev pub is_month_form : List ℕ → Bool
 is_month_form text =
-    (length text == 7) && are_digits text 0 && are_digits text 2 && (slice_index text 4 == 45) && are_digits text 5
+    (length text == 7) && are_digits text 0 && are_digits text 2 && (slice_index text 4 == 45)
+    && are_digits text 5
 
 abbrev pub month_written : List ℕ → Month
 month_written text = record { year = 100 * pair_at text 0 + pair_at text 2; month = pair_at text 5 }
 
 -- a month that a call may state: from 1970-01 to 2199-12
 abbrev pub is_call_month : Month → Bool
-is_call_month m = nat_le 1970 m.year && nat_le m.year last_year && nat_le 1 m.month && nat_le m.month 12
+is_call_month m = nat_le 1970 m.year && nat_le m.year last_year && nat_le 1 m.month
+    && nat_le m.month 12
 
 abbrev pub month_if : Month → Option Month
 month_if m = if is_call_month m then Some m else None
@@ -79,12 +85,15 @@ last_digit n = 48 + n % 10
 -- a year of four digits and a hyphen, followed by a month of two digits
 abbrev pub month_text : Month → List ℕ
 month_text m =
-    last_digit (m.year / 1000) ∷ last_digit (m.year / 100) ∷ last_digit (m.year / 10) ∷ last_digit m.year ∷ 45 ∷ last_digit (m.month / 10) ∷ last_digit m.month ∷ []
+    last_digit (m.year / 1000) ∷ last_digit (m.year / 100) ∷ last_digit (m.year / 10)
+    ∷ last_digit m.year ∷ 45 ∷ last_digit (m.month / 10) ∷ last_digit m.month ∷ []
 
 -- the same, followed by a hyphen and a day of two digits
 abbrev pub day_text : Day → List ℕ
 day_text d =
-    last_digit (d.year / 1000) ∷ last_digit (d.year / 100) ∷ last_digit (d.year / 10) ∷ last_digit d.year ∷ 45 ∷ last_digit (d.month / 10) ∷ last_digit d.month ∷ 45 ∷ last_digit (d.day / 10) ∷ last_digit d.day ∷ []
+    last_digit (d.year / 1000) ∷ last_digit (d.year / 100) ∷ last_digit (d.year / 10)
+    ∷ last_digit d.year ∷ 45 ∷ last_digit (d.month / 10) ∷ last_digit d.month ∷ 45
+    ∷ last_digit (d.day / 10) ∷ last_digit d.day ∷ []
 
 -- ---- days by number
 
@@ -95,8 +104,10 @@ day_number d = days_from_civil (pos d.year) d.month d.day
 -- the day after
 abbrev pub next_day : Day → Day
 next_day d =
-    if nat_lt d.day (days_in_month (pos d.year) d.month) then record { year = d.year; month = d.month; day = d.day + 1 }
-    else (if nat_lt d.month 12 then record { year = d.year; month = d.month + 1; day = 1 } else record { year = d.year + 1; month = 1; day = 1 })
+    if nat_lt d.day (days_in_month (pos d.year) d.month)
+    then record { year = d.year; month = d.month; day = d.day + 1 }
+    else (if nat_lt d.month 12 then record { year = d.year; month = d.month + 1; day = 1 }
+    else record { year = d.year + 1; month = 1; day = 1 })
 
 -- the day of a number: 0 is 1970-01-01
 unfoldable pub day_of_number : ℕ → Day

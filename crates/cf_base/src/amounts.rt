@@ -6,8 +6,8 @@ ghost use Rattle.cf_base.specs.Reading.{AreUnits, IsAmount, IsRead, IsSize, hund
 use itoa::Buffer;
 use std::alloc::{AllocError, Global};
 
-/// An amount of cents as text: a `-` where it is below zero, the units without leading zeros, a dot, and two
-/// digits of the hundredths (own rule). It fails exactly for want of memory.
+/// An amount of cents as text: a `-` where it is below zero, the units without leading zeros, a
+/// dot, and two digits of the hundredths (own rule). It fails exactly for want of memory.
 pub fn money_text(alloc: Global, total: i128) -> Result<String, AllocError>
     ensures { IfOk result (λ t. string_bytes t ≡ money_of total) }
 {
@@ -74,8 +74,8 @@ fn size_of(text: &str) -> Option<u128>
     }
 }
 
-/// The amount of cents that a text writes: `Some` exactly for the texts that [`money_text`] gives for amounts of a
-/// size below 10^30, so `-0.00`, `1.5` and `01.00` are none.
+/// The amount of cents that a text writes: `Some` exactly for the texts that [`money_text`] gives
+/// for amounts of a size below 10^30, so `-0.00`, `1.5` and `01.00` are none.
 pub fn read_money(text: &str) -> Option<i128>
     ensures { IsRead money_of IsAmount text.now result }
 {

@@ -32,7 +32,8 @@ pub struct Month {
 const LAST_DAY: i32 = 84_005;
 
 impl Day {
-    /// The day that comes so many days after 1970-01-01: `None` exactly outside 0 to 84,005, which is 2199-12-31.
+    /// The day that comes so many days after 1970-01-01: `None` exactly outside 0 to 84,005, which
+    /// is 2199-12-31.
     pub fn new(number: i32) -> Option<Day>
         ensures some { IsSome result ↔ IsBetween (pos 0) (pos 84005) number }
         ensures day { IfSome result (λ d. is_day d ≡ true) }
@@ -76,8 +77,8 @@ pub fn month_of(day: Day) -> Month
     }
 }
 
-/// The month that holds the day that comes so many days after 1970-01-01, 0 to 84,370, which is 2200-12-31: a window
-/// of a year after 2199 ends there.
+/// The month that holds the day that comes so many days after 1970-01-01, 0 to 84,370, which is
+/// 2200-12-31: a window of a year after 2199 ends there.
 pub fn month_at(number: i32) -> Month
     requires { IsBetween (pos 0) (pos 84370) number }
     ensures { result ≡ month_of_day (day_of_number (unsigned_abs number)) }
@@ -94,9 +95,9 @@ pub fn month_at(number: i32) -> Month
     }
 }
 
-/// The fiscal year of a month (GASB Codification 1700). Where fiscal years begin in January it is the
-/// calendar year. Otherwise it is the calendar year for the months before `first_month` and the one after
-/// for the others (own rule).
+/// The fiscal year of a month (GASB Codification 1700). Where fiscal years begin in January it is
+/// the calendar year. Otherwise it is the calendar year for the months before `first_month` and the
+/// one after for the others (own rule).
 pub fn fiscal_year(first_month: u8, month: Month) -> u16
     requires { month.year ≤ last_fiscal_year }
     ensures { result ≡ year_of_month first_month month }
@@ -108,7 +109,8 @@ pub fn fiscal_year(first_month: u8, month: Month) -> u16
     }
 }
 
-/// The day of this year, month and day of the month, if the calendar has it and the office knows it.
+/// The day of this year, month and day of the month, if the calendar has it and the office knows
+/// it.
 fn day_at(year: u16, month: u8, day: u8) -> Option<Day>
     requires year { year < 10000 }
     requires month { month < 100 }
@@ -168,8 +170,8 @@ fn digits_at(text: &[u8], at: usize) -> u8
     10 * (text[at] - 48) + (text[at + 1] - 48)
 }
 
-/// The day that a text of the form `YYYY-MM-DD` writes: `None` exactly where the text is none, or its day
-/// isn't in the calendar or not from 1970-01-01 to 2199-12-31.
+/// The day that a text of the form `YYYY-MM-DD` writes: `None` exactly where the text is none, or
+/// its day isn't in the calendar or not from 1970-01-01 to 2199-12-31.
 pub fn read_day(text: &[u8]) -> Option<Day>
     ensures { result ≡ day_of_text text.now }
 {
@@ -190,8 +192,8 @@ fn has_month_form(text: &[u8]) -> bool
         && has_digits(text, 5)
 }
 
-/// The month that a text of the form `YYYY-MM` writes: `None` exactly where the text is none, or its month
-/// isn't one of 12 or not from 1970-01 to 2199-12.
+/// The month that a text of the form `YYYY-MM` writes: `None` exactly where the text is none, or
+/// its month isn't one of 12 or not from 1970-01 to 2199-12.
 pub fn read_month(text: &[u8]) -> Option<Month>
     ensures { result ≡ month_of_text text.now }
 {

@@ -1,4 +1,5 @@
-//! What every crate of the office stands on: amounts, civil days and months, and the outside as traits.
+//! What every crate of the office stands on: amounts, civil days and months, and the outside as
+//! traits.
 #![tactic(auto)]
 
 mod amounts;

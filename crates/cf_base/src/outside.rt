@@ -17,7 +17,8 @@ pub trait Source {
 
     ghost faults: { Self → ℕ };
 
-    /// Reads up to the length of `buf`. A count of 0 for a `buf` that isn't empty is the end of the input.
+    /// Reads up to the length of `buf`. A count of 0 for a `buf` that isn't empty is the end of the
+    /// input.
     fn read(&mut self, buf: &mut [u8]) -> Result<usize, Failed>
         ensures bound { ReadsAtMost result buf.new }
         ensures bytes { ReadConsumes (left self.old) (left self.new) result buf.new }

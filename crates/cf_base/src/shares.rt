@@ -26,8 +26,11 @@ fn next_place(total: u64, all: u64, weights: &[u64], out: &[u64]) -> Option<usiz
     requires parts { (k : ℕ) → slice_index weights.now k ≤ all }
     ensures place { IfSome result (λ b. b < length weights.now) }
     ensures floor { IfSome result (λ b. HasFloor total all weights.now out.now b) }
-    ensures first { IfSome result (λ b. (k : ℕ) → k < length weights.now → k ≢ b → HasFloor total all weights.now out.now k → IsAhead total all weights.now b k) }
-    ensures none { result ≡ None → (k : ℕ) → k < length weights.now → HasFloor total all weights.now out.now k → ⊥ }
+    ensures first { IfSome result
+        (λ b. (k : ℕ) → k < length weights.now → k ≢ b → HasFloor total all weights.now out.now k
+        → IsAhead total all weights.now b k) }
+    ensures none { result ≡ None → (k : ℕ) → k < length weights.now
+        → HasFloor total all weights.now out.now k → ⊥ }
 {
     let mut best = None;
     for i in 0..weights.len() {
@@ -62,8 +65,9 @@ fn put_floors(total: u64, all: u64, weights: &[u64], out: &mut [u64]) -> u64
     left
 }
 
-/// Shares the total out by the weights (largest remainder): each place gets its part rounded down, and what is left
-/// goes to the largest remainders, one unit each, the first of equal ones first. The shares sum to the total.
+/// Shares the total out by the weights (largest remainder): each place gets its part rounded down,
+/// and what is left goes to the largest remainders, one unit each, the first of equal ones first.
+/// The shares sum to the total.
 pub fn share_out(total: u64, weights: &[u64], out: &mut [u64])
     requires lengths { length out.old ≡ length weights.now }
     requires some { 0 < sum weights.now }

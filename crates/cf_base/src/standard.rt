@@ -1,5 +1,5 @@
-//! The ends of the outside over std. They are the trusted edge: nothing is proved of what a real file or
-//! stream holds.
+//! The ends of the outside over std. They are the trusted edge: nothing is proved of what a real
+//! file or stream holds.
 
 ghost use Rattle.std.specs.Prelude.{ℕ, Option, None, length, IfSome, ◌≤◌};
 
@@ -37,7 +37,8 @@ impl<R: Read + Drop> Source for StdSource<R> {
     }
 }
 
-/// A source over a file, which it opens at its first read. A failed opening is a fault of that read.
+/// A source over a file, which it opens at its first read. A failed opening is a fault of that
+/// read.
 #[derive(Drop)]
 pub struct FileSource<'a, R: Files> {
     files: &'a R,

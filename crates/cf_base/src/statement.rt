@@ -3,8 +3,8 @@
 ghost use Rattle.std.specs.Prelude.{◌≡◌};
 ghost use Rattle.cf_base.specs.Statements.{statement_of};
 
-/// Which statement a report is: the fund statements, the government-wide ones, and what joins the two
-/// (GASB Statement 34).
+/// Which statement a report is: the fund statements, the government-wide ones, and what joins the
+/// two (GASB Statement 34).
 #[derive(Clone, Copy)]
 pub enum Kind {
     Balance,

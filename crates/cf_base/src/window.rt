@@ -8,7 +8,8 @@ ghost use Rattle.cf_base.specs.Limits.{last_year};
 use crate::calendar::Day;
 use jiff_core::civil::days_in_month;
 
-/// The last day of a fiscal year, 1971 to 2199, where fiscal years begin with `first_month`, 1 to 12.
+/// The last day of a fiscal year, 1971 to 2199, where fiscal years begin with `first_month`, 1 to
+/// 12.
 pub fn year_end(first_month: u8, year: u16) -> Day
     requires first { 1 ≤ first_month }
     requires last { first_month ≤ 12 }
@@ -33,7 +34,8 @@ pub fn year_end(first_month: u8, year: u16) -> Day
     }
 }
 
-/// The number of the last day of a window of so many days after a year's last day. Day 0 is 1970-01-01.
+/// The number of the last day of a window of so many days after a year's last day. Day 0 is
+/// 1970-01-01.
 pub fn window_end(year_end: Day, days: u16) -> i32
     requires { is_day year_end ≡ true }
     ensures { result ≡ spec.window_end year_end days }

@@ -1,4 +1,5 @@
--- For the crates above: a run of an office is a run of what contracts see of it, where each answer is one of the other rule too.
+-- For the crates above: a run of an office is a run of what contracts see of it, where each answer
+-- is one of the other rule too.
 use Rattle.std.proofs.Common.{◌≡◌, ℕ, List, [], ◌∷◌, ◌++◌, ap, Option, inl, inr}
 use Rattle.cf_base_lines.specs.Talk.{Rule, Talk, Answers}
 use Rattle.cf_base_lines.specs.Lines.{last_line}

@@ -15,7 +15,8 @@ pub fn read_chunk<S: Source>(source: &mut S, chunk: &mut [u8], most: u64) -> Res
     requires room { 0 < length chunk.old }
     ensures within { IfOk result (λ n. n ≤ length chunk.new) }
     ensures most { IfOk result (λ n. n ≤ most) }
-    ensures bytes { IfOk result (λ n. Consumes (S.left source.old) (S.left source.new) (take n chunk.new)) }
+    ensures bytes { IfOk result
+        (λ n. Consumes (S.left source.old) (S.left source.new) (take n chunk.new)) }
     ensures end { IfOk result (λ n. n ≡ 0 → IsAtEnd (S.left source.new)) }
     ensures err { OnErr result (Keeps (S.left source.old) (S.left source.new)) }
     ensures cause { HasCause (S.faults source.old) (S.faults source.new) result }

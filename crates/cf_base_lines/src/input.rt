@@ -26,7 +26,8 @@ fn take_some<S: Source>(
 ) -> Result<usize, Unread>
     requires chunk { 0 < length chunk.old }
     requires room { vec_len bytes.old < most }
-    ensures ok { IfOk result (λ n. Takes (S.left source.old) (S.left source.new) bytes.old.items bytes.new.items n) }
+    ensures ok { IfOk result
+        (λ n. Takes (S.left source.old) (S.left source.new) bytes.old.items bytes.new.items n) }
     ensures within { vec_len bytes.new ≤ most }
     ensures fault { result ≡ Err Unread.Fault → Rose (S.faults source.old) (S.faults source.new) }
     ensures memory { result ≡ Err Unread.NoMemory → S.faults source.new ≡ S.faults source.old }

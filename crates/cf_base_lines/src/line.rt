@@ -6,7 +6,8 @@ use std::alloc::{AllocError, Global};
 /// The most bytes of a line that is read as a call, the newline aside.
 pub const LONGEST: usize = 262_144;
 
-/// The line that is being read. The room for its bytes is taken once, so reading on needs no memory.
+/// The line that is being read. The room for its bytes is taken once, so reading on needs no
+/// memory.
 #[derive(Drop)]
 pub struct Line {
     pub bytes: Vec<u8>,

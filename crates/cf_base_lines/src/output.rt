@@ -13,7 +13,8 @@ const ANSWER_ROOM: usize = 1024;
 /// Writes all of it, or a front of it where a write fails.
 pub fn write_all<K: Sink>(sink: &mut K, bytes: &[u8]) -> Result<(), Failed>
     ensures ok { OnOk result (Appends (K.held sink.old) (K.held sink.new) bytes.now) }
-    ensures err { OnErr result ((rest : List ℕ) × Wrote (K.held sink.old) (K.held sink.new) bytes.now rest) }
+    ensures err { OnErr result
+        ((rest : List ℕ) × Wrote (K.held sink.old) (K.held sink.new) bytes.now rest) }
     ensures cause { HasCause (K.faults sink.old) (K.faults sink.new) result }
     ensures quiet { OnOk result (K.faults sink.new ≡ K.faults sink.old) }
 {
@@ -27,9 +28,11 @@ pub fn write_all<K: Sink>(sink: &mut K, bytes: &[u8]) -> Result<(), Failed>
 
 /// Writes the answers that wait.
 pub fn flush<K: Sink>(sink: &mut K, pending: &mut Vec<u8>) -> Result<(), Failed>
-    ensures ok { OnOk result (Wrote (K.held sink.old) (K.held sink.new) pending.old.items pending.new.items) }
+    ensures ok { OnOk result
+        (Wrote (K.held sink.old) (K.held sink.new) pending.old.items pending.new.items) }
     ensures all { OnOk result (pending.new.items ≡ []) }
-    ensures err { OnErr result ((rest : List ℕ) × Wrote (K.held sink.old) (K.held sink.new) pending.old.items rest) }
+    ensures err { OnErr result
+        ((rest : List ℕ) × Wrote (K.held sink.old) (K.held sink.new) pending.old.items rest) }
     ensures capacity { vec_capacity pending.old ≤ vec_capacity pending.new }
     ensures cause { HasCause (K.faults sink.old) (K.faults sink.new) result }
     ensures quiet { OnOk result (K.faults sink.new ≡ K.faults sink.old) }
@@ -42,9 +45,11 @@ pub fn flush<K: Sink>(sink: &mut K, pending: &mut Vec<u8>) -> Result<(), Failed>
 /// Before a line is answered: writes the answers that wait where one more has no room.
 pub fn make_room<K: Sink>(sink: &mut K, pending: &mut Vec<u8>) -> Result<(), Failed>
     requires { 1024 ≤ vec_capacity pending.old }
-    ensures ok { OnOk result (Wrote (K.held sink.old) (K.held sink.new) pending.old.items pending.new.items) }
+    ensures ok { OnOk result
+        (Wrote (K.held sink.old) (K.held sink.new) pending.old.items pending.new.items) }
     ensures room { OnOk result (vec_len pending.new + 1024 ≤ vec_capacity pending.new) }
-    ensures err { OnErr result ((rest : List ℕ) × Wrote (K.held sink.old) (K.held sink.new) pending.old.items rest) }
+    ensures err { OnErr result
+        ((rest : List ℕ) × Wrote (K.held sink.old) (K.held sink.new) pending.old.items rest) }
     ensures capacity { vec_capacity pending.old ≤ vec_capacity pending.new }
     ensures cause { HasCause (K.faults sink.old) (K.faults sink.new) result }
     ensures quiet { OnOk result (K.faults sink.new ≡ K.faults sink.old) }

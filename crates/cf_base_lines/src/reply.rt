@@ -33,7 +33,8 @@ fn put_line<O: Office>(office: &mut O, line: &Line, out: &mut Vec<u8>) -> bool
     }
 }
 
-/// Answers a line, and ends the answer with a newline. It says whether the answer is to be written now.
+/// Answers a line, and ends the answer with a newline. It says whether the answer is to be written
+/// now.
 pub fn put_reply<O: Office>(office: &mut O, line: &Line, out: &mut Vec<u8>) -> bool
     requires { vec_len out.old + 1024 ≤ vec_capacity out.old }
     ensures replies { (text : List ℕ) → IsLine line.now text

@@ -19,7 +19,8 @@ pub const MOST_BYTES: u64 = 1_099_511_627_776;
 
 // Whether there are bytes of a line that has no newline.
 fn has_bytes(line: &Line) -> bool
-    ensures yes { IsTrue result → (text : List ℕ) → IsLine line.now text → last_line text ≡ text ∷ [] }
+    ensures yes { IsTrue result → (text : List ℕ) → IsLine line.now text
+        → last_line text ≡ text ∷ [] }
     ensures no { result ≡ false → (text : List ℕ) → IsLine line.now text → text ≡ [] }
 {
     line.long || !line.bytes.is_empty()
@@ -35,11 +36,14 @@ fn end_input<O: Office, K: Sink>(
     requires room { vec_len pending.old + 1024 ≤ vec_capacity pending.old }
     requires written { pending.old.items ≡ [] }
     ensures ok { OnOk result ((start : Moment O) (fed : List ℕ)
-        → IsAt O.answers O.accepted start (state_of office.old (K.held sink.old) line.now pending.old.items) fed
+        → IsAt O.answers O.accepted start
+        (state_of office.old (K.held sink.old) line.now pending.old.items) fed
         → OfAllLines (Gave O.answers start (moment_of office.new (K.held sink.new))) fed) }
     ensures err { OnErr result ((start : Moment O) (fed : List ℕ)
-        → IsAt O.answers O.accepted start (state_of office.old (K.held sink.old) line.now pending.old.items) fed
-        → OfAllLines (GaveFront O.answers O.accepted start (moment_of office.new (K.held sink.new))) fed) }
+        → IsAt O.answers O.accepted start
+        (state_of office.old (K.held sink.old) line.now pending.old.items) fed
+        → OfAllLines (GaveFront O.answers O.accepted start (moment_of office.new (K.held sink.new)))
+        fed) }
     ensures cause { HasCause (K.faults sink.old) (K.faults sink.new) result }
     ensures quiet { OnOk result (K.faults sink.new ≡ K.faults sink.old) }
 {
@@ -53,15 +57,16 @@ fn end_input<O: Office, K: Sink>(
     }
 }
 
-/// Reads lines to the end of the input, has each answered by the office, and writes the answers to `out`,
-/// one a line.
+/// Reads lines to the end of the input, has each answered by the office, and writes the answers to
+/// `out`, one a line.
 ///
-/// A line ends with a newline byte or the end of the input; a final newline begins no further line. A line of
-/// more than 262,144 bytes, the newline aside, is answered `{"form":"long"}` and never reaches the office.
-/// Answers gather, and all of them are written before each read. Bytes are taken in large pieces, so under
-/// `WriteFault` some may have been taken whose lines were not answered. At most 1,099,511,627,776 bytes are
-/// taken, and one more to see that there are more. `NoMemory` comes only before the first read. No fault is passed over:
-/// the input's count of faults rises only under `ReadFault`, the output's only under `WriteFault`.
+/// A line ends with a newline byte or the end of the input; a final newline begins no further line.
+/// A line of more than 262,144 bytes, the newline aside, is answered `{"form":"long"}` and never
+/// reaches the office. Answers gather, and all of them are written before each read. Bytes are
+/// taken in large pieces, so under `WriteFault` some may have been taken whose lines were not
+/// answered. At most 1,099,511,627,776 bytes are taken, and one more to see that there are more.
+/// `NoMemory` comes only before the first read. No fault is passed over: the input's count of
+/// faults rises only under `ReadFault`, the output's only under `WriteFault`.
 pub fn run_lines<I: Source, O: Office, K: Sink>(
     alloc: Global,
     office: &mut O,

@@ -25,7 +25,8 @@ fn end_line<O: Office, K: Sink>(
     ensures err { OnErr result (Breaks O.answers O.accepted
         (state_of office.old (K.held sink.old) line.old pending.old.items)
         (moment_of office.new (K.held sink.new)) (10 ∷ [])) }
-    ensures written { OnOk result (O.accepted office.new ≢ O.accepted office.old → pending.new.items ≡ []) }
+    ensures written { OnOk result
+        (O.accepted office.new ≢ O.accepted office.old → pending.new.items ≡ []) }
     ensures capacity { vec_capacity pending.old ≤ vec_capacity pending.new }
     ensures cause { HasCause (K.faults sink.old) (K.faults sink.new) result }
     ensures quiet { OnOk result (K.faults sink.new ≡ K.faults sink.old) }

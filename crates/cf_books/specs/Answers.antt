@@ -120,31 +120,40 @@ chart_lines_said bytes (Err (fault.TooLong limit)) = nothing (status.NotFounded 
 chart_lines_said bytes (Err f) = nothing (status.ChartRefused f (fault_id bytes f))
 
 abbrev pub lines_said : List ℕ → Result Parts OpenRefused → Said
-lines_said bytes (Ok p) = record { out = lines_in (chart_of p.chart); status = end_of p.damage (length bytes) }
+lines_said bytes (Ok p) =
+    record { out = lines_in (chart_of p.chart); status = end_of p.damage (length bytes) }
 lines_said bytes (Err (open_refused.NotFounded len byte)) = chart_lines_said bytes (chart_of bytes)
 lines_said bytes (Err e) = nothing (refusal_of e)
 
 -- ---- a journal, whose entries the office takes again
 
--- the first of the entries that stands so many bytes behind the first gate, or further, with its place
+-- the first of the entries that stands so many bytes behind the first gate, or further, with its
+-- place
 abbrev pub entry_behind : ℕ → ℕ → List Entry → Option (ℕ × Entry)
 entry_behind offset place [] = None
 entry_behind zero place (e ∷ later) = Some (place, e)
 entry_behind (suc n) place (e ∷ later) = entry_behind (suc n - record_len e) (place + 1) later
 
--- the entry whose gate stands at a place in the file, where the chart in front of the entries has so many bytes
+-- the entry whose gate stands at a place in the file, where the chart in front of the entries has
+-- so many bytes
 abbrev pub entry_at : ℕ → ℕ → List Entry → Option (ℕ × Entry)
 entry_at offset chart_len entries = entry_behind (offset - 6 - chart_len) 1 entries
 
 abbrev pub refused_entry : ℕ → ℕ → Option (ℕ × Entry) → Said
 refused_entry offset number None = nothing (status.Damaged offset None)
-refused_entry offset number (Some x) = record { out = call_line x.1; status = status.Damaged offset (Some (record { place = x.0; number = number })) }
+refused_entry offset number (Some x) =
+    record {
+      out = call_line x.1;
+      status =
+          status.Damaged offset (Some (record { place = x.0; number = number }));
+    }
 
 abbrev pub refused_in : ℕ → ℕ → Result (List ℕ × List Entry) OpenRefused → Said
 refused_in offset number (Ok x) = refused_entry offset number (entry_at offset (length x.0) x.1)
 refused_in offset number (Err e) = nothing (refusal_of e)
 
--- why these bytes aren't those of an office: an entry that it refuses is named by its place, and its call is printed
+-- why these bytes aren't those of an office: an entry that it refuses is named by its place, and
+-- its call is printed
 abbrev pub refused_said : List ℕ → BookRefused → Said
 refused_said bytes (Damaged at (Some number)) = refused_in at number (frames bytes)
 refused_said bytes (Damaged at None) = nothing (status.Damaged at None)
@@ -152,16 +161,20 @@ refused_said bytes (NotFounded len byte) = nothing (status.NotFounded len)
 refused_said bytes Disk = nothing status.NoMemory
 refused_said bytes NoMemory = nothing status.NoMemory
 
--- the posts, the balances, what is open and the statements are those of the history that the bytes recover to
+-- the posts, the balances, what is open and the statements are those of the history that the bytes
+-- recover to
 abbrev pub office_text : Command → List ℕ → OfficeState → List ℕ
 office_text (Posts filter None csv) bytes s = posts_of csv filter s.plan s.entries
-office_text (Posts filter (Some day) csv) bytes s = posts_text_through csv filter day s.plan s.entries
+office_text (Posts filter (Some day) csv) bytes s =
+    posts_text_through csv filter day s.plan s.entries
 office_text (Balances year None false csv) bytes s = balances_of csv year s.plan s.entries
-office_text (Balances year (Some day) false csv) bytes s = balances_through csv day year s.plan s.entries
+office_text (Balances year (Some day) false csv) bytes s =
+    balances_through csv day year s.plan s.entries
 office_text (Balances year None true csv) bytes s = year_text csv year s.plan s.entries
 office_text (Paid year csv) bytes s = paid_text csv year s.entries
 office_text (Open csv) bytes s = open_text csv s.plan s.entries
-office_text (Ledger filter csv) bytes s = ledger_of csv filter s.entries (history_rows s.plan s.entries)
+office_text (Ledger filter csv) bytes s =
+    ledger_of csv filter s.entries (history_rows s.plan s.entries)
 office_text (Statement year kind None csv) bytes s = statement_text csv year kind s.plan s.entries
 office_text _ bytes s = journal_text s.entries ++ room_text bytes s.entries
 
@@ -183,15 +196,18 @@ office_said command bytes x = over_office (office_told command bytes) bytes x
 
 -- the documents that are wanted
 abbrev pub documents_told : DocumentFilter → Option (List ℕ) → Bool → OfficeState → Said
-documents_told filter key csv s = record { out = documents_of csv filter key s.plan s.entries; status = status.Done }
+documents_told filter key csv s =
+    record { out = documents_of csv filter key s.plan s.entries; status = status.Done }
 
-abbrev pub documents_said : DocumentFilter → Option (List ℕ) → Bool → List ℕ → Result OfficeState BookRefused → Said
+abbrev pub documents_said : DocumentFilter → Option (List ℕ) → Bool → List ℕ
+    → Result OfficeState BookRefused → Said
 documents_said filter key csv bytes x = over_office (documents_told filter key csv) bytes x
 
 -- a statement is of a fiscal year from 1971 to 2199: words with another are refused
 abbrev pub statement_said : ℕ → ReportKind → Bool → List ℕ → Said
 statement_said year kind csv bytes =
-    if nat_le 1971 year && nat_le year last_year then office_said (Statement year kind None csv) bytes (recovered bytes)
+    if nat_le 1971 year && nat_le year last_year
+    then office_said (Statement year kind None csv) bytes (recovered bytes)
     else nothing status.BadWords
 
 -- the statements that are made of sums alone can be made of the entries through a day
@@ -208,27 +224,32 @@ unfoldable pub dated_text : Bool → Day → ℕ → DatedKind → Plan → List
 dated_text csv day year k plan entries = through_text csv day year k plan entries
 
 abbrev pub dated_told : Bool → Day → ℕ → DatedKind → OfficeState → Said
-dated_told csv day year k s = told_of (early s.plan (Some day)) (dated_text csv day year k s.plan s.entries)
+dated_told csv day year k s =
+    told_of (early s.plan (Some day)) (dated_text csv day year k s.plan s.entries)
 
 abbrev pub dated_said : ℕ → Option DatedKind → Day → Bool → List ℕ → Said
 dated_said year None day csv bytes = nothing status.BadWords
 dated_said year (Some k) day csv bytes =
-    if nat_le 1971 year && nat_le year last_year then over_office (dated_told csv day year k) bytes (recovered bytes)
+    if nat_le 1971 year && nat_le year last_year
+    then over_office (dated_told csv day year k) bytes (recovered bytes)
     else nothing status.BadWords
 
 -- a month is one from 1971-01 to 2199-12: words with another are refused
 abbrev pub is_asked_month : MonthOfYear → Bool
-is_asked_month m = nat_le 1971 m.year && (nat_le m.year last_year && (nat_le 1 m.month && nat_le m.month 12))
+is_asked_month m = nat_le 1971 m.year
+    && (nat_le m.year last_year && (nat_le 1 m.month && nat_le m.month 12))
 
 unfoldable pub month_list : Bool → MonthOfYear → Plan → List Entry → List ℕ
 month_list csv month plan entries = month_text csv month plan entries
 
 abbrev pub month_told : Bool → MonthOfYear → OfficeState → Said
-month_told csv month s = record { out = month_list csv month s.plan s.entries; status = status.Done }
+month_told csv month s =
+    record { out = month_list csv month s.plan s.entries; status = status.Done }
 
 abbrev pub month_said : MonthOfYear → Bool → List ℕ → Said
 month_said month csv bytes =
-    if is_asked_month month then over_office (month_told csv month) bytes (recovered bytes) else nothing status.BadWords
+    if is_asked_month month then over_office (month_told csv month) bytes (recovered bytes)
+    else nothing status.BadWords
 
 -- ---- a document of grants, under the chart or over the history of a journal
 
@@ -261,17 +282,22 @@ vouchers_said id csv bytes s = rows_said csv bytes (vouchers_of_grant s.plan s.e
 
 abbrev pub posts_said : PostFilter → Option Day → Bool → List ℕ → Said
 posts_said filter None csv bytes = office_said (Posts filter None csv) bytes (recovered bytes)
-posts_said filter (Some day) csv bytes = office_said (Posts filter (Some day) csv) bytes (recovered bytes)
+posts_said filter (Some day) csv bytes =
+    office_said (Posts filter (Some day) csv) bytes (recovered bytes)
 
 abbrev pub balances_said : ℕ → Option Day → Bool → Bool → List ℕ → Said
-balances_said year None false csv bytes = office_said (Balances year None false csv) bytes (recovered bytes)
-balances_said year None true csv bytes = office_said (Balances year None true csv) bytes (recovered bytes)
-balances_said year (Some day) false csv bytes = office_said (Balances year (Some day) false csv) bytes (recovered bytes)
+balances_said year None false csv bytes =
+    office_said (Balances year None false csv) bytes (recovered bytes)
+balances_said year None true csv bytes =
+    office_said (Balances year None true csv) bytes (recovered bytes)
+balances_said year (Some day) false csv bytes =
+    office_said (Balances year (Some day) false csv) bytes (recovered bytes)
 balances_said year (Some day) true csv bytes = nothing status.BadWords
 
 abbrev pub statement_through_said : ℕ → ReportKind → Option Day → Bool → List ℕ → Said
 statement_through_said year kind None csv bytes = statement_said year kind csv bytes
-statement_through_said year kind (Some day) csv bytes = dated_said year (dated_kind kind) day csv bytes
+statement_through_said year kind (Some day) csv bytes =
+    dated_said year (dated_kind kind) day csv bytes
 
 abbrev pub said : Option (List ℕ) → Command → List ℕ → Said
 said key CheckChart bytes = chart_said bytes (chart_of bytes)
@@ -280,7 +306,8 @@ said key Check bytes = office_said Check bytes (recovered bytes)
 said key (Posts filter through csv) bytes = posts_said filter through csv bytes
 said key (Balances year through alone csv) bytes = balances_said year through alone csv bytes
 said key (Open csv) bytes = office_said (Open csv) bytes (recovered bytes)
-said key (Statement year kind through csv) bytes = statement_through_said year kind through csv bytes
+said key (Statement year kind through csv) bytes =
+    statement_through_said year kind through csv bytes
 said key (Ledger filter csv) bytes = office_said (Ledger filter csv) bytes (recovered bytes)
 said key (Documents filter csv) bytes = documents_said filter key csv bytes (recovered bytes)
 said key (Month month csv) bytes = month_said month csv bytes
@@ -300,7 +327,8 @@ abbrev pub said_at : Option ℕ → Option (List ℕ) → Command → List ℕ �
 said_at None key command bytes = said key command bytes
 said_at (Some n) key command bytes = said_first n key command (front_in n bytes)
 
--- the commands that say of a journal with n entries the same as of its first n; `check` has counts of the file's bytes too
+-- the commands that say of a journal with n entries the same as of its first n; `check` has counts
+-- of the file's bytes too
 abbrev pub is_of_entries : Command → Bool
 is_of_entries CheckChart = false
 is_of_entries CheckGrants = false
@@ -310,7 +338,8 @@ is_of_entries command = true
 
 -- where the journal is whole and has n entries, this is what is said of it without their number
 abbrev pub IsToday : ℕ → Option (List ℕ) → Command → List ℕ → Said → Type 0
-IsToday n key command bytes x = (p : Parts) → whole_of bytes ≡ Ok p → p.damage ≡ None → length p.entries ≡ n → is_of_entries command ≡ true → x ≡ said key command bytes
+IsToday n key command bytes x = (p : Parts) → whole_of bytes ≡ Ok p → p.damage ≡ None
+    → length p.entries ≡ n → is_of_entries command ≡ true → x ≡ said key command bytes
 
 -- ---- any request
 
@@ -323,7 +352,8 @@ reads_journal _ = false
 abbrev pub said_by : Command → Option ℕ → Option (List ℕ) → List ℕ → List ℕ → Said
 said_by CheckChart entries key bytes journal = said key CheckChart bytes
 said_by CheckGrants entries key bytes journal = grants_said bytes (whole_of journal)
-said_by (Claims id csv) entries key bytes journal = over_office (vouchers_said id csv bytes) journal (recovered journal)
+said_by (Claims id csv) entries key bytes journal =
+    over_office (vouchers_said id csv bytes) journal (recovered journal)
 said_by command entries key bytes journal = said_at entries key command bytes
 
 -- what is said of the bytes of a request's file, and of those of the journal beside it
@@ -348,12 +378,14 @@ Refuses Disk x = ⊤
 Refuses NoMemory x = ⊤
 Refuses e x = x ≡ Err e
 
-abbrev pub Opens : {D : Type 0} → Result (DurableBook D) BookRefused → Result OfficeState BookRefused → Type 0
+abbrev pub Opens : {D : Type 0} → Result (DurableBook D) BookRefused
+    → Result OfficeState BookRefused → Type 0
 Opens (Ok b) x = x ≡ Ok (opened b)
 Opens (Err e) x = Refuses e x
 
 -- the same of a book with what was gathered of its entries
-abbrev pub OpensWith : {D T : Type 0} → Result (DurableBook D × T) BookRefused → Result OfficeState BookRefused → Type 0
+abbrev pub OpensWith : {D T : Type 0} → Result (DurableBook D × T) BookRefused
+    → Result OfficeState BookRefused → Type 0
 OpensWith (Ok b) x = x ≡ Ok (opened b.0)
 OpensWith (Err e) x = Refuses e x
 
@@ -376,11 +408,13 @@ pub record Inputs (asked : Asked) (left beside : Option (List ℕ)) : Type 0 whe
   pub all : AreLeft left bytes
   pub whole : IsBeside (reads_journal asked.command) beside journal
 
-abbrev pub answered : {asked : Asked} {left beside : Option (List ℕ)} → Inputs asked left beside → Said
+abbrev pub answered : {asked : Asked} {left beside : Option (List ℕ)} → Inputs asked left beside
+    → Said
 answered {asked = asked} i = said_with asked i.bytes i.journal
 
 -- the output got the whole answer
-pub record Gave (asked : Asked) (left beside held held' : Option (List ℕ)) (s : Status) : Type 0 where
+pub record Gave (asked : Asked) (left beside held held' : Option (List ℕ))
+    (s : Status) : Type 0 where
   pub inputs : Inputs asked left beside
   pub is : (answered inputs).status ≡ s
   pub put : Appends held held' (answered inputs).out
@@ -392,7 +426,8 @@ pub record GaveFront (asked : Asked) (left beside held held' : Option (List ℕ)
   pub put : Wrote held held' (answered inputs).out rest
 
 -- the output got nothing where a file can't be read or there is no memory
-abbrev pub Ends : Asked → Option (List ℕ) → Option (List ℕ) → Option (List ℕ) → Option (List ℕ) → Status → Type 0
+abbrev pub Ends : Asked → Option (List ℕ) → Option (List ℕ) → Option (List ℕ) → Option (List ℕ)
+    → Status → Type 0
 Ends asked left beside held held' status.ReadFault = Appends held held' []
 Ends asked left beside held held' status.NoMemory = Appends held held' []
 Ends asked left beside held held' status.WriteFault = GaveFront asked left beside held held'

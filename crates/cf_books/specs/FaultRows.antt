@@ -20,9 +20,11 @@ has_ids table.Top = false
 has_ids table.Line = false
 has_ids _ = true
 
--- the key isn't the id itself, and not the table's own name, whose fault is that the table is no list of rows
+-- the key isn't the id itself, and not the table's own name, whose fault is that the table is no
+-- list of rows
 abbrev pub is_beside_id : TableName → KeyName → Bool
-is_beside_id t k = not (bytes_eq (word_of k) (codes "id")) && not (bytes_eq (word_of k) (table_word t))
+is_beside_id t k = not (bytes_eq (word_of k) (codes "id"))
+    && not (bytes_eq (word_of k) (table_word t))
 
 -- this row, where it is wanted and has an id
 abbrev pub row_if : Bool → TableName → ℕ → Option FaultRow
@@ -38,7 +40,8 @@ row_of _ = None
 -- ---- its id
 
 abbrev pub id_at : FaultRow → Data → Option ℕ
-id_at row d = option_and_then id_in (option_and_then (item_at row.at) (get (table_word row.table) d))
+id_at row d = option_and_then id_in
+    (option_and_then (item_at row.at) (get (table_word row.table) d))
 
 -- the same of a document's bytes
 abbrev pub id_under : FaultRow → Checked Data → Option ℕ

@@ -1,5 +1,5 @@
--- A row a control line: its number, its fund and department with their names, and what part of the objects it has, with the
--- fiscal years that it is of where its fund has a later level of control.
+-- A row a control line: its number, its fund and department with their names, and what part of the
+-- objects it has, with the fiscal years that it is of where its fund has a later level of control.
 use Rattle.std.specs.Prelude.{ℕ, ◌+◌, false, List, [], ◌∷◌, decimal}
 use Rattle.cf_chart.specs.Plan.{Plan, fund_at, department_at}
 use Rattle.cf_chart.specs.declared.rows.Line.{Line}
@@ -9,7 +9,8 @@ use Rattle.cf_books_lists.specs.Records.{rows_text}
 
 abbrev pub line_row : Plan → ℕ → Line → List (List ℕ)
 line_row plan number l =
-    decimal number ∷ decimal l.fund ∷ fund_name (fund_at plan l.fund) ∷ decimal l.dept ∷ department_name (department_at plan l.dept)
+    decimal number ∷ decimal l.fund ∷ fund_name (fund_at plan l.fund) ∷ decimal l.dept
+    ∷ department_name (department_at plan l.dept)
     ∷ part_and_years l (later_of (fund_at plan l.fund)) ∷ part_name plan l.part ∷ []
 
 -- lines are counted from 0

@@ -30,15 +30,19 @@ fault_text (fault.TooMany t) id = codes "too many rows in " ++ table_word t
 fault_text (fault.Missing t at k) id = row_text t at id ++ (codes " has no " ++ word_of k)
 fault_text (fault.Bad t at k) id = row_text t at id ++ (codes " has a bad " ++ word_of k)
 fault_text (fault.Twice t at) id = row_text t at id ++ codes " stands twice"
-fault_text (fault.Window source days) id = codes "source " ++ (decimal source ++ (codes " has a window of " ++ (decimal days ++ codes " days")))
+fault_text (fault.Window source days) id =
+    codes "source " ++ (decimal source
+    ++ (codes " has a window of " ++ (decimal days ++ codes " days")))
 fault_text (fault.General n) id = decimal n ++ codes " general funds"
 
 -- ---- a journal's damage
 
--- why the office doesn't take an entry: the number and name of the refusal, or 0 for a repeat and for other numbers
+-- why the office doesn't take an entry: the number and name of the refusal, or 0 for a repeat and
+-- for other numbers
 abbrev pub refusal_text : ℕ → List ℕ
 refusal_text zero = codes " is a repeat, or draws other numbers"
-refusal_text (suc n) = codes " is refused: " ++ (decimal (n + 1) ++ 32 ∷ slice_index_or refusal_names n [])
+refusal_text (suc n) =
+    codes " is refused: " ++ (decimal (n + 1) ++ 32 ∷ slice_index_or refusal_names n [])
 
 -- which entry it is, by its place, and why it isn't taken
 abbrev pub damage_text : Option RefusedEntry → List ℕ
@@ -92,7 +96,9 @@ status_text WriteFault = codes "write fault"
 status_text (NotFounded len) = codes "not founded: the file has " ++ (decimal len ++ codes " bytes")
 status_text (Damaged offset entry) = at_text offset ++ damage_text entry
 status_text NoMemory = codes "no memory"
-status_text (Cut offset lost) = at_text offset ++ (codes "what stands before is given, and " ++ (decimal lost ++ codes " bytes are lost"))
+status_text (Cut offset lost) =
+    at_text offset ++ (codes "what stands before is given, and "
+    ++ (decimal lost ++ codes " bytes are lost"))
 status_text NoSuchDay = codes "no such day"
 status_text (NotInChart what) = unknown_text what
 status_text (EntriesRefused asked entries) = asked_text asked ++ decimal entries

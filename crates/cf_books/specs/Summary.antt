@@ -28,9 +28,12 @@ named f = ((f.0).now, f.1)
 
 abbrev pub chart_counts : Plan → List (List ℕ × ℕ)
 chart_counts plan =
-    (codes "first fiscal year", plan.first_year) ∷ (codes "first month", plan.first_month) ∷ (codes "functions", length plan.functions)
-    ∷ (codes "funds", length plan.funds) ∷ (codes "departments", length plan.departments) ∷ (codes "objects", length plan.objects)
-    ∷ (codes "sources", length plan.sources) ∷ (codes "lines", length plan.lines) ∷ (codes "desks", length plan.desks) ∷ []
+    (codes "first fiscal year", plan.first_year) ∷ (codes "first month", plan.first_month)
+    ∷ (codes "functions", length plan.functions)
+    ∷ (codes "funds", length plan.funds) ∷ (codes "departments", length plan.departments)
+    ∷ (codes "objects", length plan.objects)
+    ∷ (codes "sources", length plan.sources) ∷ (codes "lines", length plan.lines)
+    ∷ (codes "desks", length plan.desks) ∷ []
 
 -- a level in the words of a chart
 abbrev pub level_word : Level → List ℕ
@@ -50,7 +53,8 @@ abbrev pub laters_text : List Fund → List ℕ
 laters_text funds = flat_map (λ f. later_text f.id f.later) funds
 
 abbrev pub chart_text : Plan → List ℕ
-chart_text plan = fact (codes "city") plan.city ++ (counts_text (chart_counts plan) ++ laters_text plan.funds)
+chart_text plan = fact (codes "city") plan.city
+    ++ (counts_text (chart_counts plan) ++ laters_text plan.funds)
 
 -- ---- a journal
 
@@ -72,7 +76,10 @@ abbrev pub last_day : List Entry → List ℕ
 last_day entries = day_or_none (slice_get entries (length entries - 1))
 
 abbrev pub journal_counts : List Entry → List (List ℕ × ℕ)
-journal_counts entries = (codes "entries", length entries) ∷ (codes "closed months", closed false entries) ∷ (codes "closed years", closed true entries) ∷ []
+journal_counts entries =
+    (codes "entries", length entries) ∷ (codes "closed months", closed false entries)
+    ∷ (codes "closed years", closed true entries) ∷ []
 
 abbrev pub journal_text : List Entry → List ℕ
-journal_text entries = fact (codes "last day") (last_day entries) ++ counts_text (journal_counts entries)
+journal_text entries =
+    fact (codes "last day") (last_day entries) ++ counts_text (journal_counts entries)

@@ -1,4 +1,5 @@
--- What the words name that a chart doesn't have: an ending of its own, in place of a list without rows.
+-- What the words name that a chart doesn't have: an ending of its own, in place of a list without
+-- rows.
 use Rattle.std.specs.Prelude.{ℕ, Bool, ◌==◌, nat_lt, if◌then◌else◌, Option, Some, None, is_some}
 use Rattle.std.specs.Option.{option_or}
 use Rattle.cf_base.specs.declared.calendar.Day.{Day}
@@ -45,7 +46,8 @@ row_fund None = None
 row_fund (Some n) = if n == 0 then None else Some n
 
 abbrev pub unknown_in_posts : Plan → PostFilter → Option Day → Option Unknown
-unknown_in_posts plan filter through = option_or (missing plan kind.Fund (row_fund filter.fund)) (early plan through)
+unknown_in_posts plan filter through =
+    option_or (missing plan kind.Fund (row_fund filter.fund)) (early plan through)
 
 abbrev pub unknown_account : Plan → LedgerFilter → Option Unknown
 unknown_account plan filter =

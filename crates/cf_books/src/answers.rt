@@ -48,7 +48,8 @@ pub fn nothing(alloc: Global, status: Status) -> Answer
     }
 }
 
-/// What a chart has, or its first fault, which is the one that `found` refuses it for, with the id of the row that it is in.
+/// What a chart has, or its first fault, which is the one that `found` refuses it for, with the id
+/// of the row that it is in.
 fn chart_answer(alloc: Global, bytes: &[u8]) -> Result<Answer, AllocError>
     ensures { Answers result (spec.chart_said bytes.now (chart_of bytes.now)) }
 {
@@ -241,8 +242,11 @@ fn command_answer(
 
 /// What is said where a journal has no front with so many entries.
 fn no_front(alloc: Global, asked: u64, why: FrontRefused) -> Result<Answer, AllocError>
-    ensures answer { (command : Asking) → (key : Option (List ℕ)) → (x : Result (List ℕ) FrontRefusal) → GivesFront (Err why) x → Answers result (spec.said_first asked key command x) }
-    ensures known { IfOk result (λ a. (x : Result (List ℕ) FrontRefusal) → GivesFront (Err why) x → x ≡ Err why) }
+    ensures answer { (command : Asking) → (key : Option (List ℕ))
+        → (x : Result (List ℕ) FrontRefusal) → GivesFront (Err why) x
+        → Answers result (spec.said_first asked key command x) }
+    ensures known { IfOk result
+        (λ a. (x : Result (List ℕ) FrontRefusal) → GivesFront (Err why) x → x ≡ Err why) }
 {
     match why {
         FrontRefused::Fewer { entries } => {
@@ -256,8 +260,8 @@ fn no_front(alloc: Global, asked: u64, why: FrontRefused) -> Result<Answer, Allo
     }
 }
 
-/// What a command answers of a journal's first `n` entries. Where the journal is whole and has no more, it is what the
-/// command answers of the journal.
+/// What a command answers of a journal's first `n` entries. Where the journal is whole and has no
+/// more, it is what the command answers of the journal.
 fn first_answer(
     alloc: Global,
     n: u64,
@@ -265,8 +269,10 @@ fn first_answer(
     key: Option<&str>,
     bytes: &[u8],
 ) -> Result<Answer, AllocError>
-    ensures answer { Answers result (spec.said_at (Some n) (option_map (λ k. k.now) key.entry) command bytes.now) }
-    ensures all { IfOk result (λ a. IsToday n (option_map (λ k. k.now) key.entry) command bytes.now (spec.view a)) }
+    ensures answer { Answers result
+        (spec.said_at (Some n) (option_map (λ k. k.now) key.entry) command bytes.now) }
+    ensures all { IfOk result
+        (λ a. IsToday n (option_map (λ k. k.now) key.entry) command bytes.now (spec.view a)) }
 {
     match front_with(alloc, n, bytes) {
         Ok(front) => command_answer(alloc, command, key, front.as_slice()),
@@ -274,11 +280,17 @@ fn first_answer(
     }
 }
 
-/// What a command answers of a journal's first entries, where a number of them is asked for, or of all. Where the
-/// journal is whole and has that number of entries, it is what the command answers of all.
+/// What a command answers of a journal's first entries, where a number of them is asked for, or of
+/// all. Where the journal is whole and has that number of entries, it is what the command answers
+/// of all.
 fn answer_at(alloc: Global, request: &Request, bytes: &[u8]) -> Result<Answer, AllocError>
-    ensures answer { Answers result (spec.said_at request.now.entries (option_map (λ k. k.now) request.now.key) request.now.command bytes.now) }
-    ensures all { IfOk result (λ a. (n : ℕ) → request.now.entries ≡ Some n → IsToday n (option_map (λ k. k.now) request.now.key) request.now.command bytes.now (spec.view a)) }
+    ensures answer { Answers result
+        (spec.said_at request.now.entries
+        (option_map (λ k. k.now) request.now.key) request.now.command bytes.now) }
+    ensures all { IfOk result
+        (λ a. (n : ℕ) → request.now.entries ≡ Some n
+        → IsToday n (option_map (λ k. k.now) request.now.key) request.now.command bytes.now
+        (spec.view a)) }
 {
     match request.entries {
         None => command_answer(alloc, request.command, request.key, bytes),
@@ -286,7 +298,8 @@ fn answer_at(alloc: Global, request: &Request, bytes: &[u8]) -> Result<Answer, A
     }
 }
 
-/// What is answered to a request of its file's bytes, and of those of the journal beside it where it reads one.
+/// What is answered to a request of its file's bytes, and of those of the journal beside it where
+/// it reads one.
 pub fn answer_of(
     alloc: Global,
     request: Request,
@@ -294,7 +307,10 @@ pub fn answer_of(
     journal: &[u8],
 ) -> Result<Answer, AllocError>
     ensures answer { Answers result (spec.said_with (asks request.entry) bytes.now journal.now) }
-    ensures all { IfOk result (λ a. (n : ℕ) → request.entry.entries ≡ Some n → IsToday n (option_map (λ k. k.now) request.entry.key) request.entry.command bytes.now (spec.view a)) }
+    ensures all { IfOk result
+        (λ a. (n : ℕ) → request.entry.entries ≡ Some n
+        → IsToday n (option_map (λ k. k.now) request.entry.key) request.entry.command bytes.now
+        (spec.view a)) }
 {
     match request.command {
         Command::CheckGrants => grants_answer(alloc, bytes, journal),

@@ -47,7 +47,8 @@ fn ledger_told(
     rows: &[LedgerRow],
 ) -> Result<Answer, AllocError>
     ensures { Answers result
-        (spec.told_of (named.unknown_in_ledger book.now.plan filter) (text_of layout.csv filter book.now.entries rows.now)) }
+        (spec.told_of (named.unknown_in_ledger book.now.plan filter)
+        (text_of layout.csv filter book.now.entries rows.now)) }
 {
     match unknown_in_ledger(book.chart(), filter) {
         None => Ok(done(ledger_text(layout, &filter, book.entries(), rows)?)),

@@ -1,4 +1,5 @@
-//! The lists of a journal whose entries the office takes again: posts, balances, what is open, and statements.
+//! The lists of a journal whose entries the office takes again: posts, balances, what is open, and
+//! statements.
 
 ghost use Rattle.std.specs.Prelude.{◌≡◌, false, true, IfOk, None};
 ghost use Rattle.cf_journal_book.specs.Recovery.{recovered};
@@ -36,7 +37,8 @@ pub(crate) fn done(out: Vec<u8>) -> Answer
     }
 }
 
-/// The book of a journal's bytes with the posts of its entries, or why they aren't those of an office.
+/// The book of a journal's bytes with the posts of its entries, or why they aren't those of an
+/// office.
 pub(crate) fn open_posts(
     alloc: Global,
     bytes: Vec<u8>,
@@ -62,7 +64,8 @@ fn posts_told(
 ) -> Result<Answer, AllocError>
     requires { posts.now ≡ placed_in (all_posted book.now.plan book.now.entries) }
     ensures { Answers result
-        (spec.told_of (named.unknown_in_posts book.now.plan filter None) (posts_of layout.csv filter book.now.plan book.now.entries)) }
+        (spec.told_of (named.unknown_in_posts book.now.plan filter None)
+        (posts_of layout.csv filter book.now.plan book.now.entries)) }
 {
     match unknown_in_posts(book.chart(), filter, None) {
         None => Ok(done(posts_text(layout, filter, book, posts)?)),
@@ -72,7 +75,8 @@ fn posts_told(
 
 /// The posts of all entries that are wanted, or why the journal has none.
 fn all_posts(layout: Layout, filter: PostFilter, bytes: &[u8]) -> Result<Answer, AllocError>
-    ensures { Answers result (spec.office_said (Posts filter None layout.csv) bytes.now (recovered bytes.now)) }
+    ensures { Answers result
+        (spec.office_said (Posts filter None layout.csv) bytes.now (recovered bytes.now)) }
 {
     let copy = Vec::from_slice(layout.alloc, bytes)?;
     match open_posts(layout.alloc, copy) {
@@ -98,7 +102,8 @@ pub fn posts_answer(
 
 /// The balances through a fiscal year, or why the journal has none.
 fn all_balances(layout: Layout, year: u16, bytes: &[u8]) -> Result<Answer, AllocError>
-    ensures { Answers result (spec.office_said (Balances year None false layout.csv) bytes.now (recovered bytes.now)) }
+    ensures { Answers result
+        (spec.office_said (Balances year None false layout.csv) bytes.now (recovered bytes.now)) }
 {
     let copy = Vec::from_slice(layout.alloc, bytes)?;
     match open_book(layout.alloc, copy) {
@@ -112,7 +117,8 @@ fn all_balances(layout: Layout, year: u16, bytes: &[u8]) -> Result<Answer, Alloc
 
 /// The trial balance of a fiscal year alone, or why the journal has none.
 fn year_balances(layout: Layout, year: u16, bytes: &[u8]) -> Result<Answer, AllocError>
-    ensures { Answers result (spec.office_said (Balances year None true layout.csv) bytes.now (recovered bytes.now)) }
+    ensures { Answers result
+        (spec.office_said (Balances year None true layout.csv) bytes.now (recovered bytes.now)) }
 {
     let copy = Vec::from_slice(layout.alloc, bytes)?;
     match open_book(layout.alloc, copy) {
@@ -144,7 +150,8 @@ pub fn balances_answer(
 
 /// What each vendor was paid in a calendar year, or why the journal has none.
 pub fn paid_answer(layout: Layout, year: u16, bytes: &[u8]) -> Result<Answer, AllocError>
-    ensures { Answers result (spec.office_said (Paid year layout.csv) bytes.now (recovered bytes.now)) }
+    ensures { Answers result
+        (spec.office_said (Paid year layout.csv) bytes.now (recovered bytes.now)) }
 {
     let copy = Vec::from_slice(layout.alloc, bytes)?;
     match open_book(layout.alloc, copy) {
@@ -178,7 +185,8 @@ fn statement_of(
     bytes: &[u8],
 ) -> Result<Answer, AllocError>
     requires { IsYear year }
-    ensures { Answers result (spec.office_said (Statement year kind None layout.csv) bytes.now (recovered bytes.now)) }
+    ensures { Answers result
+        (spec.office_said (Statement year kind None layout.csv) bytes.now (recovered bytes.now)) }
 {
     let copy = Vec::from_slice(layout.alloc, bytes)?;
     match open_book(layout.alloc, copy) {
@@ -187,7 +195,8 @@ fn statement_of(
     }
 }
 
-/// A statement of a fiscal year, or why the journal has none. Words with a year that isn't from 1971 to 2199 are refused.
+/// A statement of a fiscal year, or why the journal has none. Words with a year that isn't from
+/// 1971 to 2199 are refused.
 fn whole_statement(
     layout: Layout,
     year: u16,

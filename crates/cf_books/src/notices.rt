@@ -120,7 +120,8 @@ fn kind_word(kind: NameKind) -> &'static str
 
 /// Appends that a chart has no row of this kind with this number.
 fn put_name(out: &mut Vec<u8>, kind: NameKind, number: u16) -> Result<(), AllocError>
-    ensures { OnOk result (out.new.items ≡ out.old.items ++ spec.unknown_text (Unknown.Name kind number)) }
+    ensures { OnOk result
+        (out.new.items ≡ out.old.items ++ spec.unknown_text (Unknown.Name kind number)) }
 {
     out.extend_from_slice(b"no such ")?;
     out.extend_from_slice(kind_word(kind).as_bytes())?;

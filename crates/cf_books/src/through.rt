@@ -192,7 +192,8 @@ fn statement_of_days(
 ) -> Result<Answer, AllocError>
     requires { IsYear year }
     ensures { Answers result
-        (spec.over_office (spec.dated_told layout.csv day year kind) bytes.now (recovered bytes.now)) }
+        (spec.over_office (spec.dated_told layout.csv day year kind) bytes.now
+        (recovered bytes.now)) }
 {
     let copy = Vec::from_slice(layout.alloc, bytes)?;
     match open_days(layout.alloc, copy) {

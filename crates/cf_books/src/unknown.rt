@@ -23,8 +23,8 @@ pub enum NameKind {
 /// What the words name that a chart doesn't have.
 #[derive(Clone, Copy)]
 pub enum Unknown {
-    /// The chart has no row of this kind with this number: the id of a fund, department, object or source, or the
-    /// number of a control line.
+    /// The chart has no row of this kind with this number: the id of a fund, department, object or
+    /// source, or the number of a control line.
     Name { kind: NameKind, number: u16 },
     /// The day lies before the chart's first fiscal year.
     Early { day: Day },
@@ -110,8 +110,8 @@ fn unknown_account(chart: &Chart, filter: LedgerFilter) -> Option<Unknown>
     fund.or(dept.or(object))
 }
 
-/// What the words of `ledger` name that the chart doesn't have. Of several the first is told, in the order of fund,
-/// department, object, line, source, first day and last day.
+/// What the words of `ledger` name that the chart doesn't have. Of several the first is told, in
+/// the order of fund, department, object, line, source, first day and last day.
 pub fn unknown_in_ledger(chart: &Chart, filter: LedgerFilter) -> Option<Unknown>
     ensures { result ≡ spec.unknown_in_ledger chart.now filter }
 {

@@ -1,4 +1,5 @@
--- What is gathered of a journal that is opened: each post and each change of line numbers with the day of its entry.
+-- What is gathered of a journal that is opened: each post and each change of line numbers with the
+-- day of its entry.
 use Rattle.std.specs.Prelude.{◌≡◌, ℕ, if◌then◌else◌, List, [], ◌∷◌, flat_map, map}
 use Rattle.std.specs.List.{filter}
 use Rattle.cf_base.specs.declared.calendar.Day.{Day}
@@ -34,10 +35,13 @@ posts_through day dated = map (λ d. d.post) (filter (λ d. is_through day d.on)
 abbrev pub changed_through : Day → ℕ → ℕ → List DatedChange → Row
 changed_through day line year [] = zero_row
 changed_through day line year (d ∷ dated) =
-    row_plus (if is_through day d.on then change_at d.change line year else zero_row) (changed_through day line year dated)
+    row_plus (if is_through day d.on then change_at d.change line year else zero_row)
+    (changed_through day line year dated)
 
 -- all that entries post and change was gathered
 pub record IsOf (plan : Plan) (seen : List Posted) (d : Dated) : Type 0 where
   pub fund : d.fund.items ≡ fund_dated seen
   pub gov : d.gov.items ≡ gov_dated seen
-  pub changes : (day : Day) (line year : ℕ) → changed_through day line year d.changes.items ≡ moved_in plan line year (dated_through day seen)
+  pub changes : (day : Day) (line year : ℕ)
+      → changed_through day line year d.changes.items
+      ≡ moved_in plan line year (dated_through day seen)

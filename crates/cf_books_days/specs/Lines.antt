@@ -17,10 +17,13 @@ row_in lines line year = unwrap_or (value_of lines.rows.entries line year) zero_
 -- a change of one line and year is added, and the others stay
 abbrev pub Adds : DayLines → DayLines → LineChange → Type 0
 Adds old new c = (line year : ℕ) →
-    row_in new line year ≡ (if (c.line.number == line) && (c.year == year) then held_row (row_plus (row_in old line year) c.by) else row_in old line year)
+    row_in new line year
+    ≡ (if (c.line.number == line) && (c.year == year)
+    then held_row (row_plus (row_in old line year) c.by) else row_in old line year)
 
 -- a change is added where it is dated through a day, whatever is still to be added
 abbrev pub AddsThrough : Day → DayLines → DayLines → DatedChange → Type 0
 AddsThrough day old new d = (line year : ℕ) (later : Row) →
     held_row (row_plus (row_in new line year) later)
-    ≡ held_row (row_plus (row_in old line year) (row_plus (if is_through day d.on then change_at d.change line year else zero_row) later))
+    ≡ held_row (row_plus (row_in old line year)
+    (row_plus (if is_through day d.on then change_at d.change line year else zero_row) later))

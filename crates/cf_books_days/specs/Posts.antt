@@ -23,4 +23,5 @@ abbrev pub kept : Day → List Entry → List PlacedPost → List PlacedPost
 kept day history posts = filter (is_kept day history) posts
 
 abbrev pub posts_text_through : Bool → PostFilter → Day → Plan → List Entry → List ℕ
-posts_text_through csv filter day plan history = text_of csv filter plan history (placed_in (seen_through plan day history))
+posts_text_through csv filter day plan history =
+    text_of csv filter plan history (placed_in (seen_through plan day history))

@@ -35,4 +35,6 @@ rows_by plan sums year dated.Position = position_rows sums year
 rows_by plan sums year dated.Activities = activities_rows plan sums year
 
 abbrev pub through_text : Bool → Day → ℕ → DatedKind → Plan → List Entry → List ℕ
-through_text csv day year kind plan history = text_of csv year (report_kind kind) plan (rows_by plan (sums_through plan day history) year kind)
+through_text csv day year kind plan history =
+    text_of csv year (report_kind kind) plan
+    (rows_by plan (sums_through plan day history) year kind)

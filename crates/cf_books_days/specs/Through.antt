@@ -1,4 +1,5 @@
--- What a history comes to through a day: sums over the entries that are dated through it, as they were entered.
+-- What a history comes to through a day: sums over the entries that are dated through it, as they
+-- were entered.
 use Rattle.std.specs.Prelude.{ℕ, ℤ, ◌&&◌, ◌==◌, nat_le, Bool, not, List, [], ◌∷◌, flat_map, sum_by}
 use Rattle.std.specs.Int.{int_wrap, w128}
 use Rattle.std.specs.List.{filter}
@@ -41,7 +42,8 @@ posts_by GovBasis posted = gov_posts posted
 abbrev pub moved_in : Plan → ℕ → ℕ → List Posted → Row
 moved_in plan line year [] = zero_row
 moved_in plan line year (x ∷ posted) =
-    row_plus (moved_by plan x.before x.entry.change.on x.entry.change.act line year) (moved_in plan line year posted)
+    row_plus (moved_by plan x.before x.entry.change.on x.entry.change.act line year)
+    (moved_in plan line year posted)
 
 -- numbers as 128 bits hold them: each is itself wherever it fits
 abbrev pub held_row : Row → Row
@@ -68,7 +70,8 @@ estimate_in source year posted = sum_by (λ x. estimated_by source year x.entry.
 
 -- a fund's accounts below 300000, through a fiscal year
 abbrev pub fund_balance_in : ℕ → ℕ → List Post → ℤ
-fund_balance_in year fund posts = sum_where (λ p. ((p.fund == fund) && is_in_total p) && nat_le p.year year) posts
+fund_balance_in year fund posts =
+    sum_where (λ p. ((p.fund == fund) && is_in_total p) && nat_le p.year year) posts
 
 -- the sums that statements are made of; government-wide posts are of fund 0
 abbrev pub sums_in : Plan → List Posted → Sums

@@ -84,8 +84,8 @@ fn put_changes(
     Ok(())
 }
 
-/// Opens the book of the journal on a disk, as `cf_journal_book::open` does, with what its entries post and
-/// change.
+/// Opens the book of the journal on a disk, as `cf_journal_book::open` does, with what its entries
+/// post and change.
 pub fn open_dated<D: Disk + Drop>(alloc: Global, disk: D) -> Result<(Book<D>, Dated), NotOpened<D>>
     ensures ok { IfOk result (λ x. OpensBook D.tells D.content D.is_image D.moment D.was_image
         D.faults disk x.0) }

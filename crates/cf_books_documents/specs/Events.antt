@@ -1,4 +1,5 @@
--- What each entry of a history does to documents: one list of all that entries do, in the order of the entries.
+-- What each entry of a history does to documents: one list of all that entries do, in the order of
+-- the entries.
 use Rattle.std.specs.Prelude.{ℕ, ◌+◌, ◌==◌, ◌&&◌, Bool, true, false, if◌then◌else◌, List, [], ◌∷◌, ◌++◌, Option, Some, None, codes, flat_map, fold, map}
 use Rattle.cf_calls.specs.Acts.{voucher_items}
 use Rattle.cf_calls.specs.declared.acts.Act.{Act}
@@ -58,11 +59,13 @@ is_payment _ = false
 
 -- of a whole document
 abbrev pub whole : Subject → ℕ → Deed → ℕ → Event
-whole subject number deed place = record { subject = subject; number = number; item = 0; deed = deed; place = place }
+whole subject number deed place =
+    record { subject = subject; number = number; item = 0; deed = deed; place = place }
 
 -- of an item of an order
 abbrev pub of_item : ℕ → ℕ → Deed → ℕ → Event
-of_item order item deed place = record { subject = subject.Order; number = order; item = item; deed = deed; place = place }
+of_item order item deed place =
+    record { subject = subject.Order; number = order; item = item; deed = deed; place = place }
 
 -- the requisition that an order names
 abbrev pub ordered : ℕ → Option ℕ → List Event
@@ -91,7 +94,8 @@ is_voucher (act.Voucher v) = true
 is_voucher _ = false
 
 abbrev pub voucher_after : ℕ → Option Entry → Entry → Option Entry
-voucher_after number before e = if is_voucher e.change.act && (e.drawn.number == number) then Some e else before
+voucher_after number before e = if is_voucher e.change.act && (e.drawn.number == number) then Some e
+    else before
 
 abbrev pub voucher_in : List Entry → ℕ → Option Entry
 voucher_in history number = fold (voucher_after number) None history
@@ -99,7 +103,9 @@ voucher_in history number = fold (voucher_after number) None history
 -- what a void undoes: the charges of the voucher, and the assets that it bought
 abbrev pub undone : Plan → ℕ → Option Entry → List Event
 undone plan place None = []
-undone plan place (Some e) = charged deed.Reopened place (voucher_items e.change.act) ++ bought plan deed.Voided place e.drawn.second (voucher_items e.change.act)
+undone plan place (Some e) =
+    charged deed.Reopened place (voucher_items e.change.act)
+    ++ bought plan deed.Voided place e.drawn.second (voucher_items e.change.act)
 
 abbrev pub of_asset : ℕ → ℕ → AssetAct → List Event
 of_asset place number (Donate d) = whole subject.Asset number deed.Entered place ∷ []
@@ -110,7 +116,8 @@ abbrev pub none_lent : ℕ → ℕ → ℕ
 none_lent from to = 0
 
 abbrev pub lent_by : FundMoveKind → FundMove → ℕ → (ℕ → ℕ → ℕ) → ℕ → ℕ → ℕ
-lent_by move.Loan m place lent from to = if (m.from == from) && (m.to == to) then place else lent from to
+lent_by move.Loan m place lent from to = if (m.from == from) && (m.to == to) then place
+    else lent from to
 lent_by _ m place lent from to = lent from to
 
 abbrev pub lent_after : Act → ℕ → (ℕ → ℕ → ℕ) → ℕ → ℕ → ℕ
@@ -126,24 +133,40 @@ of_cash place lent m move.Loan = whole subject.Loan place deed.Entered place ∷
 of_cash place lent m move.Repay = repaid place (lent m.to m.from)
 of_cash place lent m move.Transfer = []
 
--- what an act does that stands at a place and drew these numbers, by the vouchers of the history and the loans before it
+-- what an act does that stands at a place and drew these numbers, by the vouchers of the history
+-- and the loans before it
 abbrev pub events_by : Plan → (ℕ → Option Entry) → (ℕ → ℕ → ℕ) → ℕ → Drawn → Act → List Event
-events_by plan vouchers lent place drawn (act.Requisition r) = whole subject.Requisition drawn.number deed.Entered place ∷ []
-events_by plan vouchers lent place drawn (act.Withdraw n) = whole subject.Requisition n deed.Withdrawn place ∷ []
-events_by plan vouchers lent place drawn (act.Order o) = whole subject.Order drawn.number deed.Entered place ∷ ordered place o.requisition
-events_by plan vouchers lent place drawn (act.ChangeOrder c) = of_item c.order c.item deed.Changed place ∷ []
-events_by plan vouchers lent place drawn (act.CancelOrder n) = whole subject.Order n deed.Cancelled place ∷ []
+events_by plan vouchers lent place drawn (act.Requisition r) =
+    whole subject.Requisition drawn.number deed.Entered place ∷ []
+events_by plan vouchers lent place drawn (act.Withdraw n) =
+    whole subject.Requisition n deed.Withdrawn place ∷ []
+events_by plan vouchers lent place drawn (act.Order o) =
+    whole subject.Order drawn.number deed.Entered place ∷ ordered place o.requisition
+events_by plan vouchers lent place drawn (act.ChangeOrder c) =
+    of_item c.order c.item deed.Changed place ∷ []
+events_by plan vouchers lent place drawn (act.CancelOrder n) =
+    whole subject.Order n deed.Cancelled place ∷ []
 events_by plan vouchers lent place drawn (act.Voucher v) =
-    whole subject.Voucher drawn.number deed.Entered place ∷ (charged deed.Charged place v.items ++ bought plan deed.Entered place drawn.second v.items)
-events_by plan vouchers lent place drawn (act.VoidVoucher n) = whole subject.Voucher n deed.Voided place ∷ undone plan place (vouchers n)
-events_by plan vouchers lent place drawn (act.Pay p) = map (λ n. whole subject.Voucher n deed.Paid place) p.vouchers
-events_by plan vouchers lent place drawn (act.Bill l) = whole subject.Bill drawn.number deed.Entered place ∷ []
-events_by plan vouchers lent place drawn (act.Collect c) = whole subject.Bill c.bill deed.Collected place ∷ []
-events_by plan vouchers lent place drawn (act.WriteOff w) = whole subject.Bill w.bill deed.WrittenOff place ∷ []
+    whole subject.Voucher drawn.number deed.Entered place
+    ∷ (charged deed.Charged place v.items ++ bought plan deed.Entered place drawn.second v.items)
+events_by plan vouchers lent place drawn (act.VoidVoucher n) =
+    whole subject.Voucher n deed.Voided place ∷ undone plan place (vouchers n)
+events_by plan vouchers lent place drawn (act.Pay p) =
+    map (λ n. whole subject.Voucher n deed.Paid place) p.vouchers
+events_by plan vouchers lent place drawn (act.Bill l) =
+    whole subject.Bill drawn.number deed.Entered place ∷ []
+events_by plan vouchers lent place drawn (act.Collect c) =
+    whole subject.Bill c.bill deed.Collected place ∷ []
+events_by plan vouchers lent place drawn (act.WriteOff w) =
+    whole subject.Bill w.bill deed.WrittenOff place ∷ []
 events_by plan vouchers lent place drawn (act.Asset a) = of_asset place drawn.number a
-events_by plan vouchers lent place drawn (act.Issue i) = whole subject.Debt drawn.number deed.Entered place ∷ []
-events_by plan vouchers lent place drawn (act.PayDue p) = whole subject.Debt p.bond deed.Paid place ∷ []
-events_by plan vouchers lent place drawn (act.Lease l) = whole subject.Asset drawn.number deed.Entered place ∷ whole subject.Debt drawn.second deed.Entered place ∷ []
+events_by plan vouchers lent place drawn (act.Issue i) =
+    whole subject.Debt drawn.number deed.Entered place ∷ []
+events_by plan vouchers lent place drawn (act.PayDue p) =
+    whole subject.Debt p.bond deed.Paid place ∷ []
+events_by plan vouchers lent place drawn (act.Lease l) =
+    whole subject.Asset drawn.number deed.Entered place
+    ∷ whole subject.Debt drawn.second deed.Entered place ∷ []
 events_by plan vouchers lent place drawn (act.Interfund m) = of_cash place lent m m.what
 events_by plan vouchers lent place drawn _ = []
 
@@ -151,7 +174,8 @@ events_by plan vouchers lent place drawn _ = []
 abbrev pub events_from : Plan → (ℕ → Option Entry) → (ℕ → ℕ → ℕ) → ℕ → List Entry → List Event
 events_from plan vouchers lent place [] = []
 events_from plan vouchers lent place (e ∷ later) =
-    events_by plan vouchers lent place e.drawn e.change.act ++ events_from plan vouchers (lent_after e.change.act place lent) (place + 1) later
+    events_by plan vouchers lent place e.drawn e.change.act
+    ++ events_from plan vouchers (lent_after e.change.act place lent) (place + 1) later
 
 -- what the entries of a history do
 abbrev pub events_of : Plan → List Entry → List Event

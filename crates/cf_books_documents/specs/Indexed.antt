@@ -12,11 +12,13 @@ use Rattle.cf_books_documents.specs.Events.{is_voucher, voucher_in}
 
 -- the places of vouchers behind an entry, which stands at a place from 0
 abbrev pub voucher_noted : Entry → ℕ → (ℕ → Option ℕ) → ℕ → Option ℕ
-voucher_noted e at before n = if is_voucher e.change.act && (e.drawn.number == n) then Some at else before n
+voucher_noted e at before n = if is_voucher e.change.act && (e.drawn.number == n) then Some at
+    else before n
 
 -- the places are those of the vouchers
 abbrev pub KnowsVouchers : List Entry → BTreeMap ℕ ℕ Global → Type 0
-KnowsVouchers history places = (n : ℕ) → option_and_then (slice_get history) (get nat_cmp places n) ≡ voucher_in history n
+KnowsVouchers history places = (n : ℕ)
+    → option_and_then (slice_get history) (get nat_cmp places n) ≡ voucher_in history n
 
 -- the events of a number
 abbrev pub numbered : ℕ → List Event → List Event

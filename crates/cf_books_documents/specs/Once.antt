@@ -29,7 +29,8 @@ alone n = record { number = n; item = 0 } ∷ []
 -- each item of an order, from a place from 0 on
 abbrev pub items_drawn : ℕ → ℕ → List AccountItem → List Number
 items_drawn order nth [] = []
-items_drawn order nth (a ∷ items) = record { number = order; item = nth + 1 } ∷ items_drawn order (nth + 1) items
+items_drawn order nth (a ∷ items) =
+    record { number = order; item = nth + 1 } ∷ items_drawn order (nth + 1) items
 
 -- a number for each item on a capital object
 abbrev pub assets_drawn : Plan → ℕ → List VoucherItem → List Number
@@ -63,16 +64,20 @@ drawn_by plan kind place drawn act = []
 
 abbrev pub drawn_from : Plan → DocumentKind → ℕ → List Entry → List Number
 drawn_from plan kind place [] = []
-drawn_from plan kind place (e ∷ later) = drawn_by plan kind place e.drawn e.change.act ++ drawn_from plan kind (place + 1) later
+drawn_from plan kind place (e ∷ later) =
+    drawn_by plan kind place e.drawn e.change.act ++ drawn_from plan kind (place + 1) later
 
 -- the documents of a kind, which are the rows where each is wanted
 abbrev pub documents_from : Plan → Registers → DocumentKind → ℕ → List Entry → List Facts
 documents_from plan s kind place [] = []
-documents_from plan s kind place (e ∷ later) = documents_by plan s kind place e e.change.act ++ documents_from plan s kind (place + 1) later
+documents_from plan s kind place (e ∷ later) =
+    documents_by plan s kind place e e.change.act ++ documents_from plan s kind (place + 1) later
 
 abbrev pub number_of : Facts → Number
 number_of f = record { number = f.number; item = f.item }
 
 -- the documents of each kind have the numbers that entries drew, each once and in their order
 abbrev pub EachOnce : Plan → List Entry → Type 0
-EachOnce plan history = (kind : DocumentKind) → map number_of (documents_from plan (registers_of plan history) kind 1 history) ≡ drawn_from plan kind 1 history
+EachOnce plan history = (kind : DocumentKind)
+    → map number_of (documents_from plan (registers_of plan history) kind 1 history)
+    ≡ drawn_from plan kind 1 history

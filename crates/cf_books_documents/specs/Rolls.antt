@@ -1,4 +1,5 @@
--- The rolls of fiscal years (GASB Codification 1700: the fiscal period), and what they do to documents.
+-- The rolls of fiscal years (GASB Codification 1700: the fiscal period), and what they do to
+-- documents.
 use Rattle.std.specs.Prelude.{ℕ, Bool, false, ◌+◌, ◌==◌, ◌&&◌, nat_lt, nat_le, if◌then◌else◌, List, [], ◌∷◌, ◌++◌, Option, Some, None, insert, fold, length, position}
 use Rattle.cf_calls.specs.declared.entry.Entry.{Entry}
 use Rattle.cf_chart.specs.Plan.{Plan}
@@ -16,7 +17,8 @@ roll_if place (Some year) = record { year = year; place = place } ∷ []
 
 abbrev pub rolls_from : Plan → ℕ → List Entry → List Roll
 rolls_from plan place [] = []
-rolls_from plan place (e ∷ later) = roll_if place (rolled_year plan e.change.act) ++ rolls_from plan (place + 1) later
+rolls_from plan place (e ∷ later) =
+    roll_if place (rolled_year plan e.change.act) ++ rolls_from plan (place + 1) later
 
 -- the closes of the last months of fiscal years, in order
 abbrev pub rolls_of : Plan → List Entry → List Roll
@@ -38,8 +40,9 @@ abbrev pub is_since : Option ℕ → ℕ → Bool
 is_since None year = false
 is_since (Some first) year = nat_le first year
 
--- what the roll of a year does to a document that is of another year now, or lapsed: each roll from the document's first year to the one
--- before its present year carried it, and that of its present year let it lapse, where its state says that it lapsed
+-- what the roll of a year does to a document that is of another year now, or lapsed: each roll from
+-- the document's first year to the one before its present year carried it, and that of its present
+-- year let it lapse, where its state says that it lapsed
 abbrev pub rolled : Facts → ℕ → Option ℕ → Option Deed
 rolled f year None = None
 rolled f year (Some now) =
@@ -48,7 +51,15 @@ rolled f year (Some now) =
 
 abbrev pub with_deed : Facts → List Event → Roll → Option Deed → List Event
 with_deed f events r None = events
-with_deed f events r (Some d) = placed (record { subject = subject_of f.kind; number = f.number; item = f.item; deed = d; place = r.place }) events
+with_deed f events r (Some d) =
+    placed (record {
+      subject = subject_of f.kind;
+      number = f.number;
+      item = f.item;
+      deed =
+          d;
+      place = r.place;
+    }) events
 
 abbrev pub with_roll : Facts → List Event → Roll → List Event
 with_roll f events r = with_deed f events r (rolled f r.year f.year)

@@ -48,10 +48,12 @@ open_part state.Held amount = amount
 open_part _ amount = pos 0
 
 abbrev pub standing : State → ℕ → ℤ → ℤ → Standing
-standing state year amount left = record { state = Some state; year = Some year; amount = amount; left = left }
+standing state year amount left =
+    record { state = Some state; year = Some year; amount = amount; left = left }
 
 abbrev pub requisition_now : Option Shown → ℤ → Standing
-requisition_now (Some (shown.Requisition items state year)) amount = standing (requisition_state state) year amount (open_part (requisition_state state) amount)
+requisition_now (Some (shown.Requisition items state year)) amount =
+    standing (requisition_state state) year amount (open_part (requisition_state state) amount)
 requisition_now _ amount = unseen amount
 
 abbrev pub item_shown : Option Shown → ℕ → Option OrderItemShown
@@ -64,24 +66,29 @@ item_now None amount = unseen (pos amount)
 item_now (Some i) amount = standing (item_state i.state) i.year (pos amount) (pos i.open_cents)
 
 abbrev pub voucher_now : Option Shown → Standing
-voucher_now (Some (shown.Voucher amount state year)) = standing (voucher_state state) year (pos amount) (open_part (voucher_state state) (pos amount))
+voucher_now (Some (shown.Voucher amount state year)) =
+    standing (voucher_state state) year (pos amount) (open_part (voucher_state state) (pos amount))
 voucher_now _ = unseen (pos 0)
 
 abbrev pub bill_state : ℕ → State
 bill_state left = if left == 0 then state.Settled else state.Open
 
 abbrev pub bill_now : Option Shown → ℕ → Standing
-bill_now (Some (shown.Bill left levy_year source)) amount = standing (bill_state left) levy_year (pos amount) (pos left)
+bill_now (Some (shown.Bill left levy_year source)) amount =
+    standing (bill_state left) levy_year (pos amount) (pos left)
 bill_now _ amount = unseen (pos amount)
 
 -- an asset: what is left is its cost, less its depreciation, while it is held
 abbrev pub asset_now : Option Shown → ℕ → ℕ → Standing
-asset_now (Some (shown.Asset cost depreciation state)) year amount = standing (asset_state state) year (pos amount) (open_part (asset_state state) (pos (cost - depreciation)))
+asset_now (Some (shown.Asset cost depreciation state)) year amount =
+    standing (asset_state state) year (pos amount)
+    (open_part (asset_state state) (pos (cost - depreciation)))
 asset_now _ year amount = unseen (pos amount)
 
 -- a bond or a lease: open while a payment is to come
 abbrev pub debt_now : Option Shown → ℕ → ℕ → Standing
-debt_now (Some (shown.Bond accrued next outstanding)) year amount = standing (if is_some next then state.Open else state.Repaid) year (pos amount) (pos outstanding)
+debt_now (Some (shown.Bond accrued next outstanding)) year amount =
+    standing (if is_some next then state.Open else state.Repaid) year (pos amount) (pos outstanding)
 debt_now _ year amount = unseen (pos amount)
 
 abbrev pub loan_state : ℕ → State
@@ -89,4 +96,5 @@ loan_state left = if left == 0 then state.Repaid else state.Open
 
 -- a loan: what is left of it, of what the fund that borrowed owes the one that lent
 abbrev pub loan_now : ℕ → ℕ → ℕ → Standing
-loan_now year amount owed = standing (loan_state (min amount owed)) year (pos amount) (pos (min amount owed))
+loan_now year amount owed =
+    standing (loan_state (min amount owed)) year (pos amount) (pos (min amount owed))

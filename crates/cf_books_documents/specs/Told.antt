@@ -13,12 +13,15 @@ use Rattle.cf_books_documents.specs.declared.facts.Facts.{Facts}
 
 -- the events of each number in what the entries did, and the rolls of fiscal years
 abbrev pub told_of : Plan → List Entry → Known
-told_of plan history = record { events = λ n. numbered n (events_of plan history); rolls = rolls_of plan history }
+told_of plan history =
+    record { events = λ n. numbered n (events_of plan history); rolls = rolls_of plan history }
 
 -- whether an event of a document's number is of a document: of all of it, or of the item
 abbrev pub is_own : Subject → ℕ → Event → Bool
 is_own subject item v = is_same v.subject subject && ((v.item == 0) || (v.item == item))
 
--- what was done to a document: what entries did that name it, and what rolls did to it, oldest first
+-- what was done to a document: what entries did that name it, and what rolls did to it, oldest
+-- first
 abbrev pub document_events : Known → Facts → List Event
-document_events t f = with_rolls f t.rolls (filter (is_own (subject_of f.kind) f.item) (t.events f.number))
+document_events t f =
+    with_rolls f t.rolls (filter (is_own (subject_of f.kind) f.item) (t.events f.number))

@@ -19,7 +19,8 @@ abbrev pub payment_place : List Event → ℕ
 payment_place events = fold payment_after 0 events
 
 abbrev pub payment_of : List Entry → List Event → Option Entry
-payment_of history events = if payment_place events == 0 then None else slice_get history (payment_place events - 1)
+payment_of history events = if payment_place events == 0 then None
+    else slice_get history (payment_place events - 1)
 
 -- a text stands anywhere in another
 abbrev pub has_within : List ℕ → List ℕ → Bool
@@ -41,7 +42,10 @@ is_amount_asked (Some asked) amount = int_eq (pos asked) amount
 -- in the key of the entry, or in that of its payment
 abbrev pub is_key_asked : Option (List ℕ) → Entry → Option Entry → Bool
 is_key_asked None e payment = true
-is_key_asked (Some part) e payment = has_within part e.change.key || has_within part (run_text payment)
+is_key_asked (Some part) e payment = has_within part e.change.key
+    || has_within part (run_text payment)
 
 abbrev pub is_wanted : DocumentFilter → Option (List ℕ) → Facts → Entry → Option Entry → Bool
-is_wanted filter key f e payment = is_kind_asked filter.kind f.kind && (is_asked filter.party f.party && (is_amount_asked filter.amount f.amount && is_key_asked key e payment))
+is_wanted filter key f e payment = is_kind_asked filter.kind f.kind
+    && (is_asked filter.party f.party
+    && (is_amount_asked filter.amount f.amount && is_key_asked key e payment))

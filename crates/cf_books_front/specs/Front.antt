@@ -15,7 +15,8 @@ front n p bytes = before (gate_after (6 + length p.chart) (take n p.entries)) by
 
 -- a journal of fewer entries has no such front, nor has one of which nothing is whole
 abbrev pub front_by : ℕ → List ℕ → Result Parts OpenRefused → Result (List ℕ) FrontRefused
-front_by n bytes (Ok p) = if nat_le n (length p.entries) then Ok (front n p bytes) else Err (Fewer (length p.entries))
+front_by n bytes (Ok p) = if nat_le n (length p.entries) then Ok (front n p bytes)
+    else Err (Fewer (length p.entries))
 front_by n bytes (Err e) = Err (Nothing e)
 
 abbrev pub front_in : ℕ → List ℕ → Result (List ℕ) FrontRefused
@@ -32,8 +33,10 @@ GivesFront (Err e) x = x ≡ Err e
 
 -- whatever is whole of the bytes, the front has its chart and the first n of its entries
 abbrev pub HasFirst : ℕ → List ℕ → List ℕ → Type 0
-HasFirst n bytes made = (p : Parts) → whole_of bytes ≡ Ok p → frames made ≡ Ok (p.chart, take n p.entries)
+HasFirst n bytes made = (p : Parts) → whole_of bytes ≡ Ok p
+    → frames made ≡ Ok (p.chart, take n p.entries)
 
 -- of a journal that is whole and has n entries the front has all that the journal has
 abbrev pub HasAll : ℕ → List ℕ → List ℕ → Type 0
-HasAll n bytes made = (p : Parts) → whole_of bytes ≡ Ok p → p.damage ≡ None → length p.entries ≡ n → frames made ≡ frames bytes
+HasAll n bytes made = (p : Parts) → whole_of bytes ≡ Ok p → p.damage ≡ None → length p.entries ≡ n
+    → frames made ≡ frames bytes

@@ -14,11 +14,13 @@ pub record Parts : Type 0 where
   pub entries : List Entry
   pub damage : Option ℕ
 
--- the bytes before the gate at a place, with a closed gate there, as a crash leaves them before that entry is written
+-- the bytes before the gate at a place, with a closed gate there, as a crash leaves them before
+-- that entry is written
 abbrev pub before : ℕ → List ℕ → List ℕ
 before at bytes = take at bytes ++ 0 ∷ []
 
-abbrev pub parts_or : Option ℕ → OpenRefused → Result (List ℕ × List Entry) OpenRefused → Result Parts OpenRefused
+abbrev pub parts_or : Option ℕ → OpenRefused → Result (List ℕ × List Entry) OpenRefused
+    → Result Parts OpenRefused
 parts_or damage why (Ok x) = Ok (record { chart = x.0; entries = x.1; damage = damage })
 parts_or damage why (Err e) = Err why
 
@@ -45,14 +47,15 @@ abbrev pub whole_bytes : Option ℕ → List ℕ → List ℕ
 whole_bytes None bytes = bytes
 whole_bytes (Some at) bytes = before at bytes
 
--- ---- answers, where want of memory is free. A disk in memory fails for that alone, so its fault is
--- no answer.
+-- ---- answers, where want of memory is free. A disk in memory fails for that alone, so its fault
+-- is no answer.
 
 abbrev pub refusal_in_memory : OpenRefused → OpenRefused
 refusal_in_memory Disk = NoMemory
 refusal_in_memory why = why
 
-abbrev pub ReadsFrames : Result (Vec ℕ Global × Vec Entry Global) OpenRefused → Result (List ℕ × List Entry) OpenRefused → Type 0
+abbrev pub ReadsFrames : Result (Vec ℕ Global × Vec Entry Global) OpenRefused
+    → Result (List ℕ × List Entry) OpenRefused → Type 0
 ReadsFrames (Ok x) frames = frames ≡ Ok (x.0.items, x.1.items)
 ReadsFrames (Err NoMemory) frames = ⊤
 ReadsFrames (Err Disk) frames = ⊥

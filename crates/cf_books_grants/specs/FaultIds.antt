@@ -9,7 +9,8 @@ use Rattle.cf_grants.specs.declared.fault.GrantKey.TheVariants as key
 use Rattle.cf_grants.specs.Faults.{Checked}
 use Rattle.cf_grants.specs.Reading.{value_of}
 
--- the key isn't the id itself, and not the table's name, whose fault is that the table is no list of grants
+-- the key isn't the id itself, and not the table's name, whose fault is that the table is no list
+-- of grants
 abbrev pub is_beside_id : GrantKey → Bool
 is_beside_id key.Grant = false
 is_beside_id key.Id = false

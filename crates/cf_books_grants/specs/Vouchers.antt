@@ -1,5 +1,6 @@
--- A row a voucher of a grant: its number, day and fiscal year, what is eligible of it and the grantor's share, how it stands, what can
--- be claimed or which bill claims it, and what is then left of the award.
+-- A row a voucher of a grant: its number, day and fiscal year, what is eligible of it and the
+-- grantor's share, how it stands, what can be claimed or which bill claims it, and what is then
+-- left of the award.
 use Rattle.std.specs.Prelude.{ℕ, pos, Bool, List, [], ◌∷◌, ◌++◌, flat_map, codes, decimal}
 use Rattle.cf_base.specs.Amounts.{money_of}
 use Rattle.cf_base.specs.Calendar.{day_text}
@@ -29,11 +30,13 @@ bill_text _ = []
 
 abbrev pub voucher_row : GrantVoucher → List (List ℕ)
 voucher_row v =
-    decimal v.number ∷ day_text v.on ∷ decimal v.year ∷ money v.eligible ∷ money v.share ∷ state_word v.state ∷ amount_text v.state ∷ bill_text v.state ∷ money v.left ∷ []
+    decimal v.number ∷ day_text v.on ∷ decimal v.year ∷ money v.eligible ∷ money v.share
+    ∷ state_word v.state ∷ amount_text v.state ∷ bill_text v.state ∷ money v.left ∷ []
 
 -- the names of the columns
 abbrev pub header : List (List ℕ)
-header = codes "voucher" ∷ codes "day" ∷ codes "year" ∷ codes "eligible" ∷ codes "share" ∷ codes "state" ∷ codes "amount" ∷ codes "bill" ∷ codes "left" ∷ []
+header = codes "voucher" ∷ codes "day" ∷ codes "year" ∷ codes "eligible" ∷ codes "share"
+    ∷ codes "state" ∷ codes "amount" ∷ codes "bill" ∷ codes "left" ∷ []
 
 abbrev pub head_rows : Bool → List ℕ
 head_rows csv = head_text csv header

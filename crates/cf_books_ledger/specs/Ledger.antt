@@ -36,7 +36,9 @@ is_through (Some day) on = not (is_before day on)
 
 -- whether the accounts, the line and the source of a row are asked for
 abbrev pub is_there : LedgerFilter → LedgerRow → Bool
-is_there f r = is_asked f.fund r.fund && (is_asked f.dept r.dept && (is_asked f.object r.object && (is_named f.line r.line && is_named f.source r.source)))
+is_there f r = is_asked f.fund r.fund
+    && (is_asked f.dept r.dept
+    && (is_asked f.object r.object && (is_named f.line r.line && is_named f.source r.source)))
 
 abbrev pub is_within : LedgerFilter → Day → Bool
 is_within f on = is_from f.from on && is_through f.through on
@@ -44,7 +46,8 @@ is_within f on = is_from f.from on && is_through f.through on
 -- .. and its party, its fiscal year and the day of its entry
 abbrev pub is_wanted : LedgerFilter → PartyLists → Entry → LedgerRow → Bool
 is_wanted f parties e r =
-    is_there f r && (is_asked f.vendor (party_by parties e.change.act r) && (is_asked f.year r.year && is_within f e.change.on))
+    is_there f r && (is_asked f.vendor (party_by parties e.change.act r)
+    && (is_asked f.year r.year && is_within f e.change.on))
 
 -- the entry that a row is of
 abbrev pub entry_of : List Entry → LedgerRow → Option Entry
@@ -72,7 +75,8 @@ abbrev pub nothing : Totals
 nothing = record { spent = Some (pos 0); received = Some (pos 0) }
 
 abbrev pub with_row : Totals → LedgerRow → Totals
-with_row t r = record { spent = plus_if t.spent r.by.spent; received = plus_if t.received r.by.received }
+with_row t r = record
+    { spent = plus_if t.spent r.by.spent; received = plus_if t.received r.by.received }
 
 -- received in a row of a source, and spent in one of a line
 abbrev pub running : Option ℕ → Totals → Option ℤ
@@ -84,8 +88,10 @@ running (Some source) t = t.received
 -- the names of the columns
 abbrev pub head : List (List ℕ)
 head =
-    codes "place" ∷ codes "day" ∷ codes "desk" ∷ codes "key" ∷ codes "call" ∷ codes "document" ∷ codes "item" ∷ codes "party" ∷ codes "fund" ∷ codes "dept"
-    ∷ codes "object" ∷ codes "line" ∷ codes "source" ∷ codes "year" ∷ codes "appropriated" ∷ codes "ordered" ∷ codes "held" ∷ codes "spent" ∷ codes "received"
+    codes "place" ∷ codes "day" ∷ codes "desk" ∷ codes "key" ∷ codes "call" ∷ codes "document"
+    ∷ codes "item" ∷ codes "party" ∷ codes "fund" ∷ codes "dept"
+    ∷ codes "object" ∷ codes "line" ∷ codes "source" ∷ codes "year" ∷ codes "appropriated"
+    ∷ codes "ordered" ∷ codes "held" ∷ codes "spent" ∷ codes "received"
     ∷ codes "running" ∷ []
 
 abbrev pub number_text : Option ℕ → List ℕ
@@ -99,9 +105,12 @@ money_if (Some z) = money_of z
 -- a row of an entry, with the totals through it
 abbrev pub row_fields : PartyLists → Totals → Entry → LedgerRow → List (List ℕ)
 row_fields parties t e r =
-    decimal r.of.place ∷ day_text e.change.on ∷ decimal e.change.desk ∷ e.change.key ∷ call_word e.change.act ∷ drawn_text r.of.document ∷ drawn_text r.of.item
-    ∷ drawn_text (party_by parties e.change.act r) ∷ drawn_text r.fund ∷ drawn_text r.dept ∷ drawn_text r.object ∷ number_text r.line ∷ number_text r.source
-    ∷ decimal r.year ∷ money_of r.by.appropriated ∷ money_of r.by.ordered ∷ money_of r.by.held ∷ money_of r.by.spent ∷ money_of r.by.received
+    decimal r.of.place ∷ day_text e.change.on ∷ decimal e.change.desk ∷ e.change.key
+    ∷ call_word e.change.act ∷ drawn_text r.of.document ∷ drawn_text r.of.item
+    ∷ drawn_text (party_by parties e.change.act r) ∷ drawn_text r.fund ∷ drawn_text r.dept
+    ∷ drawn_text r.object ∷ number_text r.line ∷ number_text r.source
+    ∷ decimal r.year ∷ money_of r.by.appropriated ∷ money_of r.by.ordered ∷ money_of r.by.held
+    ∷ money_of r.by.spent ∷ money_of r.by.received
     ∷ money_if (running r.source t) ∷ []
 
 -- a row whose entry is asked for, where so much was spent and received before
@@ -113,7 +122,8 @@ abbrev pub asked_totals : Totals → Option Entry → LedgerRow → Totals
 asked_totals t None r = t
 asked_totals t (Some e) r = with_row t r
 
-abbrev pub asked_rows : Bool → LedgerFilter → PartyLists → List Entry → Totals → List LedgerRow → List ℕ
+abbrev pub asked_rows : Bool → LedgerFilter → PartyLists → List Entry → Totals → List LedgerRow
+    → List ℕ
 asked_rows csv f parties history t [] = []
 asked_rows csv f parties history t (r ∷ rows) =
     asked_text csv parties t (wanted f parties history r) r
@@ -121,4 +131,5 @@ asked_rows csv f parties history t (r ∷ rows) =
 
 -- the names of the columns, and the rows that are asked for
 abbrev pub text_of : Bool → LedgerFilter → List Entry → List LedgerRow → List ℕ
-text_of csv f history rows = head_text csv head ++ asked_rows csv f (parties_of history) history nothing rows
+text_of csv f history rows =
+    head_text csv head ++ asked_rows csv f (parties_of history) history nothing rows

@@ -49,9 +49,9 @@ impl Watch for Gathered {
     }
 }
 
-/// Opens the book of the journal on a disk, as `cf_journal_book::open` does, with the rows of its entries,
-/// oldest first: they add up to the numbers of each control line and fiscal year, and to the
-/// revenue of each source.
+/// Opens the book of the journal on a disk, as `cf_journal_book::open` does, with the rows of its
+/// entries, oldest first: they add up to the numbers of each control line and fiscal year, and to
+/// the revenue of each source.
 pub fn open_with_ledger<D: Disk + Drop>(
     alloc: Global,
     disk: D,

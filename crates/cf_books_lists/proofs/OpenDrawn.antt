@@ -1,5 +1,5 @@
--- The numbers of bills, orders and vouchers: each is drawn by one entry. The items of a voucher have
--- one state, and those of an order have lines.
+-- The numbers of bills, orders and vouchers: each is drawn by one entry. The items of a voucher
+-- have one state, and those of an order have lines.
 use Rattle.std.proofs.Common.{◌≡◌, ℕ, zero, ◌+◌, ◌≤◌, Bool, true, false, not, if◌then◌else◌, ◌==◌, ◌&&◌, ◌||◌, List, [], ◌∷◌, ◌++◌, map, length, None, is_some, ◌⊎◌, inl, inr, refl, sym, ap, subst, ◌∙◌, arith}
 use Rattle.std.specs.List.{list_any, AllByRecursion}
 use Rattle.std.proofs.lemmas.Bool.Decides.{eqb_tells}

@@ -1,5 +1,5 @@
--- What `open` lists of bills, vouchers and order items comes to the balances that have it, and to what
--- is encumbered.
+-- What `open` lists of bills, vouchers and order items comes to the balances that have it, and to
+-- what is encumbered.
 use Rattle.std.proofs.Common.{◌≡◌, ℕ, ◌+◌, ◌-◌, ◌≤◌, Bool, true, false, if◌then◌else◌, ◌==◌, ◌&&◌, List, [], ◌∷◌, ◌++◌, flat_map, map, find, length, sum_by, Option, Some, None, option_map, is_some, ℤ, pos, ◌+ℤ◌, ◌-ℤ◌, refl, sym, ap, subst, ◌∙◌, arith, append-nil, append_assoc}
 use Rattle.std.specs.List.{filter, AllByRecursion}
 use Rattle.cf_base.specs.declared.calendar.Day.{Day}

@@ -1,4 +1,5 @@
--- A trial balance as records: on either basis, each account with its balance through a fiscal year (GASB Statement 34).
+-- A trial balance as records: on either basis, each account with its balance through a fiscal year
+-- (GASB Statement 34).
 use Rattle.std.specs.Prelude.{ℕ, Bool, ◌==◌, if◌then◌else◌, ℤ, unsigned_abs, List, [], ◌∷◌, ◌++◌, codes, decimal, flat_map}
 use Rattle.cf_model_articulation.specs.TrialBalances.{fund_accounts, gov_accounts}
 use Rattle.cf_base.specs.Amounts.{money_of}
@@ -13,29 +14,37 @@ use Rattle.cf_books_lists.specs.Records.{head_text, record_text}
 
 -- the names of the columns
 abbrev pub head : List (List ℕ)
-head = codes "basis" ∷ codes "fund" ∷ codes "fund_name" ∷ codes "account" ∷ codes "account_name" ∷ codes "balance" ∷ []
+head = codes "basis" ∷ codes "fund" ∷ codes "fund_name" ∷ codes "account" ∷ codes "account_name"
+    ∷ codes "balance" ∷ []
 
 abbrev pub balance_row : Plan → Basis → ℕ → ℕ → ℤ → List (List ℕ)
 balance_row plan basis fund account balance =
-    basis_word basis ∷ decimal fund ∷ fund_name (fund_at plan fund) ∷ decimal account ∷ name_of plan account ∷ money_of balance ∷ []
+    basis_word basis ∷ decimal fund ∷ fund_name (fund_at plan fund) ∷ decimal account
+    ∷ name_of plan account ∷ money_of balance ∷ []
 
 -- a balance of zero is left out
 abbrev pub balance_text : Bool → Plan → Basis → ℕ → ℕ → ℤ → List ℕ
-balance_text csv plan basis fund account balance = if unsigned_abs balance == 0 then [] else record_text csv (balance_row plan basis fund account balance)
+balance_text csv plan basis fund account balance = if unsigned_abs balance == 0 then []
+    else record_text csv (balance_row plan basis fund account balance)
 
 abbrev pub account_text : Bool → Plan → List Entry → Basis → ℕ → ℕ → ℕ → List ℕ
-account_text csv plan history basis year fund account = balance_text csv plan basis fund account (balance_of basis plan year fund account history)
+account_text csv plan history basis year fund account =
+    balance_text csv plan basis fund account (balance_of basis plan year fund account history)
 
 abbrev pub accounts_text : Bool → Plan → List Entry → Basis → ℕ → ℕ → List ℕ → List ℕ
-accounts_text csv plan history basis year fund accounts = flat_map (account_text csv plan history basis year fund) accounts
+accounts_text csv plan history basis year fund accounts =
+    flat_map (account_text csv plan history basis year fund) accounts
 
 -- the accounts of a fund, and those of the city as a whole, which is of no fund
 abbrev pub fund_text : Bool → Plan → List Entry → ℕ → ℕ → List ℕ
-fund_text csv plan history year fund = accounts_text csv plan history FundBasis year fund (fund_accounts plan fund)
+fund_text csv plan history year fund =
+    accounts_text csv plan history FundBasis year fund (fund_accounts plan fund)
 
 abbrev pub funds_text : Bool → Plan → List Entry → ℕ → List Fund → List ℕ
 funds_text csv plan history year funds = flat_map (λ f. fund_text csv plan history year f.id) funds
 
 abbrev pub balances_of : Bool → ℕ → Plan → List Entry → List ℕ
 balances_of csv year plan history =
-    head_text csv head ++ (funds_text csv plan history year plan.funds ++ accounts_text csv plan history GovBasis year 0 (gov_accounts plan))
+    head_text csv head ++
+    (funds_text csv plan history year plan.funds
+    ++ accounts_text csv plan history GovBasis year 0 (gov_accounts plan))

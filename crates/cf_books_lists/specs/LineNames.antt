@@ -1,5 +1,5 @@
--- The names of a control line: what part of its department's objects it has, with the fiscal years that it is of where its fund has
--- a later level of control.
+-- The names of a control line: what part of its department's objects it has, with the fiscal years
+-- that it is of where its fund has a later level of control.
 use Rattle.std.specs.Prelude.{ℕ, ◌-◌, Bool, true, false, List, [], ◌++◌, Option, Some, None, codes, decimal}
 use Rattle.cf_chart.specs.Plan.{Plan, object_at}
 use Rattle.cf_chart.specs.declared.rows.Fund.{Fund}

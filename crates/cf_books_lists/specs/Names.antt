@@ -1,4 +1,5 @@
--- The words of bases, and the names of funds and of accounts (own rule: the words of the statements).
+-- The words of bases, and the names of funds and of accounts (own rule: the words of the
+-- statements).
 use Rattle.std.specs.Prelude.{ℕ, ◌-◌, ◌==◌, ◌&&◌, nat_lt, if◌then◌else◌, List, [], ◌++◌, Option, Some, None, codes}
 use Rattle.cf_calls.specs.declared.read.Basis.{Basis}
 use Rattle.cf_calls.specs.declared.read.Basis.TheVariants as basis

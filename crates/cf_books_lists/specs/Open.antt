@@ -1,4 +1,5 @@
--- What is open of a history, by what looks at its documents, bills and debt show, and which months and fiscal years are closed.
+-- What is open of a history, by what looks at its documents, bills and debt show, and which months
+-- and fiscal years are closed.
 use Rattle.std.specs.Prelude.{ℕ, Bool, ◌+◌, ◌==◌, if◌then◌else◌, pos, List, [], ◌∷◌, ◌++◌, Option, Some, None, codes, decimal, flat_map}
 use Rattle.cf_base.specs.declared.calendar.Day.{Day}
 use Rattle.cf_base.specs.Amounts.{money_of}
@@ -36,7 +37,8 @@ use Rattle.cf_books_lists.specs.Records.{drawn_text, head_text, record_text}
 -- the names of the columns
 abbrev pub head : List (List ℕ)
 head =
-    codes "call" ∷ codes "number" ∷ codes "item" ∷ codes "day" ∷ codes "desk" ∷ codes "key" ∷ codes "party" ∷ codes "year" ∷ codes "line"
+    codes "call" ∷ codes "number" ∷ codes "item" ∷ codes "day" ∷ codes "desk" ∷ codes "key"
+    ∷ codes "party" ∷ codes "year" ∷ codes "line"
     ∷ codes "fund_name" ∷ codes "dept_name" ∷ codes "open" ∷ codes "next" ∷ codes "closed" ∷ []
 
 -- the vendor, or the payer
@@ -78,9 +80,11 @@ line_department plan (Some l) = department_name (department_at plan l.dept)
 -- a part of what an entry entered that is open
 abbrev pub part_row : Plan → Entry → Part → List (List ℕ)
 part_row plan e p =
-    call_word e.change.act ∷ decimal (number_of e) ∷ drawn_text p.item ∷ day_text e.change.on ∷ decimal e.change.desk ∷ e.change.key
+    call_word e.change.act ∷ decimal (number_of e) ∷ drawn_text p.item ∷ day_text e.change.on
+    ∷ decimal e.change.desk ∷ e.change.key
     ∷ drawn_text (party_of e.change.act) ∷ number_text p.year ∷ number_text p.line
-    ∷ line_fund plan (line_of plan p.line) ∷ line_department plan (line_of plan p.line) ∷ money_of (pos p.amount) ∷ next_text p.next ∷ [] ∷ []
+    ∷ line_fund plan (line_of plan p.line) ∷ line_department plan (line_of plan p.line)
+    ∷ money_of (pos p.amount) ∷ next_text p.next ∷ [] ∷ []
 
 abbrev pub part_text : Bool → Plan → Entry → Part → List ℕ
 part_text csv plan e p = record_text csv (part_row plan e p)
@@ -91,20 +95,40 @@ part_text csv plan e p = record_text csv (part_row plan e p)
 abbrev pub held_text : Bool → Plan → Entry → ℕ → ℕ → List LineAmount → List ℕ
 held_text csv plan e year place [] = []
 held_text csv plan e year place (i ∷ items) =
-    part_text csv plan e (record { item = place; line = Some i.line; year = Some year; amount = i.amount; next = None }) ++ held_text csv plan e year (place + 1) items
+    part_text csv plan e
+    (record {
+      item = place;
+      line = Some i.line;
+      year = Some year;
+      amount = i.amount;
+      next =
+          None;
+    }) ++ held_text csv plan e year (place + 1) items
 
 -- an item of an order, where it is live
 abbrev pub item_text : Bool → Plan → Entry → ℕ → OrderItemShown → ItemState → List ℕ
-item_text csv plan e place i item.Live = part_text csv plan e (record { item = place; line = Some i.line; year = Some i.year; amount = i.open_cents; next = None })
+item_text csv plan e place i item.Live =
+    part_text csv plan e
+    (record {
+      item = place;
+      line = Some i.line;
+      year = Some i.year;
+      amount = i.open_cents;
+      next =
+          None;
+    })
 item_text csv plan e place i _ = []
 
 abbrev pub items_text : Bool → Plan → Entry → ℕ → List OrderItemShown → List ℕ
 items_text csv plan e place [] = []
-items_text csv plan e place (i ∷ items) = item_text csv plan e place i i.state ++ items_text csv plan e (place + 1) items
+items_text csv plan e place (i ∷ items) =
+    item_text csv plan e place i i.state ++ items_text csv plan e (place + 1) items
 
 -- an amount that is no item's
 abbrev pub whole_text : Bool → Plan → Entry → Option ℕ → ℕ → Option Day → List ℕ
-whole_text csv plan e year amount next = part_text csv plan e (record { item = 0; line = None; year = year; amount = amount; next = next })
+whole_text csv plan e year amount next =
+    part_text csv plan e
+    (record { item = 0; line = None; year = year; amount = amount; next = next })
 
 abbrev pub requisition_text : Bool → Plan → Entry → List LineAmount → ℕ → RequisitionState → List ℕ
 requisition_text csv plan e items year requisition.Open = held_text csv plan e year 1 items
@@ -117,7 +141,8 @@ voucher_text csv plan e amount year _ = []
 
 -- a bill of which something is left
 abbrev pub bill_text : Bool → Plan → Entry → ℕ → ℕ → List ℕ
-bill_text csv plan e left year = if left == 0 then [] else whole_text csv plan e (Some year) left None
+bill_text csv plan e left year = if left == 0 then []
+    else whole_text csv plan e (Some year) left None
 
 -- a bond or a lease with a payment to come
 abbrev pub debt_text : Bool → Plan → Entry → ℕ → Option Day → List ℕ
@@ -125,11 +150,14 @@ debt_text csv plan e outstanding None = []
 debt_text csv plan e outstanding (Some next) = whole_text csv plan e None outstanding (Some next)
 
 abbrev pub shown_text : Bool → Plan → Entry → Option Shown → List ℕ
-shown_text csv plan e (Some (shown.Requisition items state year)) = requisition_text csv plan e items year state
+shown_text csv plan e (Some (shown.Requisition items state year)) =
+    requisition_text csv plan e items year state
 shown_text csv plan e (Some (shown.Order items vendor)) = items_text csv plan e 1 items
-shown_text csv plan e (Some (shown.Voucher amount state year)) = voucher_text csv plan e amount year state
+shown_text csv plan e (Some (shown.Voucher amount state year)) =
+    voucher_text csv plan e amount year state
 shown_text csv plan e (Some (shown.Bill left year source)) = bill_text csv plan e left year
-shown_text csv plan e (Some (shown.Bond accrued next outstanding)) = debt_text csv plan e outstanding next
+shown_text csv plan e (Some (shown.Bond accrued next outstanding)) =
+    debt_text csv plan e outstanding next
 shown_text csv plan e _ = []
 
 -- ---- the sections
@@ -153,7 +181,8 @@ looked_text csv plan s e (Some look) = shown_text csv plan e (register_shown pla
 
 -- what these entries entered in a section that is open now, by the registers of the whole history
 abbrev pub section_text : Bool → Plan → Registers → Section → List Entry → List ℕ
-section_text csv plan s section entries = flat_map (λ e. looked_text csv plan s e (look_of section e)) entries
+section_text csv plan s section entries =
+    flat_map (λ e. looked_text csv plan s e (look_of section e)) entries
 
 -- ---- closed months and fiscal years
 
@@ -163,7 +192,8 @@ period_text (period.Year y) = decimal y
 
 abbrev pub close_row : Entry → Period → List (List ℕ)
 close_row e p =
-    codes "close" ∷ [] ∷ [] ∷ day_text e.change.on ∷ decimal e.change.desk ∷ e.change.key ∷ [] ∷ [] ∷ [] ∷ [] ∷ [] ∷ [] ∷ [] ∷ period_text p ∷ []
+    codes "close" ∷ [] ∷ [] ∷ day_text e.change.on ∷ decimal e.change.desk ∷ e.change.key ∷ [] ∷ []
+    ∷ [] ∷ [] ∷ [] ∷ [] ∷ [] ∷ period_text p ∷ []
 
 abbrev pub close_by : Bool → Act → Entry → List ℕ
 close_by csv (act.Close p) e = record_text csv (close_row e p)

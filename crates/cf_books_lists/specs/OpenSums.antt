@@ -36,7 +36,8 @@ use Rattle.cf_books_lists.specs.Open.{look_of, part_text, section_text}
 abbrev pub held_parts : ℕ → ℕ → List LineAmount → List Part
 held_parts year place [] = []
 held_parts year place (i ∷ items) =
-    record { item = place; line = Some i.line; year = Some year; amount = i.amount; next = None } ∷ held_parts year (place + 1) items
+    record { item = place; line = Some i.line; year = Some year; amount = i.amount; next = None }
+    ∷ held_parts year (place + 1) items
 
 abbrev pub requisition_parts : List LineAmount → ℕ → RequisitionState → List Part
 requisition_parts items year requisition.Open = held_parts year 1 items
@@ -44,7 +45,15 @@ requisition_parts items year _ = []
 
 -- an item of an order, where it is live
 abbrev pub item_parts : ℕ → OrderItemShown → ItemState → List Part
-item_parts place i item.Live = record { item = place; line = Some i.line; year = Some i.year; amount = i.open_cents; next = None } ∷ []
+item_parts place i item.Live =
+    record {
+      item = place;
+      line = Some i.line;
+      year = Some i.year;
+      amount = i.open_cents;
+      next =
+          None;
+    } ∷ []
 item_parts place i _ = []
 
 abbrev pub order_parts : ℕ → List OrderItemShown → List Part
@@ -53,7 +62,8 @@ order_parts place (i ∷ items) = item_parts place i i.state ++ order_parts (pla
 
 -- an amount that is no item's
 abbrev pub whole_part : Option ℕ → ℕ → Option Day → Part
-whole_part year amount next = record { item = 0; line = None; year = year; amount = amount; next = next }
+whole_part year amount next =
+    record { item = 0; line = None; year = year; amount = amount; next = next }
 
 abbrev pub voucher_parts : ℕ → ℕ → VoucherState → List Part
 voucher_parts amount year voucher.Open = whole_part (Some year) amount None ∷ []
@@ -84,11 +94,13 @@ parts_of plan s section e = parts_looked plan s (look_of section e)
 
 -- the rows of a section, as text ..
 abbrev pub rows_text : Bool → Plan → Registers → Section → List Entry → List ℕ
-rows_text csv plan s section entries = flat_map (λ e. flat_map (part_text csv plan e) (parts_of plan s section e)) entries
+rows_text csv plan s section entries =
+    flat_map (λ e. flat_map (part_text csv plan e) (parts_of plan s section e)) entries
 
 -- .. and what they come to, where each counts for so much
 abbrev pub rows_sum : Plan → Registers → Section → (Entry → Part → ℤ) → List Entry → ℤ
-rows_sum plan s section counted entries = int_sum (λ e. int_sum (counted e) (parts_of plan s section e)) entries
+rows_sum plan s section counted entries =
+    int_sum (λ e. int_sum (counted e) (parts_of plan s section e)) entries
 
 -- ---- what a row counts for
 
@@ -99,7 +111,8 @@ bill_is_of plan fund (Some b) = fund_of plan b.source == fund
 
 -- the row of a bill, for its amount in the fund of the bill's source
 abbrev pub of_bill : Plan → Registers → ℕ → Entry → Part → ℤ
-of_bill plan s fund e p = if bill_is_of plan fund (bill_at e.drawn.number s.receivables.bills) then pos p.amount else pos 0
+of_bill plan s fund e p = if bill_is_of plan fund (bill_at e.drawn.number s.receivables.bills)
+    then pos p.amount else pos 0
 
 -- the items of the voucher that an entry entered
 abbrev pub voucher_rows : Registers → Entry → List Expenditure
@@ -107,7 +120,8 @@ voucher_rows s e = filter (λ x. x.voucher == e.drawn.number) s.documents.expend
 
 -- the row of a voucher, for its items on accounts of the fund
 abbrev pub of_voucher : Registers → ℕ → Entry → Part → ℤ
-of_voucher s fund e p = int_sum (λ x. if x.account.fund == fund then pos x.account.amount else pos 0) (voucher_rows s e)
+of_voucher s fund e p =
+    int_sum (λ x. if x.account.fund == fund then pos x.account.amount else pos 0) (voucher_rows s e)
 
 -- the amount of a voucher's row is that of all its items
 abbrev pub IsVoucherRow : Registers → Entry → Part → Type 0
@@ -115,25 +129,31 @@ IsVoucherRow s e p = pos p.amount ≡ int_sum (λ x. pos x.account.amount) (vouc
 
 -- the row of an order's item, for its amount on its line and in its year
 abbrev pub on_line : ℕ → ℕ → Entry → Part → ℤ
-on_line line year e p = if is_number p.year year && is_number p.line line then pos p.amount else pos 0
+on_line line year e p = if is_number p.year year && is_number p.line line then pos p.amount
+    else pos 0
 
 -- ---- the law
 
 pub record OpenAddsUp (plan : Plan) (history : List Entry) : Type 0 where
   -- the text of each section is a row for each part
   pub rows : (csv : Bool) (section : Section) →
-      section_text csv plan (registers_of plan history) section history ≡ rows_text csv plan (registers_of plan history) section history
+      section_text csv plan (registers_of plan history) section history
+      ≡ rows_text csv plan (registers_of plan history) section history
   -- the rows of bills come to each fund's receivables, over all years
   pub bills : (fund : ℕ) →
-      rows_sum plan (registers_of plan history) Bills (of_bill plan (registers_of plan history) fund) history
+      rows_sum plan (registers_of plan history) Bills
+      (of_bill plan (registers_of plan history) fund) history
       ≡ sum_where (is_of fund 110000) (posts_in FundBasis plan history)
-  -- each row of a voucher is the sum of its items, and those of a fund come to its vouchers payable, a
-  -- credit, over all years
+  -- each row of a voucher is the sum of its items, and those of a fund come to its vouchers
+  -- payable, a credit, over all years
   pub voucher_amounts : AllByRecursion
-      (λ e. AllByRecursion (IsVoucherRow (registers_of plan history) e) (parts_of plan (registers_of plan history) Vouchers e)) history
+      (λ e. AllByRecursion (IsVoucherRow (registers_of plan history) e)
+      (parts_of plan (registers_of plan history) Vouchers e)) history
   pub vouchers : (fund : ℕ) →
-      pos 0 -ℤ rows_sum plan (registers_of plan history) Vouchers (of_voucher (registers_of plan history) fund) history
+      pos 0 -ℤ rows_sum plan (registers_of plan history) Vouchers
+      (of_voucher (registers_of plan history) fund) history
       ≡ sum_where (is_of fund 200000) (posts_in FundBasis plan history)
   -- the rows of order items of a line and fiscal year come to what is encumbered
   pub orders : (line year : ℕ) →
-      rows_sum plan (registers_of plan history) Orders (on_line line year) history ≡ pos (encumbered plan line year history)
+      rows_sum plan (registers_of plan history) Orders (on_line line year) history
+      ≡ pos (encumbered plan line year history)

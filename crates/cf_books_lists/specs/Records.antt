@@ -1,5 +1,5 @@
--- Rows of fields as text: records of comma-separated values for a spreadsheet, as `csv` writes them by
--- default, or fields with tabs between them.
+-- Rows of fields as text: records of comma-separated values for a spreadsheet, as `csv` writes them
+-- by default, or fields with tabs between them.
 use Rattle.std.specs.Prelude.{ℕ, ◌==◌, ◌&&◌, ◌||◌, Bool, false, not, if◌then◌else◌, List, [], ◌∷◌, decimal, flat_map, map}
 use Rattle.std.specs.List.{list_all}
 use Rattle.cf_base.specs.Calendar.{is_digit}

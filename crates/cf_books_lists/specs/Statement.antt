@@ -1,5 +1,5 @@
--- A statement of a fiscal year as records: the rows that `report` prints, each with the section that it stands in, and a control
--- line with its names.
+-- A statement of a fiscal year as records: the rows that `report` prints, each with the section
+-- that it stands in, and a control line with its names.
 use Rattle.std.specs.Prelude.{◌≡◌, ⊤, ℕ, ℤ, Bool, false, ◌+◌, ◌==◌, ◌&&◌, if◌then◌else◌, List, [], ◌∷◌, ◌++◌, Option, Some, None, codes, flat_map, length, slice_get}
 use Rattle.std.specs.Str.{bytes_eq}
 use Rattle.cf_base.specs.declared.statement.Kind.TheVariants.{Balance, Budget, Activities}
@@ -38,11 +38,13 @@ source_lines fund sources = flat_map (λ s. if s.fund == fund then None ∷ [] e
 abbrev pub fund_lines : Plan → ℕ → ℕ → ℕ → List Line → List (Option ℕ)
 fund_lines plan year fund number [] = []
 fund_lines plan year fund number (l ∷ ls) =
-    (if (l.fund == fund) && is_of_year plan year l then Some number ∷ [] else []) ++ fund_lines plan year fund (number + 1) ls
+    (if (l.fund == fund) && is_of_year plan year l then Some number ∷ [] else [])
+    ++ fund_lines plan year fund (number + 1) ls
 
 -- a fund's rows: its heading, its sources and its lines
 abbrev pub section_lines : Plan → ℕ → ℕ → List (Option ℕ)
-section_lines plan year fund = None ∷ (source_lines fund plan.sources ++ fund_lines plan year fund 0 plan.lines)
+section_lines plan year fund =
+    None ∷ (source_lines fund plan.sources ++ fund_lines plan year fund 0 plan.lines)
 
 abbrev pub sections_lines : Plan → ℕ → List Fund → List (Option ℕ)
 sections_lines plan year funds = flat_map (λ f. section_lines plan year f.id) funds
@@ -66,7 +68,8 @@ line_at lines place = line_or_none (slice_get lines place)
 abbrev pub AreOf : Sums → ℕ → List (Option ℕ) → List Row → Type 0
 AreOf sums year [] [] = ⊤
 AreOf sums year (None ∷ lines) (r ∷ rows) = AreOf sums year lines rows
-AreOf sums year (Some n ∷ lines) (r ∷ rows) = (r ≡ line_row sums year n) × AreOf sums year lines rows
+AreOf sums year (Some n ∷ lines) (r ∷ rows) = (r ≡ line_row sums year n)
+    × AreOf sums year lines rows
 AreOf sums year _ _ = ⊥
 
 -- ---- the section of each row
@@ -96,8 +99,8 @@ single_head = codes "section" ∷ codes "name" ∷ codes "amount" ∷ []
 abbrev pub single_fields : List ℕ → Row → List (List ℕ)
 single_fields section r = section ∷ r.label ∷ field_at r.amounts 0 ∷ []
 
--- the budgetary comparison (GASB Codification 2400): a line has the name of its department, and which part of that department's
--- objects it has
+-- the budgetary comparison (GASB Codification 2400): a line has the name of its department, and
+-- which part of that department's objects it has
 abbrev pub comparison_head : List (List ℕ)
 comparison_head =
     codes "section" ∷ codes "name" ∷ codes "line" ∷ codes "part" ∷ codes "part_name"
@@ -117,13 +120,17 @@ row_part_name plan (Some l) = part_name plan l.part
 
 abbrev pub compared_fields : Plan → List ℕ → Option ℕ → Row → List (List ℕ)
 compared_fields plan section line r =
-    section ∷ row_name plan (line_of plan line) r ∷ number_text line ∷ row_part plan (line_of plan line) ∷ row_part_name plan (line_of plan line)
-    ∷ field_at r.amounts 0 ∷ field_at r.amounts 1 ∷ field_at r.amounts 2 ∷ field_at r.amounts 3 ∷ field_at r.amounts 4 ∷ []
+    section ∷ row_name plan (line_of plan line) r ∷ number_text line
+    ∷ row_part plan (line_of plan line) ∷ row_part_name plan (line_of plan line)
+    ∷ field_at r.amounts 0 ∷ field_at r.amounts 1 ∷ field_at r.amounts 2 ∷ field_at r.amounts 3
+    ∷ field_at r.amounts 4 ∷ []
 
--- the statement of activities: what has one amount, as a general revenue, has it in a column of its own
+-- the statement of activities: what has one amount, as a general revenue, has it in a column of its
+-- own
 abbrev pub activities_head : List (List ℕ)
 activities_head =
-    codes "section" ∷ codes "name" ∷ codes "expenses" ∷ codes "charges" ∷ codes "operating_grants" ∷ codes "capital_grants"
+    codes "section" ∷ codes "name" ∷ codes "expenses" ∷ codes "charges" ∷ codes "operating_grants"
+    ∷ codes "capital_grants"
     ∷ codes "net_expense" ∷ codes "amount" ∷ []
 
 abbrev pub program_amounts : List ℤ → List ℤ
@@ -134,8 +141,10 @@ single_amount amounts = if length amounts == 1 then amounts else []
 
 abbrev pub activity_fields : List ℕ → Row → List (List ℕ)
 activity_fields section r =
-    section ∷ r.label ∷ field_at (program_amounts r.amounts) 0 ∷ field_at (program_amounts r.amounts) 1 ∷ field_at (program_amounts r.amounts) 2
-    ∷ field_at (program_amounts r.amounts) 3 ∷ field_at (program_amounts r.amounts) 4 ∷ field_at (single_amount r.amounts) 0 ∷ []
+    section ∷ r.label ∷ field_at (program_amounts r.amounts) 0
+    ∷ field_at (program_amounts r.amounts) 1 ∷ field_at (program_amounts r.amounts) 2
+    ∷ field_at (program_amounts r.amounts) 3 ∷ field_at (program_amounts r.amounts) 4
+    ∷ field_at (single_amount r.amounts) 0 ∷ []
 
 -- the names of the columns, and the fields under them
 abbrev pub head_of : ReportKind → List (List ℕ)
@@ -156,17 +165,22 @@ unless_heading [] text = []
 unless_heading (a ∷ amounts) text = text
 
 abbrev pub row_text : Bool → Plan → ReportKind → List ℕ → Option ℕ → Row → List ℕ
-row_text csv plan kind section line r = unless_heading r.amounts (record_text csv (fields_of plan kind (section_of kind section r) line r))
+row_text csv plan kind section line r =
+    unless_heading r.amounts
+    (record_text csv (fields_of plan kind (section_of kind section r) line r))
 
 -- the rows from a place on, below the heading of a section
 abbrev pub rows_text : Bool → Plan → ReportKind → List (Option ℕ) → List ℕ → ℕ → List Row → List ℕ
 rows_text csv plan kind lines section place [] = []
 rows_text csv plan kind lines section place (r ∷ rows) =
-    row_text csv plan kind section (line_at lines place) r ++ rows_text csv plan kind lines (section_below section r) (place + 1) rows
+    row_text csv plan kind section (line_at lines place) r
+    ++ rows_text csv plan kind lines (section_below section r) (place + 1) rows
 
 -- the names of the columns, and rows
 abbrev pub text_of : Bool → ℕ → ReportKind → Plan → List Row → List ℕ
-text_of csv year kind plan rows = head_text csv (head_of kind) ++ rows_text csv plan kind (row_lines plan year kind) [] 0 rows
+text_of csv year kind plan rows =
+    head_text csv (head_of kind) ++ rows_text csv plan kind (row_lines plan year kind) [] 0 rows
 
 abbrev pub statement_text : Bool → ℕ → ReportKind → Plan → List Entry → List ℕ
-statement_text csv year kind plan history = text_of csv year kind plan (rows_of plan history year kind)
+statement_text csv year kind plan history =
+    text_of csv year kind plan (rows_of plan history year kind)

@@ -280,8 +280,8 @@ fn text_of_posts(
     sheet.out.into_text()
 }
 
-/// Opens the book of the journal on a disk, as `cf_journal_book::open` does, with the posts of its entries,
-/// oldest first and those on the fund basis before those on the government-wide one.
+/// Opens the book of the journal on a disk, as `cf_journal_book::open` does, with the posts of its
+/// entries, oldest first and those on the fund basis before those on the government-wide one.
 pub fn open_with_posts<D: Disk + Drop>(
     alloc: Global,
     disk: D,

@@ -1,5 +1,5 @@
--- The months that a month is told with, and what is told of them: a month is what there is through its last day, less what there
--- was through the last day of the month before.
+-- The months that a month is told with, and what is told of them: a month is what there is through
+-- its last day, less what there was through the last day of the month before.
 use Rattle.std.specs.Prelude.{◌≡◌, ℕ, zero, suc, ◌+◌, ◌-◌, ◌≤◌, ◌==◌, if◌then◌else◌, ℤ, pos, ◌-ℤ◌, List, [], ◌∷◌}
 use Rattle.jiff_core.specs.Calendar.{days_in_month}
 use Rattle.cf_base.specs.declared.calendar.Day.{Day}
@@ -13,10 +13,12 @@ abbrev pub last_day : Month → Day
 last_day m = record { year = m.year; month = m.month; day = days_in_month (pos m.year) m.month }
 
 abbrev pub month_before : Month → Month
-month_before m = if m.month == 1 then record { year = m.year - 1; month = 12 } else record { year = m.year; month = m.month - 1 }
+month_before m = if m.month == 1 then record { year = m.year - 1; month = 12 }
+    else record { year = m.year; month = m.month - 1 }
 
 abbrev pub month_after : Month → Month
-month_after m = if m.month == 12 then record { year = m.year + 1; month = 1 } else record { year = m.year; month = m.month + 1 }
+month_after m = if m.month == 12 then record { year = m.year + 1; month = 1 }
+    else record { year = m.year; month = m.month + 1 }
 
 -- the same month of the year before
 abbrev pub year_before : Month → Month
@@ -44,7 +46,10 @@ pub record IsMonth (m : Month) : Type 0 where
   pub first : 1 ≤ m.month
   pub last : m.month ≤ 12
 
--- months one after another come to what there is through the last of them, less what there was before the first
+-- months one after another come to what there is through the last of them, less what there was
+-- before the first
 abbrev pub AddUp : (Day → ℤ) → Type 0
 AddUp through = (m : Month) (n : ℕ) → IsMonth m →
-    int_sum (in_month through) (months_from m n) ≡ through_month through (month_before (month_behind m n)) -ℤ through_month through (month_before m)
+    int_sum (in_month through) (months_from m n)
+    ≡ through_month through (month_before (month_behind m n)) -ℤ through_month through
+    (month_before m)

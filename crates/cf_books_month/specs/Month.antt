@@ -15,8 +15,10 @@ use Rattle.cf_books_month.specs.Rows.{month_rows}
 
 abbrev pub head : List (List ℕ)
 head =
-    codes "part" ∷ codes "fund" ∷ codes "fund_name" ∷ codes "dept" ∷ codes "dept_name" ∷ codes "line" ∷ codes "line_part" ∷ codes "line_name"
-    ∷ codes "source" ∷ codes "source_name" ∷ codes "budget" ∷ codes "month" ∷ codes "year" ∷ codes "on_order" ∷ codes "held" ∷ codes "left"
+    codes "part" ∷ codes "fund" ∷ codes "fund_name" ∷ codes "dept" ∷ codes "dept_name"
+    ∷ codes "line" ∷ codes "line_part" ∷ codes "line_name"
+    ∷ codes "source" ∷ codes "source_name" ∷ codes "budget" ∷ codes "month" ∷ codes "year"
+    ∷ codes "on_order" ∷ codes "held" ∷ codes "left"
     ∷ codes "percent_left" ∷ codes "month_before" ∷ codes "year_before" ∷ []
 
 abbrev pub state_word : Bool → List ℕ
@@ -25,17 +27,20 @@ state_word false = codes " open"
 
 -- the month, and whether it is still open
 unfoldable pub month_state : Plan → List Entry → Month → List ℕ
-month_state plan history m = codes "month " ++ (text_of_month m ++ state_word (is_month_closed plan history m))
+month_state plan history m =
+    codes "month " ++ (text_of_month m ++ state_word (is_month_closed plan history m))
 
 unfoldable pub first_fields : Plan → List Entry → Month → List (List ℕ)
 first_fields plan history m =
-    month_state plan history m ∷ [] ∷ [] ∷ [] ∷ [] ∷ [] ∷ [] ∷ [] ∷ [] ∷ [] ∷ [] ∷ [] ∷ [] ∷ [] ∷ [] ∷ [] ∷ [] ∷ [] ∷ [] ∷ []
+    month_state plan history m ∷ [] ∷ [] ∷ [] ∷ [] ∷ [] ∷ [] ∷ [] ∷ [] ∷ [] ∷ [] ∷ [] ∷ [] ∷ [] ∷ []
+    ∷ [] ∷ [] ∷ [] ∷ [] ∷ []
 
 -- all is of the fiscal year of the month
 abbrev pub month_text : Bool → Month → Plan → List Entry → List ℕ
 month_text csv m plan history =
     head_text csv head
-    ++ (record_text csv (first_fields plan history m) ++ rows_text csv plan (month_rows plan history m (year_of_month plan.first_month m)))
+    ++ (record_text csv (first_fields plan history m)
+    ++ rows_text csv plan (month_rows plan history m (year_of_month plan.first_month m)))
 
 -- an amount of a total is the sum of those of its rows, as 128 bits hold it
 abbrev pub IsTotal : Column → List Amounts → Type 0

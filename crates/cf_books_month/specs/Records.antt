@@ -21,7 +21,8 @@ abbrev pub percent : ℤ → ℤ → ℤ
 percent budget left = int_div (left *ℤ pos 10000) budget
 
 unfoldable pub percent_text : ℤ → ℤ → List ℕ
-percent_text budget left = if int_lt (pos 0) budget && is_small left then money_of (percent budget left) else []
+percent_text budget left = if int_lt (pos 0) budget && is_small left
+    then money_of (percent budget left) else []
 
 -- ---- names
 
@@ -60,10 +61,14 @@ source_text plan (Some n) = source_name (source_at plan n)
 
 unfoldable pub row_fields : Plan → MonthRow → List (List ℕ)
 row_fields plan r =
-    part_word r.part ∷ decimal r.fund ∷ fund_name (fund_at plan r.fund) ∷ number_text r.dept ∷ dept_text plan r.dept ∷ number_text r.line
-    ∷ row_part plan (line_of plan r.line) ∷ row_part_name plan (line_of plan r.line) ∷ number_text r.source ∷ source_text plan r.source
-    ∷ money_of r.amounts.budget ∷ money_of r.amounts.month ∷ money_of r.amounts.year ∷ money_of r.amounts.on_order ∷ money_of r.amounts.held
-    ∷ money_of r.amounts.left ∷ percent_text r.amounts.budget r.amounts.left ∷ money_of r.amounts.month_ago ∷ money_of r.amounts.year_ago ∷ []
+    part_word r.part ∷ decimal r.fund ∷ fund_name (fund_at plan r.fund) ∷ number_text r.dept
+    ∷ dept_text plan r.dept ∷ number_text r.line
+    ∷ row_part plan (line_of plan r.line) ∷ row_part_name plan (line_of plan r.line)
+    ∷ number_text r.source ∷ source_text plan r.source
+    ∷ money_of r.amounts.budget ∷ money_of r.amounts.month ∷ money_of r.amounts.year
+    ∷ money_of r.amounts.on_order ∷ money_of r.amounts.held
+    ∷ money_of r.amounts.left ∷ percent_text r.amounts.budget r.amounts.left
+    ∷ money_of r.amounts.month_ago ∷ money_of r.amounts.year_ago ∷ []
 
 abbrev pub rows_text : Bool → Plan → List MonthRow → List ℕ
 rows_text csv plan rows = flat_map (λ r. record_text csv (row_fields plan r)) rows

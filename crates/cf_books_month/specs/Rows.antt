@@ -1,5 +1,5 @@
--- The rows of a month: of each fund its control lines by number, the totals of its departments and of the fund, its revenue
--- sources by id, and their total.
+-- The rows of a month: of each fund its control lines by number, the totals of its departments and
+-- of the fund, its revenue sources by id, and their total.
 use Rattle.std.specs.Prelude.{ℕ, ◌+◌, ◌-◌, Bool, false, ◌==◌, ◌&&◌, ◌||◌, if◌then◌else◌, List, [], ◌∷◌, ◌++◌, Option, Some, None, flat_map, map}
 use Rattle.std.specs.List.{filter}
 use Rattle.cf_base.specs.declared.calendar.Month.{Month}
@@ -18,9 +18,11 @@ use Rattle.cf_books_month.specs.Sums.{line_amounts, source_amounts}
 
 -- ---- control lines
 
--- at the fund's level of control in the fiscal year; where another was in force in the year before, its lines too
+-- at the fund's level of control in the fiscal year; where another was in force in the year before,
+-- its lines too
 abbrev pub is_shown : Plan → ℕ → ℕ → Line → Bool
-is_shown plan year fund l = (l.fund == fund) && (is_of_year plan year l || is_of_year plan (year - 1) l)
+is_shown plan year fund l = (l.fund == fund)
+    && (is_of_year plan year l || is_of_year plan (year - 1) l)
 
 abbrev pub line_row : Plan → List Entry → Month → ℕ → ℕ → Line → MonthRow
 line_row plan history m year number l = record {
@@ -36,7 +38,8 @@ line_row plan history m year number l = record {
 abbrev pub line_rows : Plan → List Entry → Month → ℕ → ℕ → ℕ → List Line → List MonthRow
 line_rows plan history m year fund number [] = []
 line_rows plan history m year fund number (l ∷ lines) =
-    (if is_shown plan year fund l then line_row plan history m year number l ∷ [] else []) ++ line_rows plan history m year fund (number + 1) lines
+    (if is_shown plan year fund l then line_row plan history m year number l ∷ [] else [])
+    ++ line_rows plan history m year fund (number + 1) lines
 
 -- ---- revenue sources
 
@@ -51,7 +54,8 @@ source_row plan history m year s = record {
 }
 
 abbrev pub source_rows : Plan → List Entry → Month → ℕ → ℕ → List RevenueSource → List MonthRow
-source_rows plan history m year fund sources = map (source_row plan history m year) (filter (λ s. s.fund == fund) sources)
+source_rows plan history m year fund sources =
+    map (source_row plan history m year) (filter (λ s. s.fund == fund) sources)
 
 -- ---- totals
 
@@ -67,15 +71,26 @@ abbrev pub amounts_of : ℕ → List MonthRow → List Amounts
 amounts_of dept rows = amounts_in (filter (λ r. is_dept dept r.dept) rows)
 
 abbrev pub total_row : Part → ℕ → Option ℕ → List Amounts → MonthRow
-total_row p fund dept amounts = record { part = p; fund = fund; dept = dept; line = None; source = None; amounts = total amounts }
+total_row p fund dept amounts =
+    record {
+      part = p;
+      fund = fund;
+      dept = dept;
+      line = None;
+      source = None;
+      amounts =
+          total amounts;
+    }
 
 -- a department has a total in each fund that has lines of it
 abbrev pub department_row : ℕ → ℕ → List Amounts → List MonthRow
 department_row fund dept [] = []
-department_row fund dept (a ∷ amounts) = total_row part.Department fund (Some dept) (a ∷ amounts) ∷ []
+department_row fund dept (a ∷ amounts) =
+    total_row part.Department fund (Some dept) (a ∷ amounts) ∷ []
 
 abbrev pub department_rows : ℕ → List MonthRow → List Department → List MonthRow
-department_rows fund rows depts = flat_map (λ d. department_row fund d.id (amounts_of d.id rows)) depts
+department_rows fund rows depts =
+    flat_map (λ d. department_row fund d.id (amounts_of d.id rows)) depts
 
 -- ---- all
 
@@ -87,10 +102,13 @@ sources_of plan history m year fund = source_rows plan history m year fund plan.
 
 abbrev pub with_totals : Plan → ℕ → List MonthRow → List MonthRow → List MonthRow
 with_totals plan fund lines sources =
-    lines ++ (department_rows fund lines plan.departments ++ (total_row part.Fund fund None (amounts_in lines) ∷ (sources ++ total_row part.Sources fund None (amounts_in sources) ∷ [])))
+    lines ++ (department_rows fund lines plan.departments
+    ++ (total_row part.Fund fund None (amounts_in lines)
+    ∷ (sources ++ total_row part.Sources fund None (amounts_in sources) ∷ [])))
 
 unfoldable pub fund_rows : Plan → List Entry → Month → ℕ → ℕ → List MonthRow
-fund_rows plan history m year fund = with_totals plan fund (lines_of plan history m year fund) (sources_of plan history m year fund)
+fund_rows plan history m year fund =
+    with_totals plan fund (lines_of plan history m year fund) (sources_of plan history m year fund)
 
 abbrev pub funds_rows : Plan → List Entry → Month → ℕ → List Fund → List MonthRow
 funds_rows plan history m year funds = flat_map (λ f. fund_rows plan history m year f.id) funds

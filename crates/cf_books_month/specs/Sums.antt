@@ -1,5 +1,5 @@
--- What control lines spent and revenue sources received in a month and in a fiscal year through it, as the entries that are dated
--- through its last day entered it.
+-- What control lines spent and revenue sources received in a month and in a fiscal year through it,
+-- as the entries that are dated through its last day entered it.
 use Rattle.std.specs.Prelude.{◌≡◌, ℕ, ◌-◌, ℤ, pos, ◌-ℤ◌, List}
 use Rattle.cf_base.specs.declared.calendar.Day.{Day}
 use Rattle.cf_base.specs.declared.calendar.Month.{Month}
@@ -44,7 +44,8 @@ unfoldable pub received : Plan → List Entry → RevenueSource → ℕ → Day 
 received plan history source year day = fund_revenue (sums_through plan day history) year source
 
 unfoldable pub estimated : Plan → List Entry → RevenueSource → ℕ → Day → ℤ
-estimated plan history source year day = pos ((sums_through plan day history).estimate year source.id)
+estimated plan history source year day =
+    pos ((sums_through plan day history).estimate year source.id)
 
 -- ---- a month of a fiscal year
 
@@ -69,7 +70,8 @@ source_amounts plan history m year s = record {
   year = through_month (received plan history s year) m;
   on_order = pos 0;
   held = pos 0;
-  left = held (through_month (estimated plan history s year) m -ℤ through_month (received plan history s year) m);
+  left = held (through_month (estimated plan history s year) m -ℤ through_month
+      (received plan history s year) m);
   month_ago = held (in_month (received plan history s (year - 1)) (year_before m));
   year_ago = through_month (received plan history s (year - 1)) (year_before m);
 }

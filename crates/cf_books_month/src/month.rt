@@ -46,7 +46,9 @@ fn month_state(alloc: Global, rest: &Rest, month: Month) -> Result<Vec<u8>, Allo
 #[tactic(auto, unfolding(crate::specs::Month::first_fields))]
 fn put_first(alloc: Global, out: &mut Rows, rest: &Rest, month: Month) -> Result<(), AllocError>
     requires { is_call_month month ≡ true }
-    ensures { OnOk result (out.new ≡ added out.old (record_text out.old.csv (spec.first_fields rest.now.plan rest.now.entries month))) }
+    ensures { OnOk result
+        (out.new ≡ added out.old
+        (record_text out.old.csv (spec.first_fields rest.now.plan rest.now.entries month))) }
 {
     let state = month_state(alloc, rest, month)?;
     let fields: [&[u8]; 19] = [
@@ -101,22 +103,25 @@ fn put_head(out: &mut Rows) -> Result<(), AllocError>
     out.put_names(names.as_slice())
 }
 
-/// The months of a history add up, and each amount of a total is the sum of those of its rows. It does nothing: its clauses
-/// are the laws.
+/// The months of a history add up, and each amount of a total is the sum of those of its rows. It
+/// does nothing: its clauses are the laws.
 fn months_add_up(rest: &Rest)
     ensures spent { (line year : ℕ) → AddUp (spent rest.now.plan rest.now.entries line year) }
-    ensures received { (source : RevenueSource) (year : ℕ) → AddUp (received rest.now.plan rest.now.entries source year) }
+    ensures received { (source : RevenueSource) (year : ℕ)
+        → AddUp (received rest.now.plan rest.now.entries source year) }
     ensures totals { (c : Column) (amounts : List Amounts) → spec.IsTotal c amounts }
 {
     let _entries = rest.entries();
 }
 
-/// A month of a history, from 1971-01 to 2199-12, as records below the names of the columns. The first says whether the month is
-/// still open. Then come, of each fund, its control lines by number, the totals of its departments and of the fund, its revenue
-/// sources by id and their total. Each has what is appropriated of it (or estimated), what was spent (or received) in the month and
-/// in its fiscal year through it, what is on order, what requisitions hold, what is left, that in per cent of the budget with two
-/// decimals, cut off, and what was spent (or received) in the same month a year before and in that fiscal year through it. Amounts are
-/// in units of money. All is of the entries that are dated through the month's last day, as they were entered.
+/// A month of a history, from 1971-01 to 2199-12, as records below the names of the columns. The
+/// first says whether the month is still open. Then come, of each fund, its control lines by
+/// number, the totals of its departments and of the fund, its revenue sources by id and their
+/// total. Each has what is appropriated of it (or estimated), what was spent (or received) in the
+/// month and in its fiscal year through it, what is on order, what requisitions hold, what is left,
+/// that in per cent of the budget with two decimals, cut off, and what was spent (or received) in
+/// the same month a year before and in that fiscal year through it. Amounts are in units of money.
+/// All is of the entries that are dated through the month's last day, as they were entered.
 pub fn month_text(
     layout: Layout,
     rest: &Rest,
@@ -126,11 +131,13 @@ pub fn month_text(
     requires month { is_call_month month ≡ true }
     requires from { 1971 ≤ month.year }
     requires dated { IsOf rest.now.plan (all_posted rest.now.plan rest.now.entries) dated.now }
-    ensures text { IfOk result (λ v. v.items ≡ spec.month_text layout.csv month rest.now.plan rest.now.entries) }
+    ensures text { IfOk result
+        (λ v. v.items ≡ spec.month_text layout.csv month rest.now.plan rest.now.entries) }
 
     // The months of a year come to what there is through the last of them.
     ensures spent { (line year : ℕ) → AddUp (spent rest.now.plan rest.now.entries line year) }
-    ensures received { (source : RevenueSource) (year : ℕ) → AddUp (received rest.now.plan rest.now.entries source year) }
+    ensures received { (source : RevenueSource) (year : ℕ)
+        → AddUp (received rest.now.plan rest.now.entries source year) }
 
     // Each amount of a total is the sum of those of its rows.
     ensures totals { (c : Column) (amounts : List Amounts) → spec.IsTotal c amounts }

@@ -157,7 +157,8 @@ fn names_of(alloc: Global, chart: &Chart, row: &MonthRow) -> Result<Names, Alloc
     ensures fund { IfOk result (λ n. n.fund.items ≡ decimal row.now.fund) }
     ensures dept { IfOk result (λ n. n.dept.items ≡ spec.number_text row.now.dept) }
     ensures line { IfOk result (λ n. n.line.items ≡ spec.number_text row.now.line) }
-    ensures line_part { IfOk result (λ n. n.line_part.items ≡ spec.row_part chart.now (spec.line_of chart.now row.now.line)) }
+    ensures line_part { IfOk result (λ n. n.line_part.items
+        ≡ spec.row_part chart.now (spec.line_of chart.now row.now.line)) }
     ensures source { IfOk result (λ n. n.source.items ≡ spec.number_text row.now.source) }
 {
     let part = Vec::from_slice(alloc, part_word(row.part).as_bytes())?;
@@ -197,7 +198,8 @@ fn moneys_of(alloc: Global, amounts: &Amounts) -> Result<Moneys, AllocError>
     ensures on_order { IfOk result (λ m. string_bytes m.on_order ≡ money_of amounts.now.on_order) }
     ensures held { IfOk result (λ m. string_bytes m.held ≡ money_of amounts.now.held) }
     ensures left { IfOk result (λ m. string_bytes m.left ≡ money_of amounts.now.left) }
-    ensures percent { IfOk result (λ m. string_bytes m.percent ≡ spec.percent_text amounts.now.budget amounts.now.left) }
+    ensures percent { IfOk result
+        (λ m. string_bytes m.percent ≡ spec.percent_text amounts.now.budget amounts.now.left) }
     ensures month_ago { IfOk result (λ m. string_bytes m.month_ago ≡ money_of amounts.now.month_ago) }
     ensures year_ago { IfOk result (λ m. string_bytes m.year_ago ≡ money_of amounts.now.year_ago) }
 {
@@ -226,7 +228,8 @@ fn moneys_of(alloc: Global, amounts: &Amounts) -> Result<Moneys, AllocError>
 /// Writes the record of a row.
 #[tactic(auto, unfolding(crate::specs::Records::row_fields))]
 fn put_row(alloc: Global, out: &mut Rows, chart: &Chart, row: &MonthRow) -> Result<(), AllocError>
-    ensures { OnOk result (out.new ≡ added out.old (record_text out.old.csv (spec.row_fields chart.now row.now))) }
+    ensures { OnOk result
+        (out.new ≡ added out.old (record_text out.old.csv (spec.row_fields chart.now row.now))) }
 {
     let names = names_of(alloc, chart, row)?;
     let moneys = moneys_of(alloc, &row.amounts)?;
@@ -261,7 +264,8 @@ pub fn put_rows(
     chart: &Chart,
     rows: &[MonthRow],
 ) -> Result<(), AllocError>
-    ensures { OnOk result (out.new ≡ added out.old (spec.rows_text out.old.csv chart.now rows.now)) }
+    ensures { OnOk result
+        (out.new ≡ added out.old (spec.rows_text out.old.csv chart.now rows.now)) }
 {
     for row in rows {
         put_row(alloc, out, chart, row)?;

@@ -49,7 +49,8 @@ fn line_row(sums: &MonthSums, year: u16, number: u16, line: &Line) -> MonthRow
     requires from { 2 ≤ year }
     requires to { year < 2201 }
     requires line { number < length sums.now.rest.now.plan.lines }
-    ensures { result ≡ spec.line_row sums.now.rest.now.plan sums.now.rest.now.entries sums.now.month year number line.now }
+    ensures { result ≡ spec.line_row sums.now.rest.now.plan sums.now.rest.now.entries sums.now.month
+        year number line.now }
 {
     MonthRow {
         part: Part::Line,
@@ -73,7 +74,9 @@ fn line_rows(
     requires to { year < 2201 }
     requires all { lines.now ≡ sums.now.rest.now.plan.lines }
     requires few { length lines.now ≤ 4096 }
-    ensures { IfOk result (λ v. v.items ≡ spec.line_rows sums.now.rest.now.plan sums.now.rest.now.entries sums.now.month year fund 0 lines.now) }
+    ensures { IfOk result
+        (λ v. v.items ≡ spec.line_rows sums.now.rest.now.plan sums.now.rest.now.entries
+        sums.now.month year fund 0 lines.now) }
 {
     let mut rows = Vec::new(alloc);
     let mut number = 0;
@@ -92,7 +95,8 @@ fn line_rows(
 fn source_row(sums: &MonthSums, year: u16, source: &RevenueSource) -> MonthRow
     requires from { 2 ≤ year }
     requires to { year < 2201 }
-    ensures { result ≡ spec.source_row sums.now.rest.now.plan sums.now.rest.now.entries sums.now.month year source.now }
+    ensures { result ≡ spec.source_row sums.now.rest.now.plan sums.now.rest.now.entries
+        sums.now.month year source.now }
 {
     MonthRow {
         part: Part::Source,
@@ -114,7 +118,9 @@ fn source_rows(
 ) -> Result<Vec<MonthRow>, AllocError>
     requires from { 2 ≤ year }
     requires to { year < 2201 }
-    ensures { IfOk result (λ v. v.items ≡ spec.source_rows sums.now.rest.now.plan sums.now.rest.now.entries sums.now.month year fund sources.now) }
+    ensures { IfOk result
+        (λ v. v.items ≡ spec.source_rows sums.now.rest.now.plan sums.now.rest.now.entries
+        sums.now.month year fund sources.now) }
 {
     let mut rows = Vec::new(alloc);
     for source in sources {
@@ -183,7 +189,9 @@ fn put_department(
     dept: u16,
     rows: &[MonthRow],
 ) -> Result<(), AllocError>
-    ensures { OnOk result (out.new.items ≡ out.old.items ++ spec.department_row fund dept (spec.amounts_of dept rows.now)) }
+    ensures { OnOk result
+        (out.new.items ≡ out.old.items
+        ++ spec.department_row fund dept (spec.amounts_of dept rows.now)) }
 {
     let amounts = amounts_of(alloc, dept, rows)?;
     if amounts.is_empty() {
@@ -202,7 +210,8 @@ fn put_departments(
     depts: &[Department],
     rows: &[MonthRow],
 ) -> Result<(), AllocError>
-    ensures { OnOk result (out.new.items ≡ out.old.items ++ spec.department_rows fund rows.now depts.now) }
+    ensures { OnOk result
+        (out.new.items ≡ out.old.items ++ spec.department_rows fund rows.now depts.now) }
 {
     for dept in depts {
         put_department(alloc, out, fund, dept.id, rows)?;
@@ -218,7 +227,9 @@ fn put_total(
     fund: u16,
     rows: &[MonthRow],
 ) -> Result<(), AllocError>
-    ensures { OnOk result (out.new.items ≡ out.old.items ++ spec.total_row part fund None (spec.amounts_in rows.now) ∷ []) }
+    ensures { OnOk result
+        (out.new.items ≡ out.old.items ++ spec.total_row part fund None (spec.amounts_in rows.now)
+        ∷ []) }
 {
     let amounts = amounts_in(alloc, rows)?;
     out.push(total_row(part, fund, None, amounts.as_slice()))?;
@@ -227,8 +238,8 @@ fn put_total(
 
 // ---- all
 
-/// Appends the rows of a fund: its control lines, the totals of departments, the fund's total, its revenue sources, and their
-/// total.
+/// Appends the rows of a fund: its control lines, the totals of departments, the fund's total, its
+/// revenue sources, and their total.
 #[tactic(auto, unfolding(crate::specs::Rows::fund_rows))]
 fn put_fund(
     alloc: Global,
@@ -239,7 +250,10 @@ fn put_fund(
 ) -> Result<(), AllocError>
     requires from { 2 ≤ year }
     requires to { year < 2201 }
-    ensures { OnOk result (out.new.items ≡ out.old.items ++ spec.fund_rows sums.now.rest.now.plan sums.now.rest.now.entries sums.now.month year fund) }
+    ensures { OnOk result
+        (out.new.items ≡ out.old.items
+        ++ spec.fund_rows sums.now.rest.now.plan sums.now.rest.now.entries sums.now.month year
+        fund) }
 {
     let chart = sums.chart();
     let lines = line_rows(alloc, sums, year, fund, chart.lines())?;
@@ -261,7 +275,10 @@ fn put_funds(
 ) -> Result<(), AllocError>
     requires from { 2 ≤ year }
     requires to { year < 2201 }
-    ensures { OnOk result (out.new.items ≡ out.old.items ++ spec.funds_rows sums.now.rest.now.plan sums.now.rest.now.entries sums.now.month year funds.now) }
+    ensures { OnOk result
+        (out.new.items ≡ out.old.items
+        ++ spec.funds_rows sums.now.rest.now.plan sums.now.rest.now.entries sums.now.month year
+        funds.now) }
 {
     for fund in funds {
         put_fund(alloc, out, sums, year, fund.id)?;
@@ -274,7 +291,9 @@ fn put_funds(
 pub fn month_rows(alloc: Global, sums: &MonthSums, year: u16) -> Result<Vec<MonthRow>, AllocError>
     requires from { 2 ≤ year }
     requires to { year < 2201 }
-    ensures { IfOk result (λ v. v.items ≡ spec.month_rows sums.now.rest.now.plan sums.now.rest.now.entries sums.now.month year) }
+    ensures { IfOk result
+        (λ v. v.items ≡ spec.month_rows sums.now.rest.now.plan sums.now.rest.now.entries
+        sums.now.month year) }
 {
     let mut rows = Vec::new(alloc);
     put_funds(alloc, &mut rows, sums, year, sums.chart().funds())?;

@@ -1,5 +1,5 @@
-//! The amounts of control lines and of revenue sources in a month, of sums through four days: the last of the month, the last
-//! of the month before, and those of a year before.
+//! The amounts of control lines and of revenue sources in a month, of sums through four days: the
+//! last of the month, the last of the month before, and those of a year before.
 
 ghost use Rattle.std.specs.Prelude.{◌≡◌, ◌≤◌, ◌<◌, length, IfOk};
 ghost use Rattle.cf_base.specs.Limits.{last_year};
@@ -91,7 +91,8 @@ fn numbers_in(rest: &Rest, sums: &DaySums, line: u16, year: u16) -> LineNumbers
 #[tactic(auto, unfolding(crate::specs::Sums::received))]
 fn received_in(sums: &DaySums, source: &RevenueSource, year: u16) -> i128
     requires { 1 ≤ year }
-    ensures { result ≡ spec.received sums.now.rest.now.plan sums.now.rest.now.entries source.now year sums.now.day }
+    ensures { result ≡ spec.received sums.now.rest.now.plan sums.now.rest.now.entries source.now
+        year sums.now.day }
 {
     -in_year(sums, year, source.fund, 400_000 + u32::from(source.id))
 }
@@ -99,7 +100,8 @@ fn received_in(sums: &DaySums, source: &RevenueSource, year: u16) -> i128
 /// What is estimated of a revenue source for a fiscal year.
 #[tactic(auto, unfolding(crate::specs::Sums::estimated))]
 fn estimated_in(sums: &DaySums, source: &RevenueSource, year: u16) -> i128
-    ensures { result ≡ spec.estimated sums.now.rest.now.plan sums.now.rest.now.entries source.now year sums.now.day }
+    ensures { result ≡ spec.estimated sums.now.rest.now.plan sums.now.rest.now.entries source.now
+        year sums.now.day }
 {
     i128::from(sums.estimate(year, source.id))
 }
@@ -128,7 +130,8 @@ impl<'a> MonthSums<'a> {
     fn numbers(&self, at: At, line: u16, year: u16) -> LineNumbers
         requires line { line < length self.now.rest.now.plan.lines }
         requires year { year < 2201 }
-        ensures { result ≡ spec.numbers_through self.now.rest.now.plan self.now.rest.now.entries line year (spec.day_at at self.now.month) }
+        ensures { result ≡ spec.numbers_through self.now.rest.now.plan self.now.rest.now.entries
+            line year (spec.day_at at self.now.month) }
     {
         numbers_in(self.rest, self.sums(at), line, year)
     }
@@ -136,25 +139,29 @@ impl<'a> MonthSums<'a> {
     /// What a revenue source received in a fiscal year, through a day.
     fn received(&self, at: At, source: &RevenueSource, year: u16) -> i128
         requires { 1 ≤ year }
-        ensures { result ≡ spec.received self.now.rest.now.plan self.now.rest.now.entries source.now year (spec.day_at at self.now.month) }
+        ensures { result ≡ spec.received self.now.rest.now.plan self.now.rest.now.entries source.now
+            year (spec.day_at at self.now.month) }
     {
         received_in(self.sums(at), source, year)
     }
 
     /// What is estimated of a revenue source for a fiscal year, through a day.
     fn estimated(&self, at: At, source: &RevenueSource, year: u16) -> i128
-        ensures { result ≡ spec.estimated self.now.rest.now.plan self.now.rest.now.entries source.now year (spec.day_at at self.now.month) }
+        ensures { result ≡ spec.estimated self.now.rest.now.plan self.now.rest.now.entries
+            source.now year (spec.day_at at self.now.month) }
     {
         estimated_in(self.sums(at), source, year)
     }
 
-    /// The amounts of a control line in the month and in a fiscal year, 2 to 2200, with those of the year before.
+    /// The amounts of a control line in the month and in a fiscal year, 2 to 2200, with those of
+    /// the year before.
     #[tactic(auto, unfolding(crate::specs::Sums::line_amounts))]
     pub fn line_amounts(&self, year: u16, line: u16) -> Amounts
         requires line { line < length self.now.rest.now.plan.lines }
         requires from { 2 ≤ year }
         requires to { year < 2201 }
-        ensures { result ≡ spec.line_amounts self.now.rest.now.plan self.now.rest.now.entries self.now.month year line }
+        ensures { result ≡ spec.line_amounts self.now.rest.now.plan self.now.rest.now.entries
+            self.now.month year line }
     {
         let now = self.numbers(At::Last, line, year);
         let before = self.numbers(At::Before, line, year);
@@ -172,11 +179,13 @@ impl<'a> MonthSums<'a> {
         }
     }
 
-    /// The amounts of a revenue source in the month and in a fiscal year, 2 to 2200, with those of the year before.
+    /// The amounts of a revenue source in the month and in a fiscal year, 2 to 2200, with those of
+    /// the year before.
     #[tactic(auto, unfolding(crate::specs::Sums::source_amounts))]
     pub fn source_amounts(&self, year: u16, source: &RevenueSource) -> Amounts
         requires from { 2 ≤ year }
-        ensures { result ≡ spec.source_amounts self.now.rest.now.plan self.now.rest.now.entries self.now.month year source.now }
+        ensures { result ≡ spec.source_amounts self.now.rest.now.plan self.now.rest.now.entries
+            self.now.month year source.now }
     {
         let estimate = self.estimated(At::Last, source, year);
         let now = self.received(At::Last, source, year);

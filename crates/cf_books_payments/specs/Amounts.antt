@@ -16,7 +16,8 @@ leave_amount (Earn a) = a.amount
 leave_amount (Use a) = a.amount
 leave_amount (Mature m) = m.amount
 
--- the amount of an act in cents, where it states one: the sum of its items, for an adoption of its lines
+-- the amount of an act in cents, where it states one: the sum of its items, for an adoption of its
+-- lines
 abbrev pub amount_of : Act → Option ℤ
 amount_of (Adopt a) = Some (pos (sum_by (λ i. i.amount) a.lines))
 amount_of (Amend a) = Some a.by

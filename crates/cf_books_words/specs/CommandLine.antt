@@ -14,7 +14,8 @@ bare = record { top = bare_shape; subs = [] }
 
 -- the words that are no options: a command, and up to three behind it
 abbrev pub place_rules : List Rule
-place_rules = new_rule (codes "command") ∷ new_rule (codes "first") ∷ new_rule (codes "second") ∷ new_rule (codes "third") ∷ []
+place_rules = new_rule (codes "command") ∷ new_rule (codes "first") ∷ new_rule (codes "second")
+    ∷ new_rule (codes "third") ∷ []
 
 -- the options without a value
 abbrev pub flag_rules : List Rule

@@ -52,7 +52,18 @@ ledger_filter_in days rows = do
   source ← id_in (codes "source") rows
   vendor ← option_in 0 4294967295 (first_of (codes "vendor") rows)
   year ← option_year_in rows
-  Some (record { fund = fund; dept = dept; object = object; line = line; source = source; vendor = vendor; year = year; from = days.from; through = days.through })
+  Some (record {
+    fund = fund;
+    dept = dept;
+    object = object;
+    line = line;
+    source = source;
+    vendor =
+        vendor;
+    year = year;
+    from = days.from;
+    through = days.through;
+  })
 
 abbrev pub document_kind_of : Text → Option DocumentKind
 document_kind_of text =

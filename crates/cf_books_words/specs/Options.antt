@@ -18,8 +18,10 @@ use Rattle.cf_books_words.specs.Words.{Read, ◌>>=◌, or_refuse}
 -- the options with a value, and those without
 abbrev pub option_names : List Text
 option_names =
-    codes "year" ∷ codes "fund" ∷ codes "account" ∷ codes "entries" ∷ codes "through" ∷ codes "from" ∷ codes "dept" ∷ codes "object"
-    ∷ codes "line" ∷ codes "source" ∷ codes "vendor" ∷ codes "kind" ∷ codes "party" ∷ codes "key" ∷ codes "amount" ∷ []
+    codes "year" ∷ codes "fund" ∷ codes "account" ∷ codes "entries" ∷ codes "through" ∷ codes "from"
+    ∷ codes "dept" ∷ codes "object"
+    ∷ codes "line" ∷ codes "source" ∷ codes "vendor" ∷ codes "kind" ∷ codes "party" ∷ codes "key"
+    ∷ codes "amount" ∷ []
 
 abbrev pub flag_names : List Text
 flag_names = codes "csv" ∷ codes "alone" ∷ []
@@ -33,14 +35,18 @@ options_of word.Calls = codes "entries" ∷ []
 options_of word.Chart = []
 options_of word.Lines = codes "entries" ∷ []
 options_of word.Claims = codes "csv" ∷ []
-options_of word.Posts = codes "csv" ∷ codes "entries" ∷ codes "through" ∷ codes "year" ∷ codes "fund" ∷ codes "account" ∷ []
+options_of word.Posts =
+    codes "csv" ∷ codes "entries" ∷ codes "through" ∷ codes "year" ∷ codes "fund" ∷ codes "account"
+    ∷ []
 options_of word.Balances = codes "csv" ∷ codes "entries" ∷ codes "through" ∷ codes "alone" ∷ []
 options_of word.Open = codes "csv" ∷ codes "entries" ∷ []
 options_of word.Statement = codes "csv" ∷ codes "entries" ∷ codes "through" ∷ []
 options_of word.Ledger =
-    codes "csv" ∷ codes "entries" ∷ codes "through" ∷ codes "from" ∷ codes "fund" ∷ codes "dept" ∷ codes "object" ∷ codes "line" ∷ codes "source"
+    codes "csv" ∷ codes "entries" ∷ codes "through" ∷ codes "from" ∷ codes "fund" ∷ codes "dept"
+    ∷ codes "object" ∷ codes "line" ∷ codes "source"
     ∷ codes "vendor" ∷ codes "year" ∷ []
-options_of word.Documents = codes "csv" ∷ codes "entries" ∷ codes "kind" ∷ codes "party" ∷ codes "key" ∷ codes "amount" ∷ []
+options_of word.Documents =
+    codes "csv" ∷ codes "entries" ∷ codes "kind" ∷ codes "party" ∷ codes "key" ∷ codes "amount" ∷ []
 options_of word.Month = codes "csv" ∷ codes "entries" ∷ []
 options_of word.Paid = codes "csv" ∷ codes "entries" ∷ []
 
@@ -57,7 +63,8 @@ abbrev pub is_own_flag : List Row → List Text → Text → Bool
 is_own_flag rows own name = not (is_set (first_of name rows)) || is_listed own name
 
 abbrev pub has_only : List Row → List Text → Bool
-has_only rows own = list_all (is_own rows own) option_names && list_all (is_own_flag rows own) flag_names
+has_only rows own = list_all (is_own rows own) option_names
+    && list_all (is_own_flag rows own) flag_names
 
 -- ---- how an option is read
 

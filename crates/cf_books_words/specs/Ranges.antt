@@ -48,8 +48,10 @@ pub record IsLedgerInRange (f : LedgerFilter) : Type 0 where
 abbrev pub IsInRange : Command → Type 0
 IsInRange (command.Claims grant csv) = IsFrom 1 9999 grant
 IsInRange (command.Posts filter through csv) = IsFilterInRange filter × IsOptionDay through
-IsInRange (command.Balances year through alone csv) = IsFrom 1971 last_year year × IsOptionDay through
-IsInRange (command.Statement year kind through csv) = IsFrom 1971 last_year year × IsOptionDay through
+IsInRange (command.Balances year through alone csv) = IsFrom 1971 last_year year
+    × IsOptionDay through
+IsInRange (command.Statement year kind through csv) = IsFrom 1971 last_year year
+    × IsOptionDay through
 IsInRange (command.Ledger filter csv) = IsLedgerInRange filter
 IsInRange (command.Month month csv) = IsAskedMonth month
 IsInRange (command.Paid year csv) = IsFrom 1971 last_year year

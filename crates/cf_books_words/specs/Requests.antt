@@ -60,7 +60,8 @@ last_word file (Some more) = Err BadWords
 -- the file of a command, behind its own words
 abbrev pub file_behind : ℕ → List Row → Read (Option Text)
 file_behind zero rows = last_word (first_of (codes "first") rows) (first_of (codes "second") rows)
-file_behind (suc zero) rows = last_word (first_of (codes "second") rows) (first_of (codes "third") rows)
+file_behind (suc zero) rows =
+    last_word (first_of (codes "second") rows) (first_of (codes "third") rows)
 file_behind (suc (suc n)) rows = Ok (first_of (codes "third") rows)
 
 -- the month of the word behind `month`
@@ -111,4 +112,10 @@ asked_in rows = do
   file ← file_behind (words_of word) rows
   days ← days_in rows
   command ← command_in days rows word
-  Ok (record { command = command; file = file; entries = entries; key = first_of (codes "key") rows })
+  Ok (record {
+    command = command;
+    file = file;
+    entries = entries;
+    key =
+        first_of (codes "key") rows;
+  })

@@ -8,8 +8,8 @@ use Rattle.cf_books_words.specs.declared.words.Request.{Request}
 use Rattle.cf_books_words.specs.declared.words.WordsRefused.{WordsRefused}
 use Rattle.cf_books_words.specs.declared.words.WordsRefused.TheVariants.{BadWords, NoMemory, NoSuchDay}
 
--- a command with what stands beside it, where it is named: the file that it reads, how many of the journal's first
--- entries it is said of, and what the key of a document contains
+-- a command with what stands beside it, where it is named: the file that it reads, how many of the
+-- journal's first entries it is said of, and what the key of a document contains
 pub record Asked : Type 0 where
   pub command : Command
   pub file : Option Text
@@ -53,7 +53,13 @@ texts (Err e) = Err e
 -- ---- answers, where want of memory is free
 
 abbrev pub asks : Request → Asked
-asks r = record { command = r.command; file = option_map (λ f. f.now) r.file; entries = r.entries; key = option_map (λ k. k.now) r.key }
+asks r = record {
+  command = r.command;
+  file = option_map (λ f. f.now) r.file;
+  entries =
+      r.entries;
+  key = option_map (λ k. k.now) r.key;
+}
 
 abbrev pub Gives : Result Request WordsRefused → Read Asked → Type 0
 Gives (Ok r) x = x ≡ Ok (asks r)

@@ -1,4 +1,5 @@
--- The trial balance of a year alone balances, where that through the year does and that through the year before.
+-- The trial balance of a year alone balances, where that through the year does and that through the
+-- year before.
 use Rattle.std.proofs.Common.{◌≡◌, ◌<◌, ◌+◌, ◌∙◌, ◌+ℤ◌, ◌-ℤ◌, ◌-◌, ℕ, ℤ, pos, Bool, true, false, if◌then◌else◌, List, [], ◌∷◌, sym, ap, arith, add-one, drop, drop-cons, get_or, length}
 use Rattle.std.proofs.lemmas.Int.{ints}
 use Rattle.cf_model_articulation.specs.TrialBalances.{Balances, fund_accounts, gov_accounts}
@@ -15,7 +16,8 @@ one_year : (b : Bool) (now was : ℤ) (rest all before kept : ℤ) → rest ≡ 
 one_year true now was rest all before kept is = omega (arith, ints, is)
 one_year false now was rest all before kept is = omega (arith, ints, is)
 
--- the year alone is what is through it less what was through the year before, but for the accounts that go on
+-- the year alone is what is through it less what was through the year before, but for the accounts
+-- that go on
 split : (basis : Basis) (plan : Plan) (year fund : ℕ) (h : List Entry) (accounts : List ℕ) →
     int_sum (year_balance basis plan year fund h) accounts
     ≡ (int_sum (λ a. balance_of basis plan year fund a h) accounts -ℤ int_sum (λ a. balance_of basis plan (year - 1) fund a h) accounts)

@@ -1,4 +1,5 @@
-//! Changes of line numbers, merged by line and year before they are applied: what a call asks of a line is a sum.
+//! Changes of line numbers, merged by line and year before they are applied: what a call asks of a
+//! line is a sum.
 
 ghost use Rattle.std.specs.Prelude.{◌≡◌, ◌<◌, ◌≤◌, ◌+◌, ℕ, Bool, true, false, length, OnOk, IfSome, IfNone, set, get_or};
 ghost use Rattle.std.specs.List.{All, list_all, list_any};
@@ -36,7 +37,8 @@ impl Default for LineChange {
 /// Reserves the lines and years of changes. No number changes.
 pub fn reserve(lines: &mut Lines, changes: &[LineChange]) -> Result<(), AllocError>
     requires there { All (λ c. has_line lines.old c.line.number ≡ true) changes.now }
-    ensures rows { OnOk result (All (λ c. has_row lines.new c.line.number c.year ≡ true) changes.now) }
+    ensures rows { OnOk result
+        (All (λ c. has_row lines.new c.line.number c.year ≡ true) changes.now) }
     ensures same { SameRows lines.old lines.new }
     ensures stripes { SameStripes lines.old lines.new }
 {
@@ -61,17 +63,21 @@ pub fn apply(lines: &mut Lines, changes: &[LineChange])
 /// Changes of at most 64 lines and years, which take no memory.
 pub type MergedChanges = ArrayVec<LineChange, 64>;
 
-/// Adds a change of a line and year to what is changed of them: there is one change a line and year. It takes no
-/// memory.
+/// Adds a change of a line and year to what is changed of them: there is one change a line and
+/// year. It takes no memory.
 pub fn merge(changes: &mut MergedChanges, change: &LineChange)
     requires apart { is_distinct same_place changes.old.items ≡ true }
-    requires held { AreHeld (row_plus (changes_at changes.old.items change.now.line.number change.now.year) change.now.by) }
+    requires held { AreHeld
+        (row_plus (changes_at changes.old.items change.now.line.number change.now.year)
+        change.now.by) }
     requires room { length changes.old.items < 64 }
     ensures few { length changes.new.items ≤ length changes.old.items + 1 }
     ensures apart { is_distinct same_place changes.new.items ≡ true }
-    ensures adds { Adds changes.old.items changes.new.items change.now.line.number change.now.year change.now.by }
+    ensures adds { Adds changes.old.items changes.new.items change.now.line.number change.now.year
+        change.now.by }
     ensures places { (p : ℕ → ℕ → Bool) → p change.now.line.number change.now.year ≡ true →
-        list_all (λ c. p c.line.number c.year) changes.old.items ≡ true → list_all (λ c. p c.line.number c.year) changes.new.items ≡ true }
+        list_all (λ c. p c.line.number c.year) changes.old.items ≡ true
+        → list_all (λ c. p c.line.number c.year) changes.new.items ≡ true }
 {
     match place_of(changes.as_slice(), change) {
         Some(k) => add_at(changes.as_mut_slice(), k, &change.by),
@@ -101,7 +107,8 @@ fn place_of(changes: &[LineChange], change: &LineChange) -> Option<usize>
 fn add_at(changes: &mut [LineChange], k: usize, by: &Row)
     requires within { k < length changes.old }
     requires held { (d : Change) → AreHeld (row_plus (get_or changes.old k d).by by.now) }
-    ensures { (d : Change) → changes.new ≡ set changes.old k (added (get_or changes.old k d) by.now) }
+    ensures { (d : Change)
+        → changes.new ≡ set changes.old k (added (get_or changes.old k d) by.now) }
 {
     let mut change = changes[k];
     change.by = plus(&change.by, by);

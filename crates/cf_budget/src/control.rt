@@ -5,8 +5,9 @@ ghost use Rattle.cf_calls.specs.Refusals.{overspends};
 
 use cf_calls::Refusal;
 
-/// The refusal of a line of which more is asked than it has room for (GASB Codification 1700: budgetary control). Amounts are in
-/// cents; nothing is refused where nothing is asked, though the room be below zero.
+/// The refusal of a line of which more is asked than it has room for (GASB Codification 1700:
+/// budgetary control). Amounts are in cents; nothing is refused where nothing is asked, though the
+/// room be below zero.
 pub fn line_refusal(line: u16, asked: i128, room: i128) -> Option<Refusal>
     ensures { result ≡ overspends line asked room }
 {

@@ -11,7 +11,9 @@ charged_item (OnOrder item order how) = Some (order, item)
 charged_item Direct = None
 
 -- two charges are the same where they are against one item
-pub same_charged : (a b : Charge) → same_charge a b ≡ same_key (λ x y. (x.0 == y.0) && (x.1 == y.1)) (charged_item a) (charged_item b)
+pub same_charged : (a b : Charge)
+    → same_charge a b ≡ same_key (λ x y. (x.0 == y.0) && (x.1 == y.1)) (charged_item a)
+    (charged_item b)
 same_charged (OnOrder i o h) (OnOrder j p k) = refl
 same_charged (OnOrder i o h) Direct = refl
 same_charged Direct (OnOrder j p k) = refl

@@ -1,4 +1,5 @@
--- What it means that a call is in form: the types, ranges and rules that are tested before the office is asked.
+-- What it means that a call is in form: the types, ranges and rules that are tested before the
+-- office is asked.
 use Rattle.std.specs.Prelude.{◌≡◌, ◌≢◌, ℕ, ◌+◌, ◌*◌, ◌<◌, ◌≤◌, Bool, true, false, not, ◌==◌, ◌||◌, ◌&&◌, nat_le, List, [], ◌∷◌, length, sum, None, ℤ, negsuc, int_lt, unsigned_abs}
 use Rattle.std.specs.List.{list_any, list_all}
 use Rattle.cf_base.specs.declared.calendar.Day.{Day}
@@ -109,9 +110,11 @@ pub record IsIssueForm (on : Day) (i : BondIssue) : Type 0 where
   pub every : is_period i.every ≡ true
   pub principals : IsCount 1 120 (length i.principals)
   pub total : sum i.principals ≡ i.amount
-  pub last_due : month_number on.year on.month + i.every * length i.principals ≤ month_number last_year 12
+  pub last_due : month_number on.year on.month + i.every * length i.principals
+      ≤ month_number last_year 12
 
--- a lease's schedule is that of an issue, and its term is above 12 months (GASB Statement 87: a shorter lease is no lease liability)
+-- a lease's schedule is that of an issue, and its term is above 12 months (GASB Statement 87: a
+-- shorter lease is no lease liability)
 pub record IsLeaseForm (on : Day) (l : NewLease) : Type 0 where
   pub schedule : IsIssueForm on (schedule_of l)
   pub term : 12 < term_of l
@@ -133,7 +136,8 @@ IsActInForm on (Requisition r) = IsCount 1 32 (length r.items)
 IsActInForm on (Order o) = IsCount 1 32 (length o.items)
 IsActInForm on (ChangeOrder c) = (1 ≤ c.item) × (is_by c.by ≡ true)
 IsActInForm on (Voucher v) = IsVoucherForm v.items
-IsActInForm on (Pay p) = IsCount 1 64 (length p.vouchers) × (is_distinct same_number p.vouchers ≡ true)
+IsActInForm on (Pay p) = IsCount 1 64 (length p.vouchers)
+    × (is_distinct same_number p.vouchers ≡ true)
 IsActInForm on (Bill b) = IsYear b.levy_year
 IsActInForm on (Issue i) = IsIssueForm on i
 IsActInForm on (Interfund m) = m.from ≢ m.to
@@ -167,13 +171,14 @@ IsCallInForm (call.Look l) = IsReadInForm l.read
 
 -- ---- entries
 
--- the amounts of an act keep the limits: from 1 to 10^13 cents each, for a signed change its size, and for proceeds and
--- principals at most 10^13
+-- the amounts of an act keep the limits: from 1 to 10^13 cents each, for a signed change its size,
+-- and for proceeds and principals at most 10^13
 abbrev pub is_most : ℕ → Bool
 is_most n = nat_le n most_cents
 
 abbrev pub IsWithinLimits : Act → Type 0
-IsWithinLimits (Adopt a) = (list_all (λ x. is_amount x.amount) a.lines ≡ true) × (list_all (λ x. is_amount x.amount) a.estimates ≡ true)
+IsWithinLimits (Adopt a) = (list_all (λ x. is_amount x.amount) a.lines ≡ true)
+    × (list_all (λ x. is_amount x.amount) a.estimates ≡ true)
 IsWithinLimits (Amend a) = is_amount (unsigned_abs a.by) ≡ true
 IsWithinLimits (Transfer t) = is_amount t.amount ≡ true
 IsWithinLimits (Requisition r) = list_all (λ x. is_amount x.amount) r.items ≡ true
@@ -191,7 +196,8 @@ IsWithinLimits (Leave (Earn a)) = is_amount a.amount ≡ true
 IsWithinLimits (Leave (Use a)) = is_amount a.amount ≡ true
 IsWithinLimits (Leave (Mature m)) = is_amount m.amount ≡ true
 IsWithinLimits (Interfund m) = is_amount m.amount ≡ true
-IsWithinLimits (Lease l) = (is_amount l.account.amount ≡ true) × (list_all is_most l.principals ≡ true)
+IsWithinLimits (Lease l) = (is_amount l.account.amount ≡ true)
+    × (list_all is_most l.principals ≡ true)
 IsWithinLimits _ = Unit {0}
 
 -- a debt payment's number is at most 65,535
@@ -209,7 +215,8 @@ HasDrawn Payment d = d.second ≡ 0
 abbrev pub IsDrawn : Act → Drawn → Type 0
 IsDrawn a d = HasDrawn (draws_of a) d
 
--- an entry in form: its change is, has no `after` and keeps the limits, and its drawn numbers are those of its kind
+-- an entry in form: its change is, has no `after` and keeps the limits, and its drawn numbers are
+-- those of its kind
 pub record IsEntryInForm (e : Entry) : Type 0 where
   pub change : IsChangeInForm e.change
   pub no_after : e.change.after ≡ None

@@ -1,4 +1,5 @@
--- The table of calls: what each of the 22 kinds has, once. What tells calls apart by their kind alone reads it.
+-- The table of calls: what each of the 22 kinds has, once. What tells calls apart by their kind
+-- alone reads it.
 use Rattle.std.specs.Prelude.{ℕ, ◌==◌, List, [], ◌∷◌, codes, Option, find}
 use Rattle.std.specs.Str.{bytes_eq}
 use Rattle.cf_calls.specs.declared.acts.Act.{Act}
@@ -11,7 +12,8 @@ use Rattle.cf_calls.specs.declared.kind.Draws.TheVariants.{Nothing, Number, Both
 use Rattle.cf_calls.specs.declared.role.Role.{Role}
 use Rattle.cf_calls.specs.declared.role.Role.TheVariants.{Council, Dept, Purchasing, Payables, Treasury, Revenue, Assets, Payroll, Controller}
 
--- the call's word, the number of its kind in a journal, the role that its desk needs, which numbers it draws
+-- the call's word, the number of its kind in a journal, the role that its desk needs, which numbers
+-- it draws
 pub record Row : Type 0 where
   pub word : List ℕ
   pub code : ℕ
@@ -47,8 +49,10 @@ row_of Lease = call (codes "lease") 22 Treasury Both
 
 abbrev pub kinds : List ActKind
 kinds =
-    Adopt ∷ Amend ∷ Transfer ∷ Requisition ∷ Withdraw ∷ Order ∷ ChangeOrder ∷ CancelOrder ∷ Voucher ∷ VoidVoucher ∷ Pay
-    ∷ Bill ∷ Collect ∷ Receive ∷ WriteOff ∷ Asset ∷ Issue ∷ PayDue ∷ Leave ∷ Interfund ∷ Close ∷ Lease ∷ []
+    Adopt ∷ Amend ∷ Transfer ∷ Requisition ∷ Withdraw ∷ Order ∷ ChangeOrder ∷ CancelOrder ∷ Voucher
+    ∷ VoidVoucher ∷ Pay
+    ∷ Bill ∷ Collect ∷ Receive ∷ WriteOff ∷ Asset ∷ Issue ∷ PayDue ∷ Leave ∷ Interfund ∷ Close
+    ∷ Lease ∷ []
 
 abbrev pub kind_of : Act → ActKind
 kind_of (act.Adopt a) = Adopt

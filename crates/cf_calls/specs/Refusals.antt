@@ -1,4 +1,5 @@
--- The place of each refusal in the order of the rules, its name, and the refusal of a control line that has too little room.
+-- The place of each refusal in the order of the rules, its name, and the refusal of a control line
+-- that has too little room.
 use Rattle.std.specs.Prelude.{ℕ, ◌-◌, ℤ, pos, int_lt, Bool, if◌then◌else◌, ◌&&◌, List, [], ◌∷◌, slice_index_or, codes, Option, Some, None}
 use Rattle.cf_calls.specs.declared.refusal.Refusal.{Refusal}
 use Rattle.cf_calls.specs.declared.refusal.Refusal.TheVariants as refusal
@@ -33,9 +34,12 @@ number_of (refusal.CashShort f c a) = 25
 -- the names of the refusals, in that order
 abbrev pub refusal_names : List (List ℕ)
 refusal_names =
-    codes "DeskUnknown" ∷ codes "Ahead" ∷ codes "KeyReused" ∷ codes "NotThisDesk" ∷ codes "HistoryFull" ∷ codes "AmountRange" ∷ codes "UnknownName"
-    ∷ codes "PeriodClosed" ∷ codes "YearNotOpen" ∷ codes "YearClosed" ∷ codes "Adopted" ∷ codes "NotAdopted" ∷ codes "DocState" ∷ codes "SameHand"
-    ∷ codes "NotOnOrder" ∷ codes "OverOpen" ∷ codes "OverReceivable" ∷ codes "AssetState" ∷ codes "NotDue" ∷ codes "LeaveShort" ∷ codes "MonthOrder"
+    codes "DeskUnknown" ∷ codes "Ahead" ∷ codes "KeyReused" ∷ codes "NotThisDesk"
+    ∷ codes "HistoryFull" ∷ codes "AmountRange" ∷ codes "UnknownName"
+    ∷ codes "PeriodClosed" ∷ codes "YearNotOpen" ∷ codes "YearClosed" ∷ codes "Adopted"
+    ∷ codes "NotAdopted" ∷ codes "DocState" ∷ codes "SameHand"
+    ∷ codes "NotOnOrder" ∷ codes "OverOpen" ∷ codes "OverReceivable" ∷ codes "AssetState"
+    ∷ codes "NotDue" ∷ codes "LeaveShort" ∷ codes "MonthOrder"
     ∷ codes "DebtDue" ∷ codes "WindowOpen" ∷ codes "Exceeds" ∷ codes "CashShort" ∷ []
 
 -- the name at a place, counted from 1
@@ -52,4 +56,5 @@ exceeds asked room = int_lt (pos 0) asked && int_lt room asked
 
 -- the refusal of a line of which so much is asked, in cents
 abbrev pub overspends : ℕ → ℤ → ℤ → Option Refusal
-overspends line asked room = if exceeds asked room then Some (refusal.Exceeds line asked room) else None
+overspends line asked room = if exceeds asked room then Some (refusal.Exceeds line asked room)
+    else None

@@ -1,4 +1,5 @@
--- Whether two changes are the same call, `after` aside: the values of all fields, one after another.
+-- Whether two changes are the same call, `after` aside: the values of all fields, one after
+-- another.
 use Rattle.std.specs.Prelude.{ℕ, Bool, true, false, ◌==◌, ◌&&◌, nat_eq, List, Option, Some, None}
 use Rattle.std.specs.Cmp.Lexicographic.{pointwise}
 use Rattle.std.specs.Ordering.{int_eq}
@@ -46,7 +47,8 @@ abbrev pub is_source_amount : SourceAmount → SourceAmount → Bool
 is_source_amount a b = (a.source == b.source) && (a.amount == b.amount)
 
 abbrev pub is_account_item : AccountItem → AccountItem → Bool
-is_account_item a b = (a.fund == b.fund) && (a.dept == b.dept) && (a.object == b.object) && (a.amount == b.amount)
+is_account_item a b = (a.fund == b.fund) && (a.dept == b.dept) && (a.object == b.object)
+    && (a.amount == b.amount)
 
 abbrev pub is_liquidation : Liquidation → Liquidation → Bool
 is_liquidation Lesser Lesser = true
@@ -75,39 +77,51 @@ same_flag false true = false
 same_flag false false = true
 
 abbrev pub same_adoption : Adoption → Adoption → Bool
-same_adoption a b = (a.fund == b.fund) && (a.year == b.year) && pointwise is_line_amount a.lines b.lines && pointwise is_source_amount a.estimates b.estimates
+same_adoption a b = (a.fund == b.fund) && (a.year == b.year)
+    && pointwise is_line_amount a.lines b.lines
+    && pointwise is_source_amount a.estimates b.estimates
 
 abbrev pub same_amendment : Amendment → Amendment → Bool
-same_amendment a b = (a.fund == b.fund) && (a.year == b.year) && (a.line == b.line) && int_eq a.by b.by
+same_amendment a b = (a.fund == b.fund) && (a.year == b.year) && (a.line == b.line)
+    && int_eq a.by b.by
 
 abbrev pub same_transfer : LineTransfer → LineTransfer → Bool
-same_transfer a b = (a.fund == b.fund) && (a.year == b.year) && (a.from == b.from) && (a.to == b.to) && (a.amount == b.amount)
+same_transfer a b = (a.fund == b.fund) && (a.year == b.year) && (a.from == b.from) && (a.to == b.to)
+    && (a.amount == b.amount)
 
 abbrev pub same_order : NewOrder → NewOrder → Bool
-same_order a b = (a.vendor == b.vendor) && same_option a.requisition b.requisition && pointwise is_account_item a.items b.items
+same_order a b = (a.vendor == b.vendor) && same_option a.requisition b.requisition
+    && pointwise is_account_item a.items b.items
 
 abbrev pub same_order_change : OrderChange → OrderChange → Bool
-same_order_change a b = (a.order == b.order) && (a.item == b.item) && (a.fund == b.fund) && (a.dept == b.dept) && (a.object == b.object) && int_eq a.by b.by
+same_order_change a b = (a.order == b.order) && (a.item == b.item) && (a.fund == b.fund)
+    && (a.dept == b.dept) && (a.object == b.object) && int_eq a.by b.by
 
 abbrev pub same_voucher : NewVoucher → NewVoucher → Bool
-same_voucher a b = (a.vendor == b.vendor) && same_flag a.back b.back && pointwise is_voucher_item a.items b.items
+same_voucher a b = (a.vendor == b.vendor) && same_flag a.back b.back
+    && pointwise is_voucher_item a.items b.items
 
 abbrev pub same_bill : NewBill → NewBill → Bool
-same_bill a b = (a.source == b.source) && (a.levy_year == b.levy_year) && (a.payer == b.payer) && (a.amount == b.amount)
+same_bill a b = (a.source == b.source) && (a.levy_year == b.levy_year) && (a.payer == b.payer)
+    && (a.amount == b.amount)
 
 abbrev pub same_bill_amount : BillAmount → BillAmount → Bool
 same_bill_amount a b = (a.bill == b.bill) && (a.amount == b.amount)
 
 abbrev pub same_asset_act : AssetAct → AssetAct → Bool
-same_asset_act (Donate a) (Donate b) = (a.dept == b.dept) && (a.object == b.object) && (a.amount == b.amount)
-same_asset_act (Dispose a) (Dispose b) = (a.asset == b.asset) && (a.fund == b.fund) && (a.proceeds == b.proceeds)
+same_asset_act (Donate a) (Donate b) = (a.dept == b.dept) && (a.object == b.object)
+    && (a.amount == b.amount)
+same_asset_act (Dispose a) (Dispose b) = (a.asset == b.asset) && (a.fund == b.fund)
+    && (a.proceeds == b.proceeds)
 same_asset_act _ _ = false
 
 abbrev pub same_issue : BondIssue → BondIssue → Bool
-same_issue a b = (a.fund == b.fund) && (a.amount == b.amount) && (a.rate_bp == b.rate_bp) && (a.every == b.every) && pointwise nat_eq a.principals b.principals
+same_issue a b = (a.fund == b.fund) && (a.amount == b.amount) && (a.rate_bp == b.rate_bp)
+    && (a.every == b.every) && pointwise nat_eq a.principals b.principals
 
 abbrev pub same_debt_payment : DebtPayment → DebtPayment → Bool
-same_debt_payment a b = (a.bond == b.bond) && (a.fund == b.fund) && (a.dept == b.dept) && (a.principal == b.principal) && (a.interest == b.interest)
+same_debt_payment a b = (a.bond == b.bond) && (a.fund == b.fund) && (a.dept == b.dept)
+    && (a.principal == b.principal) && (a.interest == b.interest)
 
 abbrev pub same_leave_amount : LeaveAmount → LeaveAmount → Bool
 same_leave_amount a b = (a.fund == b.fund) && (a.dept == b.dept) && (a.amount == b.amount)
@@ -115,7 +129,8 @@ same_leave_amount a b = (a.fund == b.fund) && (a.dept == b.dept) && (a.amount ==
 abbrev pub same_leave_act : LeaveAct → LeaveAct → Bool
 same_leave_act (Earn a) (Earn b) = same_leave_amount a b
 same_leave_act (Use a) (Use b) = same_leave_amount a b
-same_leave_act (Mature a) (Mature b) = (a.fund == b.fund) && (a.dept == b.dept) && (a.object == b.object) && (a.amount == b.amount)
+same_leave_act (Mature a) (Mature b) = (a.fund == b.fund) && (a.dept == b.dept)
+    && (a.object == b.object) && (a.amount == b.amount)
 same_leave_act _ _ = false
 
 abbrev pub same_move_kind : FundMoveKind → FundMoveKind → Bool
@@ -125,7 +140,8 @@ same_move_kind move.Repay move.Repay = true
 same_move_kind _ _ = false
 
 abbrev pub same_fund_move : FundMove → FundMove → Bool
-same_fund_move a b = same_move_kind a.what b.what && (a.from == b.from) && (a.to == b.to) && (a.amount == b.amount)
+same_fund_move a b = same_move_kind a.what b.what && (a.from == b.from) && (a.to == b.to)
+    && (a.amount == b.amount)
 
 abbrev pub same_period : Period → Period → Bool
 same_period (period.Month a) (period.Month b) = (a.year == b.year) && (a.month == b.month)
@@ -133,7 +149,9 @@ same_period (period.Year a) (period.Year b) = a == b
 same_period _ _ = false
 
 abbrev pub same_lease : NewLease → NewLease → Bool
-same_lease a b = (a.vendor == b.vendor) && is_account_item a.account b.account && (a.rate_bp == b.rate_bp) && (a.every == b.every) && pointwise nat_eq a.principals b.principals
+same_lease a b = (a.vendor == b.vendor) && is_account_item a.account b.account
+    && (a.rate_bp == b.rate_bp) && (a.every == b.every)
+    && pointwise nat_eq a.principals b.principals
 
 abbrev pub same_act : Act → Act → Bool
 same_act (Adopt a) (Adopt b) = same_adoption a b
@@ -171,4 +189,5 @@ same_key desk key c = (desk == c.desk) && pointwise nat_eq key c.key
 
 -- equal but for `after`
 abbrev pub same_call : Change → Change → Bool
-same_call a b = (a.desk == b.desk) && pointwise nat_eq a.key b.key && same_day a.on b.on && same_act a.act b.act
+same_call a b = (a.desk == b.desk) && pointwise nat_eq a.key b.key && same_day a.on b.on
+    && same_act a.act b.act

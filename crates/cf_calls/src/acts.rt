@@ -187,8 +187,8 @@ pub struct FundMove {
     pub amount: u64,
 }
 
-/// A lease of a capital asset, which the city holds as lessee (GASB Statement 87; that the amount and the schedule are
-/// handed in is an own rule).
+/// A lease of a capital asset, which the city holds as lessee (GASB Statement 87; that the amount
+/// and the schedule are handed in is an own rule).
 #[derive(Drop)]
 pub struct NewLease {
     pub vendor: u32,
@@ -198,7 +198,8 @@ pub struct NewLease {
     pub rate_bp: u16,
     /// The months between payments: 1, 2, 3, 4, 6 or 12.
     pub every: u16,
-    /// The principal of each payment, in order. Each may be 0. The term, which they are for, is above 12 months.
+    /// The principal of each payment, in order. Each may be 0. The term, which they are for, is
+    /// above 12 months.
     pub principals: Principals,
 }
 

@@ -7,9 +7,11 @@ use crate::call::Change;
 /// The numbers that a change draws. A change that draws nothing has 0 in both.
 #[derive(Clone, Copy)]
 pub struct Drawn {
-    /// The number of its own kind, from 1; for a debt payment that of the payment, and for a lease that of its asset.
+    /// The number of its own kind, from 1; for a debt payment that of the payment, and for a lease
+    /// that of its asset.
     pub number: u32,
-    /// For a voucher the number of its first asset, or the next one where it draws none; for a lease that of its bond.
+    /// For a voucher the number of its first asset, or the next one where it draws none; for a
+    /// lease that of its bond.
     pub second: u32,
 }
 

@@ -55,7 +55,8 @@ pub struct CallRow {
     pub code: u8,
     /// The role that the call's desk needs.
     pub role: Role,
-    /// Which numbers an accepted call draws. Of what is done with an asset, a donation alone draws one.
+    /// Which numbers an accepted call draws. Of what is done with an asset, a donation alone draws
+    /// one.
     pub draws: Draws,
 }
 
@@ -172,7 +173,8 @@ fn has_word(kind: ActKind, word: &str) -> bool
 }
 
 fn find_word<'a>(kinds: &'a [ActKind], word: &str) -> Option<&'a ActKind>
-    ensures { option_copied result ≡ find (λ kind. bytes_eq word.now (spec.word_of kind)) kinds.now }
+    ensures { option_copied result
+        ≡ find (λ kind. bytes_eq word.now (spec.word_of kind)) kinds.now }
 {
     kinds.iter().find(|kind| has_word(**kind, word))
 }

@@ -135,7 +135,8 @@ pub enum Refusal {
     WindowOpen {
         month: Month,
     },
-    /// More is asked of a control line than it has room for (GASB Codification 1700: budgetary control).
+    /// More is asked of a control line than it has room for (GASB Codification 1700: budgetary
+    /// control).
     Exceeds {
         line: u16,
         asked: i128,

@@ -9,7 +9,8 @@ use crate::call::Change;
 /// Whether two changes are equal but for `after`. Such a change is a repeat of the other.
 pub fn same_call(a: &Change, b: &Change) -> bool
     ensures value { result ≡ spec.same_call a.now b.now }
-    ensures equal { IsTrue result ↔ (record a.now { after = None } ≡ record b.now { after = None }) }
+    ensures equal { IsTrue result
+        ↔ (record a.now { after = None } ≡ record b.now { after = None }) }
 {
     same_fields(a, b)
 }

@@ -6,7 +6,8 @@ use crate::reply::Row;
 use crate::text::Label;
 use cf_base::Day;
 
-/// The numbers of a control line and fiscal year, in cents (GASB Codification 1700: budgetary comparison).
+/// The numbers of a control line and fiscal year, in cents (GASB Codification 1700: budgetary
+/// comparison).
 #[derive(Clone, Copy)]
 pub struct LineNumbers {
     /// The adopted amount.
@@ -66,8 +67,8 @@ pub struct OrderItemShown {
     pub year: u16,
 }
 
-/// The items that join fund balances and net position (GASB Statement 34: the summary reconciliation),
-/// in cents, each signed as it is added.
+/// The items that join fund balances and net position (GASB Statement 34: the summary
+/// reconciliation), in cents, each signed as it is added.
 #[derive(Clone, Copy)]
 pub struct ReconShown {
     pub fund_balances: i128,

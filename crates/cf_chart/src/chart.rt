@@ -210,20 +210,24 @@ impl Chart {
         line.later == self.is_later(line.fund, year)
     }
 
-    /// The line that controls an account in a fiscal year, at the level of that year: `None` exactly where it has none.
+    /// The line that controls an account in a fiscal year, at the level of that year: `None`
+    /// exactly where it has none.
     pub fn line_of(&self, fund: u16, dept: u16, object: u16, year: u16) -> Option<LineId>
-        ensures value { option_map (λ l. l.number) result ≡ spec.line_of self.now fund dept object year }
+        ensures value { option_map (λ l. l.number) result
+            ≡ spec.line_of self.now fund dept object year }
         ensures within { IfSome result (λ l. l.number < length self.now.lines) }
     {
         self.line_in(fund, dept, object, self.is_later(fund, year))
     }
 
-    /// The line of an account at its fund's first level, or at its later one: `None` exactly where it has none. No other
-    /// line of the level has the account.
+    /// The line of an account at its fund's first level, or at its later one: `None` exactly where
+    /// it has none. No other line of the level has the account.
     pub fn line_in(&self, fund: u16, dept: u16, object: u16, later: bool) -> Option<LineId>
-        ensures value { option_map (λ l. l.number) result ≡ spec.line_in self.now fund dept object later }
+        ensures value { option_map (λ l. l.number) result
+            ≡ spec.line_in self.now fund dept object later }
         ensures within { IfSome result (λ l. l.number < length self.now.lines) }
-        ensures alone { (n : ℕ) → spec.has_account self.now fund dept object later n ≡ true → option_map (λ l. l.number) result ≡ Some n }
+        ensures alone { (n : ℕ) → spec.has_account self.now fund dept object later n ≡ true
+            → option_map (λ l. l.number) result ≡ Some n }
     {
         let _ = &self.lines;
         match self.number_of(fund, dept, object, later) {
@@ -251,7 +255,8 @@ impl Chart {
     }
 
     fn number_in(&self, fund: &Fund, dept: u16, object: &Object, later: bool) -> Option<u16>
-        ensures { result ≡ position (has_key (key_at fund.now dept object.now later)) self.now.lines }
+        ensures { result ≡ position
+            (has_key (key_at fund.now dept object.now later)) self.now.lines }
     {
         let key = LineKey {
             fund: fund.id,

@@ -1,5 +1,5 @@
--- What a grantor is billed for (2 CFR 200.305: reimbursement of allowable costs that were paid; the order of vouchers, the keys and the rounding
--- are own rules).
+-- What a grantor is billed for (2 CFR 200.305: reimbursement of allowable costs that were paid; the
+-- order of vouchers, the keys and the rounding are own rules).
 use Rattle.std.specs.Prelude.{ℕ, ◌-◌, ◌*◌, ◌/◌, min, Bool, true, false, not, ◌&&◌, ◌||◌, ◌==◌, nat_lt, nat_le, if◌then◌else◌, List, [], ◌∷◌, ◌++◌, take, drop, length, slice_index, sum_by, flat_map, Option, Some, None, codes, decimal}
 use Rattle.std.specs.List.{list_all, list_any}
 use Rattle.std.specs.Str.{bytes_eq}
@@ -22,7 +22,8 @@ abbrev pub claim_key : ℕ → List ℕ
 claim_key n = codes "claim-" ++ decimal n
 
 abbrev pub is_number_text : List ℕ → Bool
-is_number_text text = nat_le 1 (length text) && list_all is_digit text && (nat_lt 48 (slice_index text 0) || (length text == 1))
+is_number_text text = nat_le 1 (length text) && list_all is_digit text
+    && (nat_lt 48 (slice_index text 0) || (length text == 1))
 
 abbrev pub is_claim_key : List ℕ → Bool
 is_claim_key key = bytes_eq (take 6 key) (codes "claim-") && is_number_text (drop 6 key)
@@ -65,21 +66,28 @@ is_voucher _ = false
 abbrev pub voucher_year : Plan → Entry → ℕ
 voucher_year plan e = document_year plan e.change.on e.change.act
 
--- a voucher that a payment lists (a paid voucher is never void), whose year isn't closed, and of which there is no claim bill
+-- a voucher that a payment lists (a paid voucher is never void), whose year isn't closed, and of
+-- which there is no claim bill
 abbrev pub is_claimable : Plan → List Entry → Entry → Bool
 is_claimable plan history e =
-    is_voucher e.change.act && has_number e.drawn.number (paid_numbers history) && not (is_year_closed history (voucher_year plan e)) && not (is_claimed history e.drawn.number)
+    is_voucher e.change.act && has_number e.drawn.number (paid_numbers history)
+    && not (is_year_closed history (voucher_year plan e))
+    && not (is_claimed history e.drawn.number)
 
 abbrev pub is_among : List ℕ → Option ℕ → Bool
 is_among lines None = false
 is_among lines (Some n) = has_number n lines
 
--- what of an item of a voucher of a year is eligible: all of it, where its account's control line in that year is one of the grant's
+-- what of an item of a voucher of a year is eligible: all of it, where its account's control line
+-- in that year is one of the grant's
 abbrev pub eligible_item : Plan → List ℕ → ℕ → VoucherItem → ℕ
-eligible_item plan lines year i = if is_among lines (line_of plan i.account.fund i.account.dept i.account.object year) then i.account.amount else 0
+eligible_item plan lines year i =
+    if is_among lines (line_of plan i.account.fund i.account.dept i.account.object year)
+    then i.account.amount else 0
 
 abbrev pub eligible : Plan → List ℕ → Entry → ℕ
-eligible plan lines e = sum_by (eligible_item plan lines (voucher_year plan e)) (voucher_items e.change.act)
+eligible plan lines e =
+    sum_by (eligible_item plan lines (voucher_year plan e)) (voucher_items e.change.act)
 
 -- ---- claims
 
@@ -94,16 +102,19 @@ share_of rate_bp sum = sum * rate_bp / 10000
 
 -- what is claimed of an entry, of what is left of the award
 abbrev pub amount_of : Plan → Grant → List Entry → ℕ → Entry → ℕ
-amount_of plan g history left e = if is_claimable plan history e then min (share_of g.rate_bp (eligible plan g.lines e)) left else 0
+amount_of plan g history left e = if is_claimable plan history e
+    then min (share_of g.rate_bp (eligible plan g.lines e)) left else 0
 
 abbrev pub claim_if : Plan → Entry → ℕ → List Claim
-claim_if plan e amount = if amount == 0 then [] else record { voucher = e.drawn.number; year = voucher_year plan e; amount = amount } ∷ []
+claim_if plan e amount = if amount == 0 then []
+    else record { voucher = e.drawn.number; year = voucher_year plan e; amount = amount } ∷ []
 
 -- the claims of the entries from here on, of what is left of the award
 abbrev pub claims_from : Plan → Grant → List Entry → ℕ → List Entry → List Claim
 claims_from plan g history left [] = []
 claims_from plan g history left (e ∷ later) =
-    let amount = amount_of plan g history left e in claim_if plan e amount ++ claims_from plan g history (left - amount) later
+    let amount = amount_of plan g history left e in claim_if plan e amount
+    ++ claims_from plan g history (left - amount) later
 
 -- what is left of an award
 abbrev pub left_of : Grant → List Entry → ℕ
@@ -119,7 +130,8 @@ abbrev pub claim_hand : Day → ℕ → Claim → Hand
 claim_hand on desk c = record { desk = desk; key = claim_key c.voucher; on = on }
 
 abbrev pub claim_bill : Grant → Claim → NewBill
-claim_bill g c = record { source = g.source; levy_year = c.year; payer = g.payer; amount = c.amount }
+claim_bill g c = record
+    { source = g.source; levy_year = c.year; payer = g.payer; amount = c.amount }
 
 abbrev pub claim_line : Grant → Day → ℕ → Claim → List ℕ
 claim_line g on desk c = bill_line (claim_hand on desk c) (claim_bill g c)

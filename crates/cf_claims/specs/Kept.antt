@@ -14,7 +14,8 @@ claim_sum claims = sum_by (λ c. c.amount) claims
 
 -- with the earlier claim bills on the source they come to at most the award, or there are none
 abbrev pub KeepsAward : Grant → List Entry → List Claim → Type 0
-KeepsAward g history claims = (claimed g.source history + claim_sum claims ≤ g.award) ⊎ (claims ≡ [])
+KeepsAward g history claims = (claimed g.source history + claim_sum claims ≤ g.award)
+    ⊎ (claims ≡ [])
 
 -- none is of a voucher that was claimed
 abbrev pub is_new : List Entry → Claim → Bool
@@ -25,7 +26,8 @@ abbrev pub claims_rise : ℕ → List Claim → Bool
 claims_rise last [] = true
 claims_rise last (c ∷ claims) = nat_lt last c.voucher && claims_rise c.voucher claims
 
--- the claims of a history keep the award; none is of a voucher that was claimed, and no two are of one
+-- the claims of a history keep the award; none is of a voucher that was claimed, and no two are of
+-- one
 pub record AreKept (plan : Plan) (g : Grant) (history : List Entry) : Type 0 where
   pub award : KeepsAward g history (claims_of plan g history)
   pub fresh : list_all (is_new history) (claims_of plan g history) ≡ true
@@ -41,4 +43,6 @@ pub record IsReadable (e : Entry) : Type 0 where
 -- the vouchers of entries have rising numbers, all above this one
 abbrev pub numbers_rise : ℕ → List Entry → Bool
 numbers_rise last [] = true
-numbers_rise last (e ∷ later) = if is_voucher e.change.act then nat_lt last e.drawn.number && numbers_rise e.drawn.number later else numbers_rise last later
+numbers_rise last (e ∷ later) = if is_voucher e.change.act
+    then nat_lt last e.drawn.number && numbers_rise e.drawn.number later
+    else numbers_rise last later

@@ -1,4 +1,5 @@
--- How the vouchers of a grant stand (own rule): what of each is eligible, and whether it is claimed or can be.
+-- How the vouchers of a grant stand (own rule): what of each is eligible, and whether it is claimed
+-- or can be.
 use Rattle.std.specs.Prelude.{◌≡◌, ℕ, ◌<◌, ◌^◌, ◌-◌, ◌==◌, min, Bool, true, false, if◌then◌else◌, List, [], ◌∷◌, ◌++◌, flat_map, fold, Option, Some, None, Ok}
 use Rattle.std.specs.BTreeMap.{get}
 use Rattle.std.specs.Ordering.{nat_cmp}
@@ -23,7 +24,8 @@ abbrev pub put : ℕ → ℕ → Option ℕ → ℕ → Option ℕ
 put voucher bill before n = if voucher == n then Some bill else before
 
 abbrev pub bill_after : ℕ → Option ℕ → Entry → Option ℕ
-bill_after n before e = if claims_number n e.change.key e.change.act then Some e.drawn.number else before
+bill_after n before e = if claims_number n e.change.key e.change.act then Some e.drawn.number
+    else before
 
 -- the number of the last claim bill of a voucher
 abbrev pub bill_of : List Entry → ℕ → Option ℕ
@@ -40,10 +42,13 @@ unclaimed_by None true false = state.NothingLeft
 
 -- why nothing is claimed of a voucher of a year
 abbrev pub unclaimed : List Entry → ℕ → ℕ → ClaimState
-unclaimed history year n = unclaimed_by (bill_of history n) (has_number n (paid_numbers history)) (is_year_closed history year)
+unclaimed history year n =
+    unclaimed_by (bill_of history n) (has_number n (paid_numbers history))
+    (is_year_closed history year)
 
 abbrev pub state_of : List Entry → ℕ → ℕ → ℕ → ClaimState
-state_of history year n amount = if amount == 0 then unclaimed history year n else state.Claimable amount
+state_of history year n amount = if amount == 0 then unclaimed history year n
+    else state.Claimable amount
 
 -- the share of what is eligible; no rate is above the whole
 abbrev pub own_share : ℕ → ℕ → ℕ
@@ -71,7 +76,9 @@ row_if row = if row.eligible == 0 then [] else row ∷ []
 abbrev pub rows_from : Plan → Grant → List Entry → ℕ → List Entry → List GrantVoucher
 rows_from plan g history left [] = []
 rows_from plan g history left (e ∷ later) =
-    let amount = amount_of plan g history left e in row_if (row_of plan g history e amount (left - amount)) ++ rows_from plan g history (left - amount) later
+    let amount = amount_of plan g history left e in row_if
+    (row_of plan g history e amount (left - amount))
+    ++ rows_from plan g history (left - amount) later
 
 abbrev pub rows_of : Plan → Grant → List Entry → List GrantVoucher
 rows_of plan g history = rows_from plan g history (left_of g history) history

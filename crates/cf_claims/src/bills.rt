@@ -58,10 +58,12 @@ fn is_voucher(act: &Act) -> bool
     }
 }
 
-/// Whether an entry is a voucher that can be claimed: it is paid, its year isn't closed, and it wasn't claimed.
+/// Whether an entry is a voucher that can be claimed: it is paid, its year isn't closed, and it
+/// wasn't claimed.
 fn is_claimable(marks: &Marks, chart: &Chart, entry: &Entry) -> bool
     requires { IsReadable entry.now }
-    ensures { (history : List AnEntry) → AreMarks marks.now history → result ≡ spec.is_claimable chart.now history entry.now }
+    ensures { (history : List AnEntry) → AreMarks marks.now history
+        → result ≡ spec.is_claimable chart.now history entry.now }
 {
     let year = voucher_year(chart, entry);
     let number = entry.drawn.number;
@@ -74,7 +76,8 @@ fn is_claimable(marks: &Marks, chart: &Chart, entry: &Entry) -> bool
 /// What is claimed of an entry, of what is left of the award.
 pub fn amount_of(marks: &Marks, chart: &Chart, grant: &Grant, left: u64, entry: &Entry) -> u64
     requires { IsReadable entry.now }
-    ensures value { (history : List AnEntry) → AreMarks marks.now history → result ≡ spec.amount_of chart.now grant.now history left entry.now }
+    ensures value { (history : List AnEntry) → AreMarks marks.now history
+        → result ≡ spec.amount_of chart.now grant.now history left entry.now }
     ensures within { result ≤ left }
 {
     if !is_claimable(marks, chart, entry) {
@@ -101,7 +104,9 @@ fn put_claim(
     amount: u64,
 ) -> Result<(), AllocError>
     requires { IsReadable entry.now }
-    ensures { OnOk result (out.new.items ≡ out.old.items ++ spec.claim_lines claimant.now.grant.now claimant.now.on claimant.now.desk
+    ensures { OnOk result
+        (out.new.items ≡ out.old.items
+        ++ spec.claim_lines claimant.now.grant.now claimant.now.on claimant.now.desk
         (spec.claim_if claimant.now.chart.now entry.now amount)) }
 {
     if amount == 0 {
@@ -130,8 +135,11 @@ fn put_claims(
 ) -> Result<(), AllocError>
     requires readable { AllByRecursion IsReadable entries.now }
     requires marks { AreMarks marks.now entries.now }
-    ensures { OnOk result (out.new.items ≡ out.old.items ++ spec.claim_lines claimant.now.grant.now claimant.now.on claimant.now.desk
-        (spec.claims_from claimant.now.chart.now claimant.now.grant.now entries.now left entries.now)) }
+    ensures { OnOk result
+        (out.new.items ≡ out.old.items
+        ++ spec.claim_lines claimant.now.grant.now claimant.now.on claimant.now.desk
+        (spec.claims_from claimant.now.chart.now claimant.now.grant.now entries.now left
+        entries.now)) }
 {
     let mut left = left;
     for entry in entries {
@@ -142,10 +150,11 @@ fn put_claims(
     Ok(())
 }
 
-/// Appends the bills by which a desk claims, on a day, what a grant pays of the vouchers of a history: one line for each
-/// claimable voucher, by number, of which something is claimed. With the claim bills that the history has on the grant's
-/// source they come to no more than the award, or there are none, and no voucher is claimed twice (2 CFR 200.305: payment by
-/// reimbursement). Where there is no memory a part of the lines may be appended. Each entry is read five times.
+/// Appends the bills by which a desk claims, on a day, what a grant pays of the vouchers of a
+/// history: one line for each claimable voucher, by number, of which something is claimed. With the
+/// claim bills that the history has on the grant's source they come to no more than the award, or
+/// there are none, and no voucher is claimed twice (2 CFR 200.305: payment by reimbursement). Where
+/// there is no memory a part of the lines may be appended. Each entry is read five times.
 pub fn claims(
     alloc: Global,
     chart: &Chart,
@@ -156,7 +165,9 @@ pub fn claims(
     out: &mut Vec<u8>,
 ) -> Result<(), AllocError>
     requires { IsLegal chart.now entries.now }
-    ensures lines { OnOk result (out.new.items ≡ out.old.items ++ spec.claim_lines grant.now on desk (spec.claims_of chart.now grant.now entries.now)) }
+    ensures lines { OnOk result
+        (out.new.items ≡ out.old.items
+        ++ spec.claim_lines grant.now on desk (spec.claims_of chart.now grant.now entries.now)) }
     ensures kept { AreKept chart.now grant.now entries.now }
 {
     let marks = marks_of(alloc, entries)?;

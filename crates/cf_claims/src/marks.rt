@@ -106,7 +106,8 @@ fn year_of(act: &Act) -> Option<u16>
 
 /// The fiscal years that entries close.
 fn closed_years(alloc: Global, entries: &[Entry]) -> Result<Vec<u32>, AllocError>
-    ensures { IfOk result (λ v. (n : ℕ) → spec.has_number n v.items ≡ is_year_closed entries.now n) }
+    ensures { IfOk result
+        (λ v. (n : ℕ) → spec.has_number n v.items ≡ is_year_closed entries.now n) }
 {
     let mut years = Vec::new(alloc);
     for entry in entries {
@@ -136,7 +137,8 @@ fn claim_number(key: &str) -> Option<u32>
 
 /// The number, below 2^32, whose claim bill a change is.
 pub fn claimed_number(change: &Change) -> Option<u32>
-    ensures { (n : ℕ) → n < 2 ^ 32 → is_this n result ≡ spec.claims_number n change.now.key change.now.act }
+    ensures { (n : ℕ) → n < 2 ^ 32
+        → is_this n result ≡ spec.claims_number n change.now.key change.now.act }
 {
     match change.act {
         Act::Bill(_) => claim_number(change.key.as_str()),
@@ -166,7 +168,8 @@ pub fn claimed_number(change: &Change) -> Option<u32>
 
 /// The vouchers that were claimed.
 fn claimed_numbers(alloc: Global, entries: &[Entry]) -> Result<Vec<u32>, AllocError>
-    ensures { IfOk result (λ v. (n : ℕ) → n < 2 ^ 32 → spec.has_number n v.items ≡ spec.is_claimed entries.now n) }
+    ensures { IfOk result
+        (λ v. (n : ℕ) → n < 2 ^ 32 → spec.has_number n v.items ≡ spec.is_claimed entries.now n) }
 {
     let mut numbers = Vec::new(alloc);
     for entry in entries {

@@ -1,4 +1,5 @@
-//! How the vouchers of a grant stand: what of each is eligible, and whether it is claimed or can be.
+//! How the vouchers of a grant stand: what of each is eligible, and whether it is claimed or can
+//! be.
 
 ghost use Rattle.std.specs.Prelude.{◌≡◌, ◌<◌, ◌^◌, ◌++◌, ℕ, List, Ok, Err, IfOk, OnOk};
 ghost use Rattle.std.specs.BTreeMap.{get};
@@ -66,7 +67,8 @@ struct Known {
 
 /// Puts a bill under the number of a voucher, in the place of one that was.
 fn put_number(bills: &mut BTreeMap<u32, u32>, voucher: u32, bill: u32) -> Result<(), AllocError>
-    ensures { OnOk result ((n : ℕ) → get nat_cmp bills.new n ≡ spec.put voucher bill (get nat_cmp bills.old n) n) }
+    ensures { OnOk result
+        ((n : ℕ) → get nat_cmp bills.new n ≡ spec.put voucher bill (get nat_cmp bills.old n) n) }
 {
     bills.insert(voucher, bill)?;
     Ok(())
@@ -74,7 +76,9 @@ fn put_number(bills: &mut BTreeMap<u32, u32>, voucher: u32, bill: u32) -> Result
 
 /// Notes which voucher an entry claims, where it is a claim bill.
 fn note_bill(bills: &mut BTreeMap<u32, u32>, entry: &Entry) -> Result<(), AllocError>
-    ensures { OnOk result ((n : ℕ) → n < 2 ^ 32 → get nat_cmp bills.new n ≡ spec.bill_after n (get nat_cmp bills.old n) entry.now) }
+    ensures { OnOk result
+        ((n : ℕ) → n < 2 ^ 32
+        → get nat_cmp bills.new n ≡ spec.bill_after n (get nat_cmp bills.old n) entry.now) }
 {
     match claimed_number(&entry.change) {
         Some(voucher) => put_number(bills, voucher, entry.drawn.number),
@@ -84,7 +88,8 @@ fn note_bill(bills: &mut BTreeMap<u32, u32>, entry: &Entry) -> Result<(), AllocE
 
 /// The claim bills of a history.
 fn bills_of(alloc: Global, entries: &[Entry]) -> Result<BTreeMap<u32, u32>, AllocError>
-    ensures { IfOk result (λ m. (n : ℕ) → n < 2 ^ 32 → get nat_cmp m n ≡ spec.bill_of entries.now n) }
+    ensures { IfOk result
+        (λ m. (n : ℕ) → n < 2 ^ 32 → get nat_cmp m n ≡ spec.bill_of entries.now n) }
 {
     let mut bills = BTreeMap::new(alloc);
     for entry in entries {
@@ -104,7 +109,8 @@ fn known_of(alloc: Global, entries: &[Entry]) -> Result<Known, AllocError>
 
 /// Why nothing is claimed of a voucher of a fiscal year.
 fn unclaimed(known: &Known, year: u16, number: u32) -> ClaimState
-    ensures { (history : List AnEntry) → Knows known.now history → result ≡ spec.unclaimed history year number }
+    ensures { (history : List AnEntry) → Knows known.now history
+        → result ≡ spec.unclaimed history year number }
 {
     match known.bills.get(&number) {
         Some(bill) => ClaimState::Claimed { bill: *bill },
@@ -124,7 +130,8 @@ fn row_of(
     left: u64,
 ) -> GrantVoucher
     requires { IsReadable entry.now }
-    ensures { (history : List AnEntry) → Knows known.now history → result ≡ spec.row_of chart.now grant.now history entry.now amount left }
+    ensures { (history : List AnEntry) → Knows known.now history
+        → result ≡ spec.row_of chart.now grant.now history entry.now amount left }
 {
     let number = entry.drawn.number;
     let year = voucher_year(chart, entry);
@@ -167,7 +174,8 @@ fn rows_from(
 ) -> Result<Vec<GrantVoucher>, AllocError>
     requires readable { AllByRecursion IsReadable entries.now }
     requires known { Knows known.now entries.now }
-    ensures { IfOk result (λ v. v.items ≡ spec.rows_from chart.now grant.now entries.now left entries.now) }
+    ensures { IfOk result
+        (λ v. v.items ≡ spec.rows_from chart.now grant.now entries.now left entries.now) }
 {
     let mut rows = Vec::new(alloc);
     let mut left = left;
@@ -180,8 +188,8 @@ fn rows_from(
     Ok(rows)
 }
 
-/// How each voucher of a history stands of which something is eligible under a grant, by number. The claimable ones, with
-/// their amounts, are exactly what `claims` writes.
+/// How each voucher of a history stands of which something is eligible under a grant, by number.
+/// The claimable ones, with their amounts, are exactly what `claims` writes.
 pub fn grant_vouchers(
     alloc: Global,
     chart: &Chart,
@@ -190,15 +198,17 @@ pub fn grant_vouchers(
 ) -> Result<Vec<GrantVoucher>, AllocError>
     requires { IsLegal chart.now entries.now }
     ensures rows { IfOk result (λ v. v.items ≡ spec.rows_of chart.now grant.now entries.now) }
-    ensures claims { IfOk result (λ v. spec.claims_in v.items ≡ claims_of chart.now grant.now entries.now) }
+    ensures claims { IfOk result
+        (λ v. spec.claims_in v.items ≡ claims_of chart.now grant.now entries.now) }
 {
     let known = known_of(alloc, entries)?;
     let left = left_of(grant, entries);
     rows_from(alloc, &known, chart, grant, entries, left)
 }
 
-/// How the vouchers stand of the grant of this id of the document that these bytes are (`grant_vouchers`); or the first
-/// fault of the document, where the last one is that it has no such grant. Only want of memory may come instead of either.
+/// How the vouchers stand of the grant of this id of the document that these bytes are
+/// (`grant_vouchers`); or the first fault of the document, where the last one is that it has no
+/// such grant. Only want of memory may come instead of either.
 pub fn vouchers_of_grant(
     alloc: Global,
     chart: &Chart,
@@ -207,8 +217,10 @@ pub fn vouchers_of_grant(
     id: u16,
 ) -> Result<Vec<GrantVoucher>, GrantRefused>
     requires { IsLegal chart.now entries.now }
-    ensures ok { IfOk result (λ v. spec.vouchers_of_grant chart.now entries.now bytes.now id ≡ Ok v.items) }
-    ensures fault { (f : AFault) → result ≡ Err (GrantRefused.Fault f) → spec.vouchers_of_grant chart.now entries.now bytes.now id ≡ Err f }
+    ensures ok { IfOk result
+        (λ v. spec.vouchers_of_grant chart.now entries.now bytes.now id ≡ Ok v.items) }
+    ensures fault { (f : AFault) → result ≡ Err (GrantRefused.Fault f)
+        → spec.vouchers_of_grant chart.now entries.now bytes.now id ≡ Err f }
 {
     let grants = Grants::read(alloc, bytes, chart)?;
     let Some(grant) = grants.grant(id) else {

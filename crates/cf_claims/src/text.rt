@@ -12,9 +12,9 @@ use cf_chart::Chart;
 use cf_grants::{GrantFault, GrantRefused, Grants};
 use std::alloc::Global;
 
-/// The lines by which a desk claims, on a day, the grant of this id of the document that these bytes are (`claims`); or the
-/// first fault of the document, where the last one is that it has no such grant. Only want of memory may come instead of
-/// either.
+/// The lines by which a desk claims, on a day, the grant of this id of the document that these
+/// bytes are (`claims`); or the first fault of the document, where the last one is that it has no
+/// such grant. Only want of memory may come instead of either.
 pub fn claim_text(
     alloc: Global,
     chart: &Chart,
@@ -25,8 +25,10 @@ pub fn claim_text(
     desk: u16,
 ) -> Result<Vec<u8>, GrantRefused>
     requires { IsLegal chart.now entries.now }
-    ensures ok { IfOk result (λ text. text_of chart.now entries.now bytes.now id on desk ≡ Ok text.items) }
-    ensures fault { (f : AFault) → result ≡ Err (GrantRefused.Fault f) → text_of chart.now entries.now bytes.now id on desk ≡ Err f }
+    ensures ok { IfOk result
+        (λ text. text_of chart.now entries.now bytes.now id on desk ≡ Ok text.items) }
+    ensures fault { (f : AFault) → result ≡ Err (GrantRefused.Fault f)
+        → text_of chart.now entries.now bytes.now id on desk ≡ Err f }
 {
     let grants = Grants::read(alloc, bytes, chart)?;
     let Some(grant) = grants.grant(id) else {

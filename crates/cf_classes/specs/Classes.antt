@@ -1,4 +1,5 @@
--- The classes of fund balances (GASB Statement 54; which class a balance is in by the chart is an own profile of it).
+-- The classes of fund balances (GASB Statement 54; which class a balance is in by the chart is an
+-- own profile of it).
 use Rattle.std.specs.Prelude.{◌≡◌, ◌≤ℤ◌, ℕ, ℤ, pos, ◌+◌, ◌==◌, ◌+ℤ◌, ◌-ℤ◌, int_lt, if◌then◌else◌, List, [], ◌∷◌, ◌++◌, Option, Some, None, flat_map, codes}
 use Rattle.cf_calls.specs.declared.reply.Row.{Row}
 use Rattle.cf_chart.specs.Plan.{Plan}
@@ -15,18 +16,27 @@ use Rattle.cf_statements.specs.Sums.{Sums, heading, single}
 abbrev pub encumbered_from : Sums → ℕ → ℕ → ℕ → List Line → ℤ
 encumbered_from sums year fund number [] = pos 0
 encumbered_from sums year fund number (line ∷ rest) =
-    (if line.fund == fund then (sums.numbers number year).encumbered else pos 0) +ℤ encumbered_from sums year fund (number + 1) rest
+    (if line.fund == fund then (sums.numbers number year).encumbered else pos 0) +ℤ encumbered_from
+    sums year fund (number + 1) rest
 
 -- ---- the classes of a balance
 
--- what a fund's balance is constrained to: what the chart states, else assigned for capital projects and restricted for others
+-- what a fund's balance is constrained to: what the chart states, else assigned for capital
+-- projects and restricted for others
 abbrev pub class_of : FundType → Option BalanceClass → BalanceClass
 class_of t (Some stated) = stated
 class_of fund_type.CapitalProjects None = class.Assigned
 class_of t None = class.Restricted
 
 abbrev pub none : Classes
-none = record { nonspendable = pos 0; restricted = pos 0; committed = pos 0; assigned = pos 0; unassigned = pos 0 }
+none = record {
+  nonspendable = pos 0;
+  restricted = pos 0;
+  committed = pos 0;
+  assigned =
+      pos 0;
+  unassigned = pos 0;
+}
 
 abbrev pub in_class : BalanceClass → ℤ → Classes
 in_class class.Restricted balance = record none { restricted = balance }
@@ -38,22 +48,30 @@ lesser a b = if int_lt a b then a else b
 
 -- of the general fund what is encumbered is assigned, up to the balance, and the rest unassigned
 abbrev pub general : ℤ → ℤ → Classes
-general balance encumbered = record none { assigned = lesser encumbered balance; unassigned = balance -ℤ lesser encumbered balance }
+general balance encumbered =
+    record none {
+      assigned = lesser encumbered balance;
+      unassigned =
+          balance -ℤ lesser encumbered balance;
+    }
 
 -- of a balance above zero
 abbrev pub above_zero : FundType → BalanceClass → ℤ → ℤ → Classes
-above_zero fund_type.Permanent constrained balance encumbered = record none { nonspendable = balance }
+above_zero fund_type.Permanent constrained balance encumbered =
+    record none { nonspendable = balance }
 above_zero fund_type.General constrained balance encumbered = general balance encumbered
 above_zero t constrained balance encumbered = in_class constrained balance
 
 -- a balance that isn't above zero is unassigned
 abbrev pub classes_by : FundType → BalanceClass → ℤ → ℤ → Classes
-classes_by t constrained balance encumbered = if int_lt (pos 0) balance then above_zero t constrained balance encumbered else record none { unassigned = balance }
+classes_by t constrained balance encumbered = if int_lt (pos 0) balance
+    then above_zero t constrained balance encumbered else record none { unassigned = balance }
 
 -- the classes of a fund's balance through the year
 abbrev pub classes_of : Plan → Sums → ℕ → Fund → Classes
 classes_of plan sums year f =
-    classes_by f.fund_type (class_of f.fund_type f.balance_class) (sums.fund_balance year f.id) (encumbered_from sums year f.id 0 plan.lines)
+    classes_by f.fund_type (class_of f.fund_type f.balance_class) (sums.fund_balance year f.id)
+    (encumbered_from sums year f.id 0 plan.lines)
 
 abbrev pub class_sum : Classes → ℤ
 class_sum c = c.nonspendable +ℤ (c.restricted +ℤ (c.committed +ℤ (c.assigned +ℤ c.unassigned)))
@@ -71,14 +89,18 @@ class_rows c balance =
     ∷ []
 
 abbrev pub fund_rows : Plan → Sums → ℕ → Fund → List Row
-fund_rows plan sums year f = heading f.name ∷ class_rows (classes_of plan sums year f) (sums.fund_balance year f.id)
+fund_rows plan sums year f =
+    heading f.name ∷ class_rows (classes_of plan sums year f) (sums.fund_balance year f.id)
 
 abbrev pub classes_rows : Plan → Sums → ℕ → List Row
-classes_rows plan sums year = flat_map (fund_rows plan sums year) plan.funds ++ single (codes "Total fund balances") (sums.total year) ∷ []
+classes_rows plan sums year =
+    flat_map (fund_rows plan sums year) plan.funds
+    ++ single (codes "Total fund balances") (sums.total year) ∷ []
 
 -- the law of the statement: the classes of each fund sum to its balance
 abbrev pub ClassesSum : Plan → Sums → ℕ → Type 0
-ClassesSum plan sums year = (f : Fund) → class_sum (classes_of plan sums year f) ≡ sums.fund_balance year f.id
+ClassesSum plan sums year = (f : Fund)
+    → class_sum (classes_of plan sums year f) ≡ sums.fund_balance year f.id
 
 -- no class of a balance that isn't below zero is below zero or above the balance
 abbrev pub IsWithin : ℤ → ℤ → Type 0
@@ -92,4 +114,5 @@ pub record AreWithin (balance : ℤ) (c : Classes) : Type 0 where
   pub unassigned : IsWithin balance c.unassigned
 
 abbrev pub ClassesWithin : Plan → Sums → ℕ → Type 0
-ClassesWithin plan sums year = (f : Fund) → pos 0 ≤ℤ sums.fund_balance year f.id → AreWithin (sums.fund_balance year f.id) (classes_of plan sums year f)
+ClassesWithin plan sums year = (f : Fund) → pos 0 ≤ℤ sums.fund_balance year f.id
+    → AreWithin (sums.fund_balance year f.id) (classes_of plan sums year f)

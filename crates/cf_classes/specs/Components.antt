@@ -1,4 +1,5 @@
--- The components of net position (GASB Statement 34; that all bonds and leases count as capital debt is an own rule).
+-- The components of net position (GASB Statement 34; that all bonds and leases count as capital
+-- debt is an own rule).
 use Rattle.std.specs.Prelude.{◌≡◌, ℕ, ℤ, pos, ◌+ℤ◌, ◌-ℤ◌, List, [], ◌∷◌, codes}
 use Rattle.cf_calls.specs.declared.reply.Row.{Row}
 use Rattle.cf_calls.specs.declared.shown.ReconShown.{ReconShown}
@@ -8,7 +9,8 @@ use Rattle.cf_classes.specs.Classes.{classes_of}
 use Rattle.cf_classes.specs.declared.classes.Classes.{Classes}
 use Rattle.cf_statements.specs.Sums.{Sums, single}
 
--- capital and right-to-use assets less bonds and leases, which a reconciliation has with their sign turned
+-- capital and right-to-use assets less bonds and leases, which a reconciliation has with their sign
+-- turned
 abbrev pub net_investment : ReconShown → ℤ
 net_investment r = (r.capital_assets +ℤ r.right_to_use) +ℤ (r.bonds +ℤ r.leases)
 
@@ -22,10 +24,12 @@ restricted_of plan sums year f = kept_back (classes_of plan sums year f)
 -- .. and of all these funds'
 abbrev pub restricted : Plan → Sums → ℕ → List Fund → ℤ
 restricted plan sums year [] = pos 0
-restricted plan sums year (f ∷ funds) = restricted_of plan sums year f +ℤ restricted plan sums year funds
+restricted plan sums year (f ∷ funds) =
+    restricted_of plan sums year f +ℤ restricted plan sums year funds
 
 abbrev pub unrestricted : Plan → Sums → ℕ → ReconShown → ℤ
-unrestricted plan sums year r = r.net_position -ℤ (net_investment r +ℤ restricted plan sums year plan.funds)
+unrestricted plan sums year r =
+    r.net_position -ℤ (net_investment r +ℤ restricted plan sums year plan.funds)
 
 abbrev pub rows_of : ℤ → ℤ → ℤ → ℤ → List Row
 rows_of investment restricted rest net_position =
@@ -36,8 +40,12 @@ rows_of investment restricted rest net_position =
     ∷ []
 
 abbrev pub component_rows : Plan → Sums → ℕ → ReconShown → List Row
-component_rows plan sums year r = rows_of (net_investment r) (restricted plan sums year plan.funds) (unrestricted plan sums year r) r.net_position
+component_rows plan sums year r =
+    rows_of (net_investment r) (restricted plan sums year plan.funds)
+    (unrestricted plan sums year r) r.net_position
 
 -- the law of the statement: the components sum to net position
 abbrev pub ComponentsSum : Plan → Sums → ℕ → ReconShown → Type 0
-ComponentsSum plan sums year r = net_investment r +ℤ (restricted plan sums year plan.funds +ℤ unrestricted plan sums year r) ≡ r.net_position
+ComponentsSum plan sums year r =
+    net_investment r +ℤ (restricted plan sums year plan.funds +ℤ unrestricted plan sums year r)
+    ≡ r.net_position

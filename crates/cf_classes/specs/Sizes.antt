@@ -6,7 +6,8 @@ use Rattle.cf_statements.specs.Sums.{Sums}
 
 -- the fund balances of a year, and the encumbrances of its lines
 pub record AreSmall (plan : Plan) (sums : Sums) (year : ℕ) : Type 0 where
-  pub encumbered : (line : ℕ) → line < length plan.lines → unsigned_abs (sums.numbers line year).encumbered < 2 ^ 111
+  pub encumbered : (line : ℕ) → line < length plan.lines
+      → unsigned_abs (sums.numbers line year).encumbered < 2 ^ 111
   pub balances : (fund : ℕ) → unsigned_abs (sums.fund_balance year fund) < 2 ^ 108
 
 -- what is capital of a reconciliation, and net position

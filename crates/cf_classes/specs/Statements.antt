@@ -15,14 +15,16 @@ abbrev pub class_rows : Plan → List Entry → ℕ → List Row
 class_rows plan history year = classes_rows plan (sums_of plan history) year
 
 abbrev pub component_rows : Plan → List Entry → ℕ → List Row
-component_rows plan history year = component.component_rows plan (sums_of plan history) year (recon_shown plan year history)
+component_rows plan history year =
+    component.component_rows plan (sums_of plan history) year (recon_shown plan year history)
 
 abbrev pub major_rows : Plan → List Entry → ℕ → List Row
 major_rows plan history year = major.major_rows plan (sums_of plan history) year
 
--- the classes of each fund sum to its balance, and where that isn't below zero each lies between zero
--- and it; the components sum to net position; assets less liabilities are each fund's balance; the major
--- and the other funds come to the total, and the others are those that aren't major, together
+-- the classes of each fund sum to its balance, and where that isn't below zero each lies between
+-- zero and it; the components sum to net position; assets less liabilities are each fund's balance;
+-- the major and the other funds come to the total, and the others are those that aren't major,
+-- together
 pub record AddUp (plan : Plan) (history : List Entry) (year : ℕ) : Type 0 where
   pub classes : ClassesSum plan (sums_of plan history) year
   pub within : ClassesWithin plan (sums_of plan history) year

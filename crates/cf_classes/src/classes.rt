@@ -30,8 +30,8 @@ const NONE: Classes = Classes {
     unassigned: 0,
 };
 
-/// What a fund's balance is constrained to: what the chart states, else assigned for capital projects and restricted for
-/// others.
+/// What a fund's balance is constrained to: what the chart states, else assigned for capital
+/// projects and restricted for others.
 fn class_of(fund_type: FundType, stated: Option<BalanceClass>) -> BalanceClass
     ensures { result ≡ spec.class_of fund_type stated }
 {
@@ -56,7 +56,8 @@ fn in_class(constrained: BalanceClass, balance: i128) -> Classes
     classes
 }
 
-/// The general fund's classes: what is encumbered is assigned, up to the balance, and the rest unassigned.
+/// The general fund's classes: what is encumbered is assigned, up to the balance, and the rest
+/// unassigned.
 fn general(balance: i128, encumbered: i128) -> Classes
     requires balance { unsigned_abs balance < 2 ^ 120 }
     requires encumbered { unsigned_abs encumbered ≤ 2 ^ 124 }
@@ -153,8 +154,11 @@ pub(crate) fn classes_of<F: Figures>(figures: &F, year: u16, fund: &Fund) -> Cla
     requires year { IsYear year }
     requires lent { (line : ℕ) → F.lends figures.now line ≡ true }
     requires small { AreSmall (F.plan figures.now) (F.sums figures.now) year }
-    ensures value { result ≡ spec.classes_of (F.plan figures.now) (F.sums figures.now) year fund.now }
-    ensures whole { class_sum (spec.classes_of (F.plan figures.now) (F.sums figures.now) year fund.now) ≡ (F.sums figures.now).fund_balance year fund.now.id }
+    ensures value { result
+        ≡ spec.classes_of (F.plan figures.now) (F.sums figures.now) year fund.now }
+    ensures whole { class_sum
+        (spec.classes_of (F.plan figures.now) (F.sums figures.now) year fund.now)
+        ≡ (F.sums figures.now).fund_balance year fund.now.id }
 {
     let lines = figures.chart().lines();
     let encumbered = encumbered(figures, year, fund.id, lines);
@@ -176,7 +180,9 @@ fn put_fund<F: Figures>(
     requires year { IsYear year }
     requires lent { (line : ℕ) → F.lends figures.now line ≡ true }
     requires small { AreSmall (F.plan figures.now) (F.sums figures.now) year }
-    ensures { OnOk result (rows.new.items ≡ rows.old.items ++ fund_rows (F.plan figures.now) (F.sums figures.now) year fund.now) }
+    ensures { OnOk result
+        (rows.new.items ≡ rows.old.items
+        ++ fund_rows (F.plan figures.now) (F.sums figures.now) year fund.now) }
 {
     let classes = classes_of(figures, year, fund);
     put_heading(alloc, rows, fund.name.as_str())?;
@@ -215,7 +221,9 @@ fn put_funds<F: Figures>(
     requires year { IsYear year }
     requires lent { (line : ℕ) → F.lends figures.now line ≡ true }
     requires small { AreSmall (F.plan figures.now) (F.sums figures.now) year }
-    ensures { OnOk result (rows.new.items ≡ rows.old.items ++ flat_map (fund_rows (F.plan figures.now) (F.sums figures.now) year) funds.now) }
+    ensures { OnOk result
+        (rows.new.items ≡ rows.old.items
+        ++ flat_map (fund_rows (F.plan figures.now) (F.sums figures.now) year) funds.now) }
 {
     for fund in funds {
         put_fund(alloc, rows, figures, year, fund)?;
@@ -231,13 +239,16 @@ fn put_total<F: Figures>(
     label: &str,
 ) -> Result<(), AllocError>
     requires { IsYear year }
-    ensures { OnOk result (rows.new.items ≡ rows.old.items ++ single label.now ((F.sums figures.now).total year) ∷ []) }
+    ensures { OnOk result
+        (rows.new.items ≡ rows.old.items ++ single label.now ((F.sums figures.now).total year)
+        ∷ []) }
 {
     put_single(alloc, rows, label, figures.total(year))
 }
 
-/// The rows of the classes of fund balances (GASB Statement 54), through the year, in cents: of each fund by id its five
-/// classes, which sum to its balance, and its balance; at the end the total of all. It fails exactly for want of memory.
+/// The rows of the classes of fund balances (GASB Statement 54), through the year, in cents: of
+/// each fund by id its five classes, which sum to its balance, and its balance; at the end the
+/// total of all. It fails exactly for want of memory.
 #[tactic(auto, using(crate::proofs::Whole::classes_sum))]
 pub fn fund_classes<F: Figures>(
     alloc: Global,
@@ -247,7 +258,8 @@ pub fn fund_classes<F: Figures>(
     requires year { IsYear year }
     requires lent { (line : ℕ) → F.lends figures.now line ≡ true }
     requires small { AreSmall (F.plan figures.now) (F.sums figures.now) year }
-    ensures rows { IfOk result (λ rows. rows.items ≡ classes_rows (F.plan figures.now) (F.sums figures.now) year) }
+    ensures rows { IfOk result
+        (λ rows. rows.items ≡ classes_rows (F.plan figures.now) (F.sums figures.now) year) }
     ensures whole { ClassesSum (F.plan figures.now) (F.sums figures.now) year }
 {
     let mut rows = Vec::new(alloc);

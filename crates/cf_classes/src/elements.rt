@@ -38,10 +38,12 @@ fn liabilities<F: Figures>(figures: &F, year: u16, fund: u16) -> i128
     difference(0, sum(payable, other))
 }
 
-/// The elements of a fund: assets and liabilities through the year, revenues and expenditures of the year.
+/// The elements of a fund: assets and liabilities through the year, revenues and expenditures of
+/// the year.
 pub(crate) fn elements_of<F: Figures>(figures: &F, year: u16, fund: &Fund) -> Elements
     requires { IsYear year }
-    ensures value { result ≡ spec.elements_of (F.plan figures.now) (F.sums figures.now) year fund.now }
+    ensures value { result
+        ≡ spec.elements_of (F.plan figures.now) (F.sums figures.now) year fund.now }
     ensures small { AreWithin (2 ^ 114) result }
 {
     let chart = figures.chart();

@@ -73,7 +73,8 @@ fn is_major(fund: &Fund, one: &Elements, total: &Elements) -> bool
 fn total_of<F: Figures>(figures: &F, year: u16, funds: &[Fund]) -> Elements
     requires year { IsYear year }
     requires few { length funds.now ≤ 64 }
-    ensures value { result ≡ spec.over (spec.elements_of (F.plan figures.now) (F.sums figures.now) year) funds.now }
+    ensures value { result
+        ≡ spec.over (spec.elements_of (F.plan figures.now) (F.sums figures.now) year) funds.now }
     ensures small { AreWithin (64 * 2 ^ 114) result }
 {
     let mut total = NOTHING;
@@ -86,7 +87,8 @@ fn total_of<F: Figures>(figures: &F, year: u16, funds: &[Fund]) -> Elements
 /// The elements of a fund where it is major, and else nothing.
 fn major_part<F: Figures>(figures: &F, year: u16, fund: &Fund, total: &Elements) -> Elements
     requires { IsYear year }
-    ensures value { result ≡ spec.major_part (F.plan figures.now) (F.sums figures.now) year total.now fund.now }
+    ensures value { result
+        ≡ spec.major_part (F.plan figures.now) (F.sums figures.now) year total.now fund.now }
     ensures small { AreWithin (2 ^ 114) result }
 {
     let one = elements_of(figures, year, fund);
@@ -101,7 +103,9 @@ fn major_part<F: Figures>(figures: &F, year: u16, fund: &Fund, total: &Elements)
 fn major_of<F: Figures>(figures: &F, year: u16, funds: &[Fund], total: &Elements) -> Elements
     requires year { IsYear year }
     requires few { length funds.now ≤ 64 }
-    ensures value { result ≡ spec.over (spec.major_part (F.plan figures.now) (F.sums figures.now) year total.now) funds.now }
+    ensures value { result
+        ≡ spec.over (spec.major_part (F.plan figures.now) (F.sums figures.now) year total.now)
+        funds.now }
     ensures small { AreWithin (64 * 2 ^ 114) result }
 {
     let mut sum = NOTHING;
@@ -147,7 +151,9 @@ fn put_fund<F: Figures>(
     total: &Elements,
 ) -> Result<(), AllocError>
     requires { IsYear year }
-    ensures { OnOk result (rows.new.items ≡ rows.old.items ++ fund_rows (F.plan figures.now) (F.sums figures.now) year total.now fund.now) }
+    ensures { OnOk result
+        (rows.new.items ≡ rows.old.items
+        ++ fund_rows (F.plan figures.now) (F.sums figures.now) year total.now fund.now) }
 {
     let one = elements_of(figures, year, fund);
     if is_major(fund, &one, total) {
@@ -165,7 +171,10 @@ fn put_funds<F: Figures>(
     total: &Elements,
 ) -> Result<(), AllocError>
     requires { IsYear year }
-    ensures { OnOk result (rows.new.items ≡ rows.old.items ++ flat_map (fund_rows (F.plan figures.now) (F.sums figures.now) year total.now) funds.now) }
+    ensures { OnOk result
+        (rows.new.items ≡ rows.old.items
+        ++ flat_map (fund_rows (F.plan figures.now) (F.sums figures.now) year total.now)
+        funds.now) }
 {
     for fund in funds {
         put_fund(alloc, rows, figures, year, fund, total)?;
@@ -194,7 +203,10 @@ fn rows_by<F: Figures>(
     funds: &[Fund],
 ) -> Result<Vec<Row>, AllocError>
     requires { IsYear year }
-    ensures { IfOk result (λ rows. rows.items ≡ spec.rows_by (F.plan figures.now) (F.sums figures.now) year total.now others.now funds.now) }
+    ensures { IfOk result
+        (λ rows. rows.items
+        ≡ spec.rows_by (F.plan figures.now)
+        (F.sums figures.now) year total.now others.now funds.now) }
 {
     let mut rows = Vec::new(alloc);
     put_funds(alloc, &mut rows, figures, year, funds, total)?;
@@ -215,17 +227,19 @@ fn totals<F: Figures>(figures: &F, year: u16, funds: &[Fund]) -> (Elements, Elem
     (total, less(total, major))
 }
 
-/// The rows of the major funds (GASB Statement 34), in cents: the assets and the liabilities with deferred inflows through the
-/// year, and the revenues and expenditures of the year, of each major fund by id, then of the other funds together, and of all. The
-/// general fund is major, and each other that has a tenth of some element of all funds, where that is above zero. It fails exactly for
-/// want of memory.
+/// The rows of the major funds (GASB Statement 34), in cents: the assets and the liabilities with
+/// deferred inflows through the year, and the revenues and expenditures of the year, of each major
+/// fund by id, then of the other funds together, and of all. The general fund is major, and each
+/// other that has a tenth of some element of all funds, where that is above zero. It fails exactly
+/// for want of memory.
 pub fn major_funds<F: Figures>(
     alloc: Global,
     figures: &F,
     year: u16,
 ) -> Result<Vec<Row>, AllocError>
     requires { IsYear year }
-    ensures rows { IfOk result (λ rows. rows.items ≡ major_rows (F.plan figures.now) (F.sums figures.now) year) }
+    ensures rows { IfOk result
+        (λ rows. rows.items ≡ major_rows (F.plan figures.now) (F.sums figures.now) year) }
     ensures whole { FundsSum (F.plan figures.now) (F.sums figures.now) year }
 {
     let funds = figures.chart().funds();

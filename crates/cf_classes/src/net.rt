@@ -19,10 +19,14 @@ fn small_classes<F: Figures>(figures: &F, year: u16, fund: &Fund) -> Classes
     requires year { IsYear year }
     requires lent { (line : ℕ) → F.lends figures.now line ≡ true }
     requires small { AreSmall (F.plan figures.now) (F.sums figures.now) year }
-    ensures value { result ≡ classes_by_fund (F.plan figures.now) (F.sums figures.now) year fund.now }
-    ensures small { unsigned_abs (spec.restricted_of (F.plan figures.now) (F.sums figures.now) year fund.now) < 2 ^ 108 }
-    ensures restricted { unsigned_abs (classes_by_fund (F.plan figures.now) (F.sums figures.now) year fund.now).restricted < 2 ^ 108 }
-    ensures nonspendable { unsigned_abs (classes_by_fund (F.plan figures.now) (F.sums figures.now) year fund.now).nonspendable < 2 ^ 108 }
+    ensures value { result
+        ≡ classes_by_fund (F.plan figures.now) (F.sums figures.now) year fund.now }
+    ensures small { unsigned_abs
+        (spec.restricted_of (F.plan figures.now) (F.sums figures.now) year fund.now) < 2 ^ 108 }
+    ensures restricted { unsigned_abs (classes_by_fund (F.plan figures.now)
+        (F.sums figures.now) year fund.now).restricted < 2 ^ 108 }
+    ensures nonspendable { unsigned_abs (classes_by_fund (F.plan figures.now)
+        (F.sums figures.now) year fund.now).nonspendable < 2 ^ 108 }
 {
     classes_of(figures, year, fund)
 }
@@ -32,7 +36,8 @@ fn kept_back<F: Figures>(figures: &F, year: u16, fund: &Fund) -> i128
     requires year { IsYear year }
     requires lent { (line : ℕ) → F.lends figures.now line ≡ true }
     requires small { AreSmall (F.plan figures.now) (F.sums figures.now) year }
-    ensures value { result ≡ spec.restricted_of (F.plan figures.now) (F.sums figures.now) year fund.now }
+    ensures value { result
+        ≡ spec.restricted_of (F.plan figures.now) (F.sums figures.now) year fund.now }
     ensures small { unsigned_abs result < 2 ^ 108 }
 {
     let classes = small_classes(figures, year, fund);
@@ -45,7 +50,8 @@ fn restricted<F: Figures>(figures: &F, year: u16, funds: &[Fund]) -> i128
     requires lent { (line : ℕ) → F.lends figures.now line ≡ true }
     requires small { AreSmall (F.plan figures.now) (F.sums figures.now) year }
     requires few { length funds.now ≤ 64 }
-    ensures value { result ≡ spec.restricted (F.plan figures.now) (F.sums figures.now) year funds.now }
+    ensures value { result
+        ≡ spec.restricted (F.plan figures.now) (F.sums figures.now) year funds.now }
     ensures small { unsigned_abs result ≤ 64 * 2 ^ 108 }
 {
     let mut total = 0;
@@ -66,9 +72,10 @@ fn net_investment(recon: &ReconShown) -> i128
     sum(assets, debt)
 }
 
-/// The rows of the components of net position (GASB Statement 34), through the year, in cents: what is invested in capital assets
-/// less the debt for them, for which all bonds and leases count (own rule); what of fund balances is restricted or nonspendable; and
-/// the rest. They sum to net position. It fails exactly for want of memory.
+/// The rows of the components of net position (GASB Statement 34), through the year, in cents: what
+/// is invested in capital assets less the debt for them, for which all bonds and leases count (own
+/// rule); what of fund balances is restricted or nonspendable; and the rest. They sum to net
+/// position. It fails exactly for want of memory.
 #[tactic(auto, using(crate::proofs::Whole::components_sum))]
 pub fn components<F: Figures>(
     alloc: Global,
@@ -80,7 +87,9 @@ pub fn components<F: Figures>(
     requires lent { (line : ℕ) → F.lends figures.now line ≡ true }
     requires small { AreSmall (F.plan figures.now) (F.sums figures.now) year }
     requires recon { IsSmallRecon recon.now }
-    ensures rows { IfOk result (λ rows. rows.items ≡ component_rows (F.plan figures.now) (F.sums figures.now) year recon.now) }
+    ensures rows { IfOk result
+        (λ rows. rows.items
+        ≡ component_rows (F.plan figures.now) (F.sums figures.now) year recon.now) }
     ensures whole { ComponentsSum (F.plan figures.now) (F.sums figures.now) year recon.now }
 {
     let investment = net_investment(recon);
@@ -106,7 +115,8 @@ fn put_components(
     rest: i128,
     net_position: i128,
 ) -> Result<(), AllocError>
-    ensures { OnOk result (rows.new.items ≡ rows.old.items ++ spec.rows_of investment restricted rest net_position) }
+    ensures { OnOk result
+        (rows.new.items ≡ rows.old.items ++ spec.rows_of investment restricted rest net_position) }
 {
     put_rows(
         alloc,

@@ -143,14 +143,17 @@ voucher_numbers = kept (is_distinct same_number) (list 1 64 word)
 -- they sum to the amount of the issue, and the last is due by the end of 2199
 abbrev pub is_repayment : Day → ℕ → ℕ → List ℕ → Bool
 is_repayment on amount every principals =
-    (sum principals == amount) && nat_le (month_number on.year on.month + every * length principals) (month_number last_year 12)
+    (sum principals == amount)
+    && nat_le (month_number on.year on.month + every * length principals)
+    (month_number last_year 12)
 
 abbrev pub principals : Day → ℕ → ℕ → Format (List ℕ)
 principals on amount every = kept (is_repayment on amount every) (list 1 120 most_amount)
 
 -- .. of a lease, whose term is above 12 months (GASB Statement 87)
 abbrev pub lease_principals : Day → ℕ → ℕ → Format (List ℕ)
-lease_principals on amount every = kept (λ xs. nat_lt 12 (every * length xs)) (principals on amount every)
+lease_principals on amount every =
+    kept (λ xs. nat_lt 12 (every * length xs)) (principals on amount every)
 
 -- ---- the acts
 
@@ -258,7 +261,8 @@ disposal = do
   proceeds ← field (λ d. d.proceeds) most_amount
   done (record { asset = asset; fund = fund; proceeds = proceeds })
 
--- the rate is at most 10,000 basis points, and there are 1, 2, 3, 4, 6 or 12 months between payments
+-- the rate is at most 10,000 basis points, and there are 1, 2, 3, 4, 6 or 12 months between
+-- payments
 abbrev pub issue : Day → Format BondIssue
 issue on = do
   fund ← field (λ i. i.fund) half
@@ -266,7 +270,14 @@ issue on = do
   rate_bp ← field (λ i. i.rate_bp) (kept (λ n. nat_le n 10000) half)
   every ← field (λ i. i.every) (kept is_period byte)
   principals ← field (λ i. i.principals) (principals on amount every)
-  done (record { fund = fund; amount = amount; rate_bp = rate_bp; every = every; principals = principals })
+  done (record {
+    fund = fund;
+    amount = amount;
+    rate_bp = rate_bp;
+    every = every;
+    principals =
+        principals;
+  })
 
 abbrev pub lease : Day → Format NewLease
 lease on = do
@@ -275,7 +286,14 @@ lease on = do
   rate_bp ← field (λ l. l.rate_bp) (kept (λ n. nat_le n 10000) half)
   every ← field (λ l. l.every) (kept is_period byte)
   principals ← field (λ l. l.principals) (lease_principals on account.amount every)
-  done (record { vendor = vendor; account = account; rate_bp = rate_bp; every = every; principals = principals })
+  done (record {
+    vendor = vendor;
+    account = account;
+    rate_bp = rate_bp;
+    every = every;
+    principals =
+        principals;
+  })
 
 abbrev pub debt_payment : Format DebtPayment
 debt_payment = do
@@ -284,7 +302,14 @@ debt_payment = do
   dept ← field (λ p. p.dept) half
   principal ← field (λ p. p.principal) half
   interest ← field (λ p. p.interest) half
-  done (record { bond = bond; fund = fund; dept = dept; principal = principal; interest = interest })
+  done (record {
+    bond = bond;
+    fund = fund;
+    dept = dept;
+    principal = principal;
+    interest =
+        interest;
+  })
 
 abbrev pub leave_amount : Format LeaveAmount
 leave_amount = do
@@ -326,10 +351,17 @@ written f a = record { bytes = f.bytes a; size = f.size a; fits = f.fits a }
 
 -- behind a field that says which of several kinds it is
 abbrev pub behind : {K A : Type 0} → Format K → K → Format A → A → Written
-behind which kind f a = record { bytes = which.bytes kind ++ f.bytes a; size = which.size kind + f.size a; fits = f.fits a }
+behind which kind f a =
+    record {
+      bytes = which.bytes kind ++ f.bytes a;
+      size = which.size kind + f.size a;
+      fits =
+          f.fits a;
+    }
 
 -- values of several kinds, the kind in front
-abbrev pub one_of_kinds : {K A : Type 0} → Format K → (A → Written) → (K → List ℕ → Result (A × List ℕ) ℕ) → Format A
+abbrev pub one_of_kinds : {K A : Type 0} → Format K → (A → Written)
+    → (K → List ℕ → Result (A × List ℕ) ℕ) → Format A
 one_of_kinds which writing reading = record {
   bytes = λ a. (writing a).bytes;
   size = λ a. (writing a).size;
@@ -435,4 +467,5 @@ act_at kind.Close on bytes = made Close (closed_period.read bytes)
 act_at kind.Lease on bytes = made Lease ((lease on).read bytes)
 
 abbrev pub act_for : ActKind → Day → Format Act
-act_for kind on = record { bytes = act_bytes on; size = act_size on; fits = act_fits on; read = act_at kind on }
+act_for kind on = record
+    { bytes = act_bytes on; size = act_size on; fits = act_fits on; read = act_at kind on }

@@ -70,7 +70,11 @@ entry_in version = do
   on ← field (λ e. e.change.on) (on_for kind)
   act ← field (λ e. e.change.act) (act_for kind on)
   drawn ← field (λ e. e.drawn) (drawn_for act)
-  done (record { change = record { desk = desk; key = key; on = on; after = None; act = act }; drawn = drawn })
+  done (record {
+    change =
+        record { desk = desk; key = key; on = on; after = None; act = act };
+    drawn = drawn;
+  })
 
 -- every entry has its payload in version 2
 abbrev pub entry : Format Entry
@@ -89,11 +93,13 @@ abbrev pub placed : List ℕ → Result (Entry × List ℕ) ℕ → Result (Entr
 placed bytes (Ok x) = Ok (x.0, length bytes - length x.1)
 placed bytes (Err left) = Err (length bytes - left)
 
--- the entry whose payload the first of these bytes are, and how many they are; else the offset of the first faulty field
+-- the entry whose payload the first of these bytes are, and how many they are; else the offset of
+-- the first faulty field
 unfoldable pub read_of : ℕ → List ℕ → Result (Entry × ℕ) ℕ
 read_of version bytes = placed bytes ((entry_in version).read bytes)
 
--- an entry that has a payload: it is in form, and its numbers fit their fields, as those of an `Entry` do
+-- an entry that has a payload: it is in form, and its numbers fit their fields, as those of an
+-- `Entry` do
 pub record HasPayload (e : Entry) : Type 0 where
   pub form : IsEntryInForm e
   pub fits : entry.fits e

@@ -3,8 +3,9 @@
 /// What is wrong with the bytes.
 #[derive(Clone, Copy)]
 pub struct CodecFault {
-    /// The place of the first byte of the first field that is cut short, out of its range, or against a
-    /// rule with the fields before it. A rule on a whole list is broken at the list's count.
+    /// The place of the first byte of the first field that is cut short, out of its range, or
+    /// against a rule with the fields before it. A rule on a whole list is broken at the list's
+    /// count.
     pub offset: usize,
 }
 

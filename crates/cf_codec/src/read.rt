@@ -17,7 +17,8 @@ use cf_codec_fields::kind::is_of;
 use cf_codec_fields::take::{faulty, take_day, take_half, take_key, take_kind, take_word};
 use std::alloc::Global;
 
-/// Whether an entry of a kind may be dated so: a bond is issued, and a lease begins, on one of the first 28 days of a month.
+/// Whether an entry of a kind may be dated so: a bond is issued, and a lease begins, on one of the
+/// first 28 days of a month.
 fn may_be_on(kind: ActKind, on: Day) -> bool
     ensures { result ≡ spec.may_be_on kind on }
 {
@@ -126,15 +127,17 @@ fn entry_at(alloc: Global, bytes: &[u8], version: u8) -> Result<(Entry, usize), 
     }
 }
 
-/// The entry whose payload the first of these bytes are in the grammar of a version, 1 or 2, and how many they are. Otherwise
-/// the offset of the first faulty field, or `NoMemory`.
+/// The entry whose payload the first of these bytes are in the grammar of a version, 1 or 2, and
+/// how many they are. Otherwise the offset of the first faulty field, or `NoMemory`.
 pub fn read_entry(alloc: Global, bytes: &[u8], version: u8) -> Result<(Entry, usize), CodecRefused>
     // What is read has a payload, which stands at the front, and is of the version.
     ensures found { IfOk result (λ x. BeginsWith bytes.now x.0 x.1) }
     ensures of { IfOk result (λ x. IsOf version x.0) }
 
-    // Where a payload of the version stands at the front its entry is read, unless there is no memory.
-    ensures only { (e : Entry) (rest : List ℕ) → HasPayload e → IsOf version e → bytes.now ≡ payload e ++ rest
+    // Where a payload of the version stands at the front its entry is read, unless there is no
+    // memory.
+    ensures only { (e : Entry) (rest : List ℕ) → HasPayload e → IsOf version e
+        → bytes.now ≡ payload e ++ rest
         → Answers result (Ok (e, length (payload e))) }
 
     // Which entry it is, or which field is faulty.

@@ -1,5 +1,5 @@
-//! The readers of the acts: the fields of each in order, with the rules of form where they speak. Each gives
-//! the act and the bytes after it.
+//! The readers of the acts: the fields of each in order, with the rules of form where they speak.
+//! Each gives the act and the bytes after it.
 
 ghost use Rattle.std.specs.Prelude.{◌≡◌, ◌+◌, ◌*◌, ◌<◌, nat_le, nat_lt, sum, length};
 ghost use Rattle.cf_base.specs.Limits.{last_year};
@@ -30,7 +30,8 @@ use cf_codec_fields::take::{
 use std::alloc::Global;
 
 fn take_adoption(alloc: Global, bytes: &[u8]) -> Result<(Act, &[u8]), Refused>
-    ensures { Gives (λ x. (x.0, x.1.now)) result (spec.made act.Adopt (spec.adoption.read bytes.now)) }
+    ensures { Gives (λ x. (x.0, x.1.now)) result
+        (spec.made act.Adopt (spec.adoption.read bytes.now)) }
 {
     let (fund, rest) = take_half(bytes)?;
     let (year, rest) = take_year(rest)?;
@@ -46,7 +47,8 @@ fn take_adoption(alloc: Global, bytes: &[u8]) -> Result<(Act, &[u8]), Refused>
 }
 
 fn take_amendment(bytes: &[u8]) -> Result<(Act, &[u8]), Refused>
-    ensures { Gives (λ x. (x.0, x.1.now)) result (spec.made act.Amend (spec.amendment.read bytes.now)) }
+    ensures { Gives (λ x. (x.0, x.1.now)) result
+        (spec.made act.Amend (spec.amendment.read bytes.now)) }
 {
     let (fund, rest) = take_half(bytes)?;
     let (year, rest) = take_year(rest)?;
@@ -70,7 +72,8 @@ fn take_other_than(number: u16, bytes: &[u8]) -> Result<(u16, &[u8]), Refused>
 }
 
 fn take_transfer(bytes: &[u8]) -> Result<(Act, &[u8]), Refused>
-    ensures { Gives (λ x. (x.0, x.1.now)) result (spec.made act.Transfer (spec.transfer.read bytes.now)) }
+    ensures { Gives (λ x. (x.0, x.1.now)) result
+        (spec.made act.Transfer (spec.transfer.read bytes.now)) }
 {
     let (fund, rest) = take_half(bytes)?;
     let (year, rest) = take_year(rest)?;
@@ -88,7 +91,8 @@ fn take_transfer(bytes: &[u8]) -> Result<(Act, &[u8]), Refused>
 }
 
 fn take_new_requisition(alloc: Global, bytes: &[u8]) -> Result<(Act, &[u8]), Refused>
-    ensures { Gives (λ x. (x.0, x.1.now)) result (spec.made act.Requisition (spec.new_requisition.read bytes.now)) }
+    ensures { Gives (λ x. (x.0, x.1.now)) result
+        (spec.made act.Requisition (spec.new_requisition.read bytes.now)) }
 {
     let (items, rest) = take_list::<AccountElement>(alloc, 1, 32, bytes)?;
     Ok((Act::Requisition(NewRequisition { items }), rest))
@@ -113,7 +117,8 @@ fn take_optional(bytes: &[u8]) -> Result<(Option<u32>, &[u8]), Refused>
 }
 
 fn take_new_order(alloc: Global, bytes: &[u8]) -> Result<(Act, &[u8]), Refused>
-    ensures { Gives (λ x. (x.0, x.1.now)) result (spec.made act.Order (spec.new_order.read bytes.now)) }
+    ensures { Gives (λ x. (x.0, x.1.now)) result
+        (spec.made act.Order (spec.new_order.read bytes.now)) }
 {
     let (vendor, rest) = take_word(bytes)?;
     let (requisition, rest) = take_optional(rest)?;
@@ -127,7 +132,8 @@ fn take_new_order(alloc: Global, bytes: &[u8]) -> Result<(Act, &[u8]), Refused>
 }
 
 fn take_order_change(bytes: &[u8]) -> Result<(Act, &[u8]), Refused>
-    ensures { Gives (λ x. (x.0, x.1.now)) result (spec.made act.ChangeOrder (spec.order_change.read bytes.now)) }
+    ensures { Gives (λ x. (x.0, x.1.now)) result
+        (spec.made act.ChangeOrder (spec.order_change.read bytes.now)) }
 {
     let (order, rest) = take_word(bytes)?;
     let at_item = rest;
@@ -156,7 +162,8 @@ fn take_cancellation(bytes: &[u8]) -> Result<(Act, &[u8]), Refused>
 }
 
 fn take_new_voucher(alloc: Global, bytes: &[u8]) -> Result<(Act, &[u8]), Refused>
-    ensures { Gives (λ x. (x.0, x.1.now)) result (spec.made act.Voucher (spec.new_voucher.read bytes.now)) }
+    ensures { Gives (λ x. (x.0, x.1.now)) result
+        (spec.made act.Voucher (spec.new_voucher.read bytes.now)) }
 {
     let (vendor, rest) = take_word(bytes)?;
     let (back, rest) = take_flag(rest)?;
@@ -184,7 +191,8 @@ fn take_payment(alloc: Global, bytes: &[u8]) -> Result<(Act, &[u8]), Refused>
 }
 
 fn take_new_bill(bytes: &[u8]) -> Result<(Act, &[u8]), Refused>
-    ensures { Gives (λ x. (x.0, x.1.now)) result (spec.made act.Bill (spec.new_bill.read bytes.now)) }
+    ensures { Gives (λ x. (x.0, x.1.now)) result
+        (spec.made act.Bill (spec.new_bill.read bytes.now)) }
 {
     let (source, rest) = take_half(bytes)?;
     let (levy_year, rest) = take_year(rest)?;
@@ -208,21 +216,24 @@ fn take_bill_amount(bytes: &[u8]) -> Result<(BillAmount, &[u8]), Refused>
 }
 
 fn take_collection(bytes: &[u8]) -> Result<(Act, &[u8]), Refused>
-    ensures { Gives (λ x. (x.0, x.1.now)) result (spec.made act.Collect (spec.bill_amount.read bytes.now)) }
+    ensures { Gives (λ x. (x.0, x.1.now)) result
+        (spec.made act.Collect (spec.bill_amount.read bytes.now)) }
 {
     let (amount, rest) = take_bill_amount(bytes)?;
     Ok((Act::Collect(amount), rest))
 }
 
 fn take_receipt(bytes: &[u8]) -> Result<(Act, &[u8]), Refused>
-    ensures { Gives (λ x. (x.0, x.1.now)) result (spec.made act.Receive (spec.source_amount.read bytes.now)) }
+    ensures { Gives (λ x. (x.0, x.1.now)) result
+        (spec.made act.Receive (spec.source_amount.read bytes.now)) }
 {
     let (receipt, rest) = SourceElement::take(bytes)?;
     Ok((Act::Receive(receipt), rest))
 }
 
 fn take_write_off(bytes: &[u8]) -> Result<(Act, &[u8]), Refused>
-    ensures { Gives (λ x. (x.0, x.1.now)) result (spec.made act.WriteOff (spec.bill_amount.read bytes.now)) }
+    ensures { Gives (λ x. (x.0, x.1.now)) result
+        (spec.made act.WriteOff (spec.bill_amount.read bytes.now)) }
 {
     let (amount, rest) = take_bill_amount(bytes)?;
     Ok((Act::WriteOff(amount), rest))
@@ -257,7 +268,8 @@ fn take_disposal(bytes: &[u8]) -> Result<(Disposal, &[u8]), Refused>
 }
 
 fn take_asset_act(bytes: &[u8]) -> Result<(Act, &[u8]), Refused>
-    ensures { Gives (λ x. (x.0, x.1.now)) result (spec.made act.Asset (spec.asset_act.read bytes.now)) }
+    ensures { Gives (λ x. (x.0, x.1.now)) result
+        (spec.made act.Asset (spec.asset_act.read bytes.now)) }
 {
     let (is_disposal, rest) = take_flag(bytes)?;
     if is_disposal {
@@ -282,7 +294,8 @@ fn total(principals: &[u64]) -> u128
 
 /// Whether the last of so many payments, `every` months apart, is due by the end of 2199.
 fn is_due_in_time(on: Day, every: u16, payments: usize) -> bool
-    ensures { result ≡ nat_le (month_number on.year on.month + every * payments) (month_number last_year 12) }
+    ensures { result ≡ nat_le (month_number on.year on.month + every * payments)
+        (month_number last_year 12) }
 {
     let issued = 12 * u128::from(on.year) + u128::from(on.month);
     issued + u128::from(every) * payments as u128 <= 12 * u128::from(LAST_YEAR) + 12
@@ -302,7 +315,8 @@ fn take_principals(
     every: u16,
     bytes: &[u8],
 ) -> Result<(Principals, &[u8]), Refused>
-    ensures { Gives (λ x. (x.0, x.1.now)) result ((spec.principals on amount every).read bytes.now) }
+    ensures { Gives (λ x. (x.0, x.1.now)) result
+        ((spec.principals on amount every).read bytes.now) }
 {
     let (principals, rest) = take_list::<Principal>(alloc, 1, 120, bytes)?;
     if is_repayment(on, amount, every, principals.as_slice()) {
@@ -328,7 +342,8 @@ fn take_every(bytes: &[u8]) -> Result<(u16, &[u8]), Refused>
 }
 
 fn take_issue(alloc: Global, on: Day, bytes: &[u8]) -> Result<(Act, &[u8]), Refused>
-    ensures { Gives (λ x. (x.0, x.1.now)) result (spec.made act.Issue ((spec.issue on).read bytes.now)) }
+    ensures { Gives (λ x. (x.0, x.1.now)) result
+        (spec.made act.Issue ((spec.issue on).read bytes.now)) }
 {
     let (fund, rest) = take_half(bytes)?;
     let (amount, rest) = take_amount(rest)?;
@@ -355,7 +370,8 @@ fn take_lease_principals(
     every: u16,
     bytes: &[u8],
 ) -> Result<(Principals, &[u8]), Refused>
-    ensures { Gives (λ x. (x.0, x.1.now)) result ((spec.lease_principals on amount every).read bytes.now) }
+    ensures { Gives (λ x. (x.0, x.1.now)) result
+        ((spec.lease_principals on amount every).read bytes.now) }
 {
     let (principals, rest) = take_principals(alloc, on, amount, every, bytes)?;
     if is_long(every, principals.as_slice()) {
@@ -373,7 +389,8 @@ fn is_long(every: u16, principals: &[u64]) -> bool
 }
 
 fn take_lease(alloc: Global, on: Day, bytes: &[u8]) -> Result<(Act, &[u8]), Refused>
-    ensures { Gives (λ x. (x.0, x.1.now)) result (spec.made act.Lease ((spec.lease on).read bytes.now)) }
+    ensures { Gives (λ x. (x.0, x.1.now)) result
+        (spec.made act.Lease ((spec.lease on).read bytes.now)) }
 {
     let (vendor, rest) = take_word(bytes)?;
     let (account, rest) = AccountElement::take(rest)?;
@@ -393,7 +410,8 @@ fn take_lease(alloc: Global, on: Day, bytes: &[u8]) -> Result<(Act, &[u8]), Refu
 }
 
 fn take_debt_payment(bytes: &[u8]) -> Result<(Act, &[u8]), Refused>
-    ensures { Gives (λ x. (x.0, x.1.now)) result (spec.made act.PayDue (spec.debt_payment.read bytes.now)) }
+    ensures { Gives (λ x. (x.0, x.1.now)) result
+        (spec.made act.PayDue (spec.debt_payment.read bytes.now)) }
 {
     let (bond, rest) = take_word(bytes)?;
     let (fund, rest) = take_half(rest)?;
@@ -437,7 +455,8 @@ fn take_maturity(bytes: &[u8]) -> Result<(LeaveMaturity, &[u8]), Refused>
 }
 
 fn take_leave_act(bytes: &[u8]) -> Result<(Act, &[u8]), Refused>
-    ensures { Gives (λ x. (x.0, x.1.now)) result (spec.made act.Leave (spec.leave_act.read bytes.now)) }
+    ensures { Gives (λ x. (x.0, x.1.now)) result
+        (spec.made act.Leave (spec.leave_act.read bytes.now)) }
 {
     let (what, rest) = take_one_of(3, bytes)?;
     match what {
@@ -457,7 +476,8 @@ fn take_leave_act(bytes: &[u8]) -> Result<(Act, &[u8]), Refused>
 }
 
 fn take_fund_move(bytes: &[u8]) -> Result<(Act, &[u8]), Refused>
-    ensures { Gives (λ x. (x.0, x.1.now)) result (spec.made act.Interfund (spec.fund_move.read bytes.now)) }
+    ensures { Gives (λ x. (x.0, x.1.now)) result
+        (spec.made act.Interfund (spec.fund_move.read bytes.now)) }
 {
     let (what, rest) = take_move_kind(bytes)?;
     let (from, rest) = take_half(rest)?;
@@ -473,7 +493,8 @@ fn take_fund_move(bytes: &[u8]) -> Result<(Act, &[u8]), Refused>
 }
 
 fn take_period(bytes: &[u8]) -> Result<(Act, &[u8]), Refused>
-    ensures { Gives (λ x. (x.0, x.1.now)) result (spec.made act.Close (spec.closed_period.read bytes.now)) }
+    ensures { Gives (λ x. (x.0, x.1.now)) result
+        (spec.made act.Close (spec.closed_period.read bytes.now)) }
 {
     let (is_year, rest) = take_flag(bytes)?;
     if is_year {

@@ -43,7 +43,8 @@ fn put_entry(out: &mut Vec<u8>, e: &Entry)
     put_drawn(out, e.change.act.draws(), e.drawn);
 }
 
-/// How many bytes the payload of an entry in form has: from 12 to 43,576, which is the longest adoption.
+/// How many bytes the payload of an entry in form has: from 12 to 43,576, which is the longest
+/// adoption.
 pub fn payload_len(entry: &Entry) -> u64
     requires form { IsEntryInForm entry.now }
     ensures size { result ≡ length (payload entry.now) }
@@ -52,13 +53,14 @@ pub fn payload_len(entry: &Entry) -> u64
     entry_len(entry)
 }
 
-/// Appends the payload of an entry in form. It takes no memory where `out` has room for it. Where there is
-/// none, `out` stays.
+/// Appends the payload of an entry in form. It takes no memory where `out` has room for it. Where
+/// there is none, `out` stays.
 #[tactic(auto, unfolding(crate::specs::Entries::payload))]
 pub fn write_entry(entry: &Entry, out: &mut Vec<u8>) -> Result<(), NoMemory>
     requires form { IsEntryInForm entry.now }
     ensures text { OnOk result (out.new.items ≡ out.old.items ++ payload entry.now) }
-    ensures room { vec_len out.old + length (payload entry.now) ≤ vec_capacity out.old → IsOk result }
+    ensures room { vec_len out.old + length (payload entry.now) ≤ vec_capacity out.old
+        → IsOk result }
     ensures err { OnErr result (out.new.items ≡ out.old.items) }
     ensures entry { OnOk result (HasPayload entry.now) }
     ensures capacity { vec_capacity out.old ≤ vec_capacity out.new }

@@ -1,5 +1,5 @@
--- What it means that a format is exact: what is written is read, and what is read was written. Formats that are put
--- together from exact formats are exact.
+-- What it means that a format is exact: what is written is read, and what is read was written.
+-- Formats that are put together from exact formats are exact.
 use Rattle.std.proofs.Common.{◌≡◌, ℕ, zero, suc, ◌+◌, ◌*◌, ◌%◌, ◌^◌, ◌<◌, ◌≤◌, Bool, true, false, cond, ltb, leb, List, [], ◌∷◌, ◌++◌, length, get_or, take, drop, Option, Some, None, Result, Ok, Err, refl, sym, ap, subst, ◌∙◌, append_assoc, arith, ◌⊎◌, inl, inr}
 use Rattle.std.specs.Prelude.{⊤}
 use Rattle.std.specs.List.{AllByRecursion}
@@ -30,8 +30,8 @@ pub record Takes (bytes text rest : List ℕ) : Type 0 where
 pub Takes-then : (a x b y c : List ℕ) → Takes a x b → Takes b y c → Takes a (x ++ y) c
 Takes-then a x b y c p q = record { parts = p.parts ∙ ap (λ (t : List ℕ). x ++ t) q.parts ∙ sym (append_assoc x y c); rest_fits = q.rest_fits }
 
--- A format is exact for the values of which Known and Form hold: Known is what earlier fields say of the value, and
--- Form is what its own fields say.
+-- A format is exact for the values of which Known and Form hold: Known is what earlier fields say
+-- of the value, and Form is what its own fields say.
 pub record IsExact {R : Type 0} (f : Format R) (Known Form : R → Type 0) : Type 0 where
   pub back : (r : R) (rest : List ℕ) → Known r → f.fits r → Form r → f.read (f.bytes r ++ rest) ≡ Ok (r, rest)
   pub only : (bytes : List ℕ) (r : R) (rest : List ℕ) → IsBytes bytes → f.read bytes ≡ Ok (r, rest) → Takes bytes (f.bytes r) rest × Known r × f.fits r × Form r

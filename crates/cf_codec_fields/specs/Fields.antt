@@ -89,7 +89,8 @@ key_bytes k = length k ∷ k
 
 unfoldable pub key_at : List ℕ → Result (List ℕ × List ℕ) ℕ
 key_at [] = Err 0
-key_at (n ∷ bytes) = if nat_le n (length bytes) && is_key (take n bytes) then Ok (take n bytes, drop n bytes) else Err (1 + length bytes)
+key_at (n ∷ bytes) = if nat_le n (length bytes) && is_key (take n bytes)
+    then Ok (take n bytes, drop n bytes) else Err (1 + length bytes)
 
 abbrev pub key : Format (List ℕ)
 key = record { bytes = key_bytes; size = λ k. 1 + length k; fits = λ k. ⊤; read = key_at }

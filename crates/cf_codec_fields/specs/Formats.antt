@@ -1,9 +1,11 @@
--- What a format of bytes is: how a value is written, how long that is, and how a value is read from the front of bytes.
--- A value fits where each of its numbers has its place in the bytes of its field.
+-- What a format of bytes is: how a value is written, how long that is, and how a value is read from
+-- the front of bytes. A value fits where each of its numbers has its place in the bytes of its
+-- field.
 use Rattle.std.specs.Prelude.{ℕ, zero, suc, ◌+◌, ◌*◌, ◌^◌, ◌<◌, ◌&&◌, List, [], ◌∷◌, ◌++◌, length, take, drop, Bool, nat_lt, nat_le, if◌then◌else◌, Option, Some, None, Result, Ok, Err, ⊤}
 use Rattle.std.specs.Int.{Width, w16, byte_len, to_be_bytes, from_be_bytes}
 
--- Reading gives a value and the bytes after it, or how many bytes are left from the first faulty field on.
+-- Reading gives a value and the bytes after it, or how many bytes are left from the first faulty
+-- field on.
 pub record Format (A : Type 0) : Type 1 where
   pub bytes : A → List ℕ
   pub size : A → ℕ
@@ -11,7 +13,8 @@ pub record Format (A : Type 0) : Type 1 where
   pub read : List ℕ → Result (A × List ℕ) ℕ
 
 -- reads on behind a value; the first fault speaks
-abbrev pub and_then : {A B : Type 0} → Result (A × List ℕ) ℕ → (A → List ℕ → Result (B × List ℕ) ℕ) → Result (B × List ℕ) ℕ
+abbrev pub and_then : {A B : Type 0} → Result (A × List ℕ) ℕ → (A → List ℕ → Result (B × List ℕ) ℕ)
+    → Result (B × List ℕ) ℕ
 and_then (Ok x) next = next x.0 x.1
 and_then (Err left) next = Err left
 
@@ -24,17 +27,25 @@ number_bytes w n = to_be_bytes w n
 -- a number is faulty where it is cut short
 unfoldable pub number_at : Width → List ℕ → Result (ℕ × List ℕ) ℕ
 number_at w bytes =
-    if nat_lt (length bytes) (byte_len w) then Err (length bytes) else Ok (from_be_bytes w (take (byte_len w) bytes), drop (byte_len w) bytes)
+    if nat_lt (length bytes) (byte_len w) then Err (length bytes)
+    else Ok (from_be_bytes w (take (byte_len w) bytes), drop (byte_len w) bytes)
 
 abbrev pub number : Width → Format ℕ
-number w = record { bytes = number_bytes w; size = λ n. byte_len w; fits = λ n. n < 2 ^ (8 * byte_len w); read = number_at w }
+number w = record {
+  bytes = number_bytes w;
+  size = λ n. byte_len w;
+  fits =
+      λ n. n < 2 ^ (8 * byte_len w);
+  read = number_at w;
+}
 
 -- a value that is there, or a fault
 abbrev pub or_left : {A : Type 0} → Option A → List ℕ → ℕ → Result (A × List ℕ) ℕ
 or_left None rest left = Err left
 or_left (Some a) rest left = Ok (a, rest)
 
--- a field that is written as one of another format; what stands for no value is a fault at the field's first byte
+-- a field that is written as one of another format; what stands for no value is a fault at the
+-- field's first byte
 abbrev pub converted : {A B : Type 0} → (A → Option B) → (B → A) → Format A → Format B
 converted value code f = record {
   bytes = λ b. f.bytes (code b);
@@ -67,7 +78,8 @@ each_fits f (x ∷ xs) = f.fits x × each_fits f xs
 
 unfoldable pub each_at : {A : Type 0} → Format A → ℕ → List ℕ → Result (List A × List ℕ) ℕ
 each_at f zero bytes = Ok ([], bytes)
-each_at f (suc n) bytes = and_then (f.read bytes) (λ x rest. and_then (each_at f n rest) (λ xs after. Ok (x ∷ xs, after)))
+each_at f (suc n) bytes =
+    and_then (f.read bytes) (λ x rest. and_then (each_at f n rest) (λ xs after. Ok (x ∷ xs, after)))
 
 abbrev pub is_between : ℕ → ℕ → ℕ → Bool
 is_between least most n = nat_le least n && nat_le n most
@@ -78,10 +90,12 @@ list least most f = record {
   bytes = λ xs. number_bytes w16 (length xs) ++ each_bytes f xs;
   size = λ xs. 2 + each_size f xs;
   fits = each_fits f;
-  read = λ bytes. and_then ((kept (is_between least most) (number w16)).read bytes) (λ n rest. each_at f n rest);
+  read = λ bytes. and_then ((kept (is_between least most) (number w16)).read bytes)
+      (λ n rest. each_at f n rest);
 }
 
--- ---- fields one after another: a field of a record, then what follows, which may depend on its value
+-- ---- fields one after another: a field of a record, then what follows, which may depend on its
+-- value
 
 pub record Part (R A : Type 0) : Type 1 where
   pub get : R → A

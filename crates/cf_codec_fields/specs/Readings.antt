@@ -15,5 +15,6 @@ Gives view (Ok a) x = x ≡ Ok (view a)
 Gives view (Err e) x = Fails e x
 
 -- what was read before, in front of what is still read
-abbrev pub with_front : {A : Type 0} → List A → Result (List A × List ℕ) ℕ → Result (List A × List ℕ) ℕ
+abbrev pub with_front : {A : Type 0} → List A → Result (List A × List ℕ) ℕ
+    → Result (List A × List ℕ) ℕ
 with_front front reading = and_then reading (λ xs rest. Ok (front ++ xs, rest))

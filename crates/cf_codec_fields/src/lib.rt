@@ -1,4 +1,5 @@
-//! The fields of an entry as bytes: numbers, flags, amounts, days, months, keys and kinds, and lists of items.
+//! The fields of an entry as bytes: numbers, flags, amounts, days, months, keys and kinds, and
+//! lists of items.
 #![tactic(auto)]
 
 mod fault;

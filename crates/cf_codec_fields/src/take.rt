@@ -23,7 +23,8 @@ pub fn faulty(bytes: &[u8]) -> Refused
     Refused::Faulty(bytes.len())
 }
 
-/// A value that was read, with the bytes after it, or the fault of the field at `bytes` if there is none.
+/// A value that was read, with the bytes after it, or the fault of the field at `bytes` if there is
+/// none.
 pub fn or_faulty<'a, T: Copy>(
     value: Option<T>,
     rest: &'a [u8],
@@ -117,7 +118,8 @@ pub fn take_flag(bytes: &[u8]) -> Result<(bool, &[u8]), Refused>
 
 /// A number of two bytes within a range.
 pub fn take_between(least: u16, most: u16, bytes: &[u8]) -> Result<(u16, &[u8]), Refused>
-    ensures { Gives (λ x. (x.0, x.1.now)) result ((kept (is_between least most) spec.half).read bytes.now) }
+    ensures { Gives (λ x. (x.0, x.1.now)) result
+        ((kept (is_between least most) spec.half).read bytes.now) }
 {
     let (n, rest) = take_half(bytes)?;
     or_faulty((least <= n && n <= most).then_some(n), rest, bytes)

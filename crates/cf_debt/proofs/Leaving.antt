@@ -27,7 +27,8 @@ both_same a b d c e = by_tests (a == d) (b == c) (eqb_tells a d) (eqb_tells b c)
     by_tests p q (inl h) (inr k) e = cc
     by_tests p q (inr h) k e = cc
 
--- the leave of the change's department is what it was with the change, and that of the others is what it was
+-- the leave of the change's department is what it was with the change, and that of the others is
+-- what it was
 pub left_kept : (leave : List LeaveChange) (x : LeaveChange) (old new : Pairs ℕ) (amount : ℕ) → AreLeft leave old → PutsAmount old new x.fund x.dept amount →
     pos amount ≡ pos (amount_at old x.fund x.dept) +ℤ x.by → AreLeft (leave ++ x ∷ []) new
 left_kept leave x old new amount was puts is fund dept =

@@ -74,7 +74,8 @@ has_paid closed all rows live k d was l left =
 no_more : (n : ℕ) → n ≡ n + 0
 no_more n = omega arith
 
--- the sums of what was paid rise by the payment's principal and coupon, in the year in which it was due
+-- the sums of what was paid rise by the payment's principal and coupon, in the year in which it was
+-- due
 pub sums_paid : (closed : ℕ) (all : List Due) (rows : List BondRow) (k : ℕ) (d : BondRow) (q : Due) (issued leased repaid repaid_now leases_repaid leases_now coupons coupons_now charged : List ℕ) → AreRows closed all rows → k < length rows →
     (get_or rows k d).paid < (get_or rows k d).count → get_or all ((get_or rows k d).start + (get_or rows k d).paid) q ≡ q → HasSums closed (view_bonds all rows) issued leased repaid leases_repaid coupons charged →
     Rise repaid repaid_now (q.month / 12) q.principal → Rise leases_repaid leases_now (q.month / 12) (lease_part (get_or rows k d).is_lease q.principal) → Rise coupons coupons_now (q.month / 12) (coupon (view_bond all (get_or rows k d)) q) →

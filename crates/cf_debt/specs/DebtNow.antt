@@ -11,7 +11,8 @@ use Rattle.cf_model.specs.DebtShown.{accrued_by, bond_shown, leave_shown, outsta
 use Rattle.cf_model.specs.RegisterRules.{due_day}
 
 abbrev pub show_bond : Plan → ℕ → Bond → Shown
-show_bond plan closed b = shown.Bond (accrued_by closed b) (option_map (due_day plan b) (next_due b)) (outstanding b)
+show_bond plan closed b =
+    shown.Bond (accrued_by closed b) (option_map (due_day plan b) (next_due b)) (outstanding b)
 
 -- what a look at a bond or at leave shows
 abbrev pub debt_shown : Plan → Debts → Read → Option Shown

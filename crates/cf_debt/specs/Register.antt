@@ -35,7 +35,8 @@ debts_of s = record { bonds = s.bonds; leave = s.leave; closed = s.closed }
 abbrev pub registers_with : Debts → Registers
 registers_with d = record no_registers { bonds = d.bonds; leave = d.leave; closed = d.closed }
 
--- for how many rows more of each kind there is memory, and what is left of the leave of those departments that have memory for it
+-- for how many rows more of each kind there is memory, and what is left of the leave of those
+-- departments that have memory for it
 pub record Room : Type 0 where
   pub bonds : ℕ
   pub live : ℕ
@@ -71,11 +72,13 @@ HasRoomFor (act.Lease l) r = HasRoomToIssue (length l.principals) r
 HasRoomFor (act.Leave l) r = HasRoomToChange l r
 HasRoomFor _ r = Unit {0}
 
--- the numbers that an act draws of bonds alone: the next bond's, as a lease's second, or the next payment's of a bond that is there to be paid
+-- the numbers that an act draws of bonds alone: the next bond's, as a lease's second, or the next
+-- payment's of a bond that is there to be paid
 abbrev pub debt_draws : List Bond → Act → Drawn
 debt_draws bonds (act.Issue i) = record { number = length bonds + 1; second = 0 }
 debt_draws bonds (act.Lease l) = record { number = 0; second = length bonds + 1 }
-debt_draws bonds (act.PayDue p) = record { number = payment_number (bond_at p.bond bonds); second = 0 }
+debt_draws bonds (act.PayDue p) =
+    record { number = payment_number (bond_at p.bond bonds); second = 0 }
 debt_draws bonds _ = record { number = 0; second = 0 }
 
 -- the refusal of a close by a bond with a payment due on a day
@@ -101,12 +104,25 @@ IsEarlyIssue plan d on _ = Unit {0}
 
 -- the entry of an act; debt doesn't depend on its key
 abbrev pub entry_for : ℕ → Day → Act → Drawn → Entry
-entry_for desk on act drawn = record { change = record { desk = desk; key = []; on = on; after = None; act = act }; drawn = drawn }
+entry_for desk on act drawn =
+    record {
+      change = record { desk = desk; key = []; on = on; after = None; act = act };
+      drawn =
+          drawn;
+    }
 
 -- ---- what is due next
 
 abbrev pub due_of : Plan → Bond → Due → DueNow
-due_of plan b p = record { is_lease = b.is_lease; payment = b.paid + 1; day = due_day plan b p; year = year_at plan p.month; principal = p.principal; interest = coupon b p }
+due_of plan b p = record {
+  is_lease = b.is_lease;
+  payment = b.paid + 1;
+  day = due_day plan b p;
+  year =
+      year_at plan p.month;
+  principal = p.principal;
+  interest = coupon b p;
+}
 
 abbrev pub due_if : Plan → Bond → Option Due → Option DueNow
 due_if plan b None = None
@@ -120,4 +136,10 @@ due_now plan (Some b) = due_if plan b (next_due b)
 -- ---- what bonds and leases add to the change of a fiscal year
 
 abbrev pub debt_changes : Plan → ℕ → Registers → DebtChanges
-debt_changes plan year s = record { proceeds = (changes_of plan year s).proceeds; leases_issued = (changes_of plan year s).leases_issued; principal_paid = (changes_of plan year s).principal }
+debt_changes plan year s =
+    record {
+      proceeds = (changes_of plan year s).proceeds;
+      leases_issued =
+          (changes_of plan year s).leases_issued;
+      principal_paid = (changes_of plan year s).principal;
+    }

@@ -31,7 +31,8 @@ register_of a = record {
 }
 
 abbrev pub AreRows : ℕ → List Due → List BondRow → Type 0
-AreRows closed all rows = (k : ℕ) (d : BondRow) → k < length rows → IsRow closed all k (get_or rows k d)
+AreRows closed all rows = (k : ℕ) (d : BondRow) → k < length rows
+    → IsRow closed all k (get_or rows k d)
 
 -- the numbers of the bonds of which a payment is due in a month that isn't closed
 abbrev pub is_live : ℕ → BondRow → Bool
@@ -44,7 +45,8 @@ live_of closed rows = map (λ r. r.number) (filter (is_live closed) rows)
 
 -- what is issued, of each bond so much
 abbrev pub AreIssued : (Bond → ℕ) → List Bond → List ℕ → Type 0
-AreIssued f bonds cells = (year : ℕ) → sum_through year cells ≡ sum_by (λ b. if nat_le b.year year then f b else 0) bonds
+AreIssued f bonds cells = (year : ℕ)
+    → sum_through year cells ≡ sum_by (λ b. if nat_le b.year year then f b else 0) bonds
 
 abbrev pub amount_of : Bond → ℕ
 amount_of b = b.amount
@@ -67,11 +69,13 @@ ArePaid f bonds cells = (n : ℕ) → sum_of n cells ≡ sum_by (paid_in n f) bo
 
 -- the interest charged in so many years
 abbrev pub AreCharged : ℕ → List Bond → List ℕ → Type 0
-AreCharged closed bonds cells = (n : ℕ) → sum_of n cells ≡ sum_by (earned (min closed (12 * n))) bonds
+AreCharged closed bonds cells = (n : ℕ)
+    → sum_of n cells ≡ sum_by (earned (min closed (12 * n))) bonds
 
 -- leave, as it was earned and as it was used or paid
 abbrev pub AreLeave : List LeaveChange → List ℕ → List ℕ → Type 0
-AreLeave leave earned taken = (year : ℕ) → pos (sum_through year earned) -ℤ pos (sum_through year taken) ≡ leave_through year leave
+AreLeave leave earned taken = (year : ℕ)
+    → pos (sum_through year earned) -ℤ pos (sum_through year taken) ≡ leave_through year leave
 
 abbrev pub AreLeft : List LeaveChange → Pairs ℕ → Type 0
 AreLeft leave table = (fund dept : ℕ) → pos (amount_at table fund dept) ≡ leave_left fund dept leave
@@ -80,7 +84,8 @@ AreLeft leave table = (fund dept : ℕ) → pos (amount_at table fund dept) ≡ 
 abbrev pub most_interest : ℕ
 most_interest = 2 * most_cents * most_entries
 
--- each act adds at most 10^13 cents to what is issued, paid, earned or taken, and a close at most 2 * 10^13 a bond to the interest
+-- each act adds at most 10^13 cents to what is issued, paid, earned or taken, and a close at most 2
+-- * 10^13 a bond to the interest
 pub record IsSmall (a : Inside) : Type 0 where
   pub acts : a.acts ≤ most_entries
   pub bonds : length a.bonds.items ≤ a.acts
@@ -96,12 +101,14 @@ pub record IsSmall (a : Inside) : Type 0 where
   pub left : (fund dept : ℕ) → amount_at a.left.entries fund dept ≤ most_cents * a.acts
 
 -- bonds, their payments, and the list of those that are live
-pub record HasBonds (closed : ℕ) (all : List Due) (rows : List BondRow) (live : List ℕ) : Type 0 where
+pub record HasBonds (closed : ℕ) (all : List Due) (rows : List BondRow)
+    (live : List ℕ) : Type 0 where
   pub sizes : AreSmallDues all
   pub each : AreRows closed all rows
   pub lasting : live ≡ live_of closed rows
 
-pub record HasSums (closed : ℕ) (bonds : List Bond) (issued leased repaid leases_repaid coupons charged : List ℕ) : Type 0 where
+pub record HasSums (closed : ℕ) (bonds : List Bond)
+    (issued leased repaid leases_repaid coupons charged : List ℕ) : Type 0 where
   pub issues : AreIssued amount_of bonds issued
   pub leases : AreIssued lease_amount bonds leased
   pub principals : ArePaid principal_of bonds repaid
@@ -109,12 +116,15 @@ pub record HasSums (closed : ℕ) (bonds : List Bond) (issued leased repaid leas
   pub interests : ArePaid coupon bonds coupons
   pub charges : AreCharged closed bonds charged
 
-pub record HasLeave (leave : List LeaveChange) (table : Pairs ℕ) (earned taken : List ℕ) : Type 0 where
+pub record HasLeave (leave : List LeaveChange) (table : Pairs ℕ)
+    (earned taken : List ℕ) : Type 0 where
   pub left : AreLeft leave table
   pub years : AreLeave leave earned taken
 
 pub record IsSound (a : Inside) : Type 0 where
   pub small : IsSmall a
   pub bonds : HasBonds a.closed (view_payments a.payments.items) a.bonds.items a.live.items
-  pub sums : HasSums a.closed (view_bonds (view_payments a.payments.items) a.bonds.items) a.issued a.leased a.repaid a.leases_repaid a.coupons a.charged
+  pub sums : HasSums a.closed
+      (view_bonds (view_payments a.payments.items) a.bonds.items) a.issued a.leased a.repaid
+      a.leases_repaid a.coupons a.charged
   pub leave : HasLeave (map view_leave a.leave.items) a.left.entries a.earned a.taken

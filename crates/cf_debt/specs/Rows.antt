@@ -38,7 +38,13 @@ abbrev pub view_bonds : List Due → List BondRow → List Bond
 view_bonds all rows = map (view_bond all) rows
 
 abbrev pub view_leave : LeaveRow → LeaveChange
-view_leave r = record { fund = r.fund; dept = r.dept; year = r.year; by = if r.is_earned then pos r.amount else pos 0 -ℤ pos r.amount }
+view_leave r = record {
+  fund = r.fund;
+  dept = r.dept;
+  year = r.year;
+  by = if r.is_earned then pos r.amount
+      else pos 0 -ℤ pos r.amount;
+}
 
 -- a payment's months and amounts are small
 pub record IsSmallDue (p : Due) : Type 0 where

@@ -31,7 +31,15 @@ pub record CanPay (n : ℕ) (d : Debts) : Type 0 where
 
 -- new debt with its principals
 abbrev pub issue_of : NewDebt → List ℕ → BondIssue
-issue_of d principals = record { fund = d.fund; amount = d.amount; rate_bp = d.rate_bp; every = d.every; principals = principals }
+issue_of d principals =
+    record {
+      fund = d.fund;
+      amount = d.amount;
+      rate_bp = d.rate_bp;
+      every = d.every;
+      principals =
+          principals;
+    }
 
 -- a new bond or lease, whose payments begin at a place
 abbrev pub bond_row : Plan → Day → ℕ → Bool → BondIssue → ℕ → BondRow

@@ -21,7 +21,8 @@ use cf_register_parts::{reserve_in, year_of_day};
 use std::alloc::AllocError;
 
 impl Debt {
-    /// Takes all the memory that `apply` needs for an act. No bond and no leave changes, whatever the answer.
+    /// Takes all the memory that `apply` needs for an act. No bond and no leave changes, whatever
+    /// the answer.
     pub fn reserve(&mut self, act: &Act) -> Result<(), AllocError>
         ensures ok { OnOk result (HasRoomFor act.now self.new) }
         ensures debts { self.new.debts ≡ self.old.debts }
@@ -76,8 +77,8 @@ impl Debt {
         reserve_in(&mut self.left, leave_key(fund, dept), 0)
     }
 
-    /// Takes in an act that the rules allow, and gives the numbers that it draws. It takes no memory, as that was
-    /// reserved. Another act than the register's own is only counted.
+    /// Takes in an act that the rules allow, and gives the numbers that it draws. It takes no
+    /// memory, as that was reserved. Another act than the register's own is only counted.
     pub fn apply(&mut self, chart: &Chart, on: Day, desk: u16, act: &Act) -> Drawn
         requires reserved { HasRoomFor act.now self.old }
         requires day { is_day on ≡ true }
@@ -85,10 +86,13 @@ impl Debt {
         requires amounts { amount_refusal act.now ≡ None }
         requires there { IsThere self.old.debts.bonds act.now }
         requires early { IsEarlyIssue chart.now self.old.debts on act.now }
-        requires allowed { debt_refusal chart.now (registers_with self.old.debts) on act.now ≡ None }
+        requires allowed { debt_refusal chart.now (registers_with self.old.debts) on act.now
+            ≡ None }
         requires few { self.old.acts < most_entries }
         ensures drawn { result ≡ debt_draws self.old.debts.bonds act.now }
-        ensures debts { self.new.debts ≡ debts_of (registers_step chart.now (registers_with self.old.debts) (entry_for desk on act.now result)) }
+        ensures debts { self.new.debts
+            ≡ debts_of (registers_step chart.now (registers_with self.old.debts)
+            (entry_for desk on act.now result)) }
         ensures acts { self.new.acts ≡ self.old.acts + 1 }
     {
         let drawn = self.draws(act);
@@ -121,10 +125,14 @@ impl Debt {
 
     fn close(&mut self, chart: &Chart, period: &Period)
         requires form { IsPeriodForm period.now }
-        requires next { order_refusal chart.now (registers_with self.old.debts) (act.Close period.now) ≡ None }
-        requires paid { unpaid_refusal chart.now (registers_with self.old.debts) (act.Close period.now) ≡ None }
+        requires next { order_refusal chart.now (registers_with self.old.debts)
+            (act.Close period.now) ≡ None }
+        requires paid { unpaid_refusal chart.now (registers_with self.old.debts)
+            (act.Close period.now) ≡ None }
         requires few { self.old.acts < most_entries }
-        ensures debts { self.new.debts ≡ record self.old.debts { closed = closed_after (act.Close period.now) self.old.debts.closed } }
+        ensures debts { self.new.debts
+            ≡ record self.old.debts
+            { closed = closed_after (act.Close period.now) self.old.debts.closed } }
         ensures acts { self.new.acts ≡ self.old.acts + 1 }
     {
         match period {
@@ -137,7 +145,8 @@ impl Debt {
         requires reserved { HasRoomToChange leave.now self.old }
         requires day { is_day on ≡ true }
         requires amounts { amount_refusal (act.Leave leave.now) ≡ None }
-        requires allowed { leave_refusal (registers_with self.old.debts) (act.Leave leave.now) ≡ None }
+        requires allowed { leave_refusal (registers_with self.old.debts) (act.Leave leave.now)
+            ≡ None }
         requires few { self.old.acts < most_entries }
         ensures debts { self.new.debts ≡ record self.old.debts {
           leave = self.old.debts.leave ++ leave_by chart.now on (act.Leave leave.now);

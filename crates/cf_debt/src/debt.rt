@@ -24,8 +24,9 @@ use std::alloc::Global;
 use std::collections::BTreeMap;
 use std::marker::Model;
 
-/// Bonds and leases with their payments, and the leave of departments' people. Bonds have the numbers 1, 2, 3 ..; the leave
-/// left, the bonds with payments to come and the sums by fiscal year are kept as they run.
+/// Bonds and leases with their payments, and the leave of departments' people. Bonds have the
+/// numbers 1, 2, 3 ..; the leave left, the bonds with payments to come and the sums by fiscal year
+/// are kept as they run.
 #[derive(Drop)]
 pub struct Debt {
     pub(crate) bonds: Vec<BondRow>,
@@ -41,7 +42,8 @@ pub struct Debt {
     pub(crate) issued: [u128; YEARS],
     /// Those of leases alone.
     pub(crate) leased: [u128; YEARS],
-    /// The principal of paid payments, by the fiscal year in which they were due, from the chart's first.
+    /// The principal of paid payments, by the fiscal year in which they were due, from the chart's
+    /// first.
     pub(crate) repaid: [u128; YEARS],
     /// That of leases alone.
     pub(crate) leases_repaid: [u128; YEARS],
@@ -125,7 +127,8 @@ impl Debt {
 
     /// A bond as it stands: `None` exactly where there is no bond of this number.
     pub(crate) fn bond(&self, number: u32) -> Option<BondNow>
-        ensures { MatchOption result (bond_at number self.now.debts.bonds ≡ None) (ShowsBond number self.now.debts) }
+        ensures { MatchOption result (bond_at number self.now.debts.bonds ≡ None)
+            (ShowsBond number self.now.debts) }
     {
         if number == 0 || number as usize > self.bonds.len() {
             return None;
@@ -142,7 +145,8 @@ impl Debt {
         self.bond(bond).is_some()
     }
 
-    /// What is due next of a bond: `None` exactly where there is no bond of this number, or all its payments are paid.
+    /// What is due next of a bond: `None` exactly where there is no bond of this number, or all its
+    /// payments are paid.
     pub fn due(&self, chart: &Chart, bond: u32) -> Option<Due>
         ensures { result ≡ due_now chart.now (bond_at bond self.now.debts.bonds) }
     {
@@ -155,10 +159,11 @@ impl Debt {
         }
     }
 
-    /// The interest that the close of the next month charges for all bonds, in cents: of each bond that has a payment
-    /// to come.
+    /// The interest that the close of the next month charges for all bonds, in cents: of each bond
+    /// that has a payment to come.
     pub fn month_interest(&self) -> u128
-        ensures value { result ≡ sum_by (interest_charge self.now.debts.closed) self.now.debts.bonds }
+        ensures value { result
+            ≡ sum_by (interest_charge self.now.debts.closed) self.now.debts.bonds }
         ensures most { result ≤ most_interest }
     {
         interest_of(&self.payments, &self.bonds, &self.live, self.closed)
@@ -171,8 +176,8 @@ impl Debt {
         amount_at(&self.left, leave_key(fund, dept))
     }
 
-    /// The numbers that an act draws: the next bond's, from 1, which is a lease's second number, or that of the next
-    /// payment of the bond that is paid, and 0 where nothing is left to pay.
+    /// The numbers that an act draws: the next bond's, from 1, which is a lease's second number, or
+    /// that of the next payment of the bond that is paid, and 0 where nothing is left to pay.
     pub fn draws(&self, act: &Act) -> Drawn
         ensures { result ≡ debt_draws self.now.debts.bonds act.now }
     {
@@ -234,7 +239,8 @@ pub(crate) fn leave_key(fund: u16, dept: u16) -> NumberPair
 /// The day on which a payment of a bond is due.
 pub(crate) fn due_day(chart: &Chart, bond: &BondRow, payment: &Payment) -> Day
     requires { payment.now.month ≤ 2759 }
-    ensures { (all : List Dues) → result ≡ spec_due_day chart.now (view_bond all bond.now) (view_payment payment.now) }
+    ensures { (all : List Dues)
+        → result ≡ spec_due_day chart.now (view_bond all bond.now) (view_payment payment.now) }
 {
     let month = month_at(chart, payment.month);
     Day {
@@ -249,7 +255,8 @@ fn due_of(chart: &Chart, bond: &BondRow, payment: &Payment) -> Due
     requires every { bond.now.terms.every ≤ 12 }
     requires rate { bond.now.terms.rate_bp ≤ 10000 }
     requires paid { bond.now.paid < 65535 }
-    ensures { (all : List Dues) → result ≡ spec_due_of chart.now (view_bond all bond.now) (view_payment payment.now) }
+    ensures { (all : List Dues)
+        → result ≡ spec_due_of chart.now (view_bond all bond.now) (view_payment payment.now) }
 {
     Due {
         is_lease: bond.is_lease,
@@ -271,7 +278,8 @@ pub(crate) fn interest_of(
     requires bonds { HasBonds closed (view_payments payments.now) bonds.now live.now }
     requires few { length bonds.now ≤ most_entries }
     requires months { closed < 65535 }
-    ensures value { result ≡ sum_by (interest_charge closed) (view_bonds (view_payments payments.now) bonds.now) }
+    ensures value { result
+        ≡ sum_by (interest_charge closed) (view_bonds (view_payments payments.now) bonds.now) }
     ensures most { result ≤ most_interest }
 {
     let mut interest = 0;

@@ -8,7 +8,8 @@ ghost use Rattle.cf_base.specs.Limits.{most_cents};
 
 use crate::rows::{BondRow, Payment, Terms};
 
-/// The interest of a principal for so many days, at a rate in basis points a year of 360 days, in cents.
+/// The interest of a principal for so many days, at a rate in basis points a year of 360 days, in
+/// cents.
 #[tactic(auto, using(crate::proofs::Earning::interest_fits, crate::proofs::Earning::interest_small))]
 pub fn interest_for(owed: u64, rate_bp: u16, days: u64) -> u64
     requires owed { owed ≤ most_cents }
@@ -36,7 +37,9 @@ pub fn earned_by(terms: Terms, payment: &Payment, months: u16) -> u64
     requires every { terms.every ≤ 12 }
     requires rate { terms.rate_bp ≤ 10000 }
     requires owed { payment.now.owed ≤ most_cents }
-    ensures value { result ≡ spec.interest_for (bond_of terms) (view_payment payment.now) (spec.days_by months (bond_of terms) (view_payment payment.now)) }
+    ensures value { result
+        ≡ spec.interest_for (bond_of terms) (view_payment payment.now)
+        (spec.days_by months (bond_of terms) (view_payment payment.now)) }
     ensures small { result ≤ most_cents }
 {
     interest_for(
@@ -57,8 +60,8 @@ pub fn coupon(terms: Terms, payment: &Payment) -> u64
     interest_for(payment.owed, terms.rate_bp, 30 * u64::from(terms.every))
 }
 
-/// What the close of the next month charges of a bond, given its payments from the first on that isn't due before
-/// that month.
+/// What the close of the next month charges of a bond, given its payments from the first on that
+/// isn't due before that month.
 fn charge_of(terms: Terms, running: &[Payment], closed: u16) -> u64
     requires every { terms.every ≤ 12 }
     requires rate { terms.rate_bp ≤ 10000 }
@@ -84,7 +87,8 @@ pub fn bond_charge(payments: &[Payment], bond: &BondRow, closed: u16) -> u64
     requires small { AreSmallDues (view_payments payments.now) }
     requires bond { IsBond (view_payments payments.now) bond.now }
     requires months { closed < 65535 }
-    ensures value { result ≡ spec.interest_charge closed (view_bond (view_payments payments.now) bond.now) }
+    ensures value { result
+        ≡ spec.interest_charge closed (view_bond (view_payments payments.now) bond.now) }
     ensures small { result ≤ 2 * most_cents }
 {
     let due_before = closed.saturating_sub(bond.month + 1) / bond.terms.every;

@@ -17,8 +17,9 @@ use cf_chart::Chart;
 use cf_register_parts::difference;
 
 impl Debt {
-    /// What a look at a bond or at the leave of a fund's department shows: `None` exactly where there is no such bond,
-    /// and at other looks. A look at a bond reads its own payments, at most 120.
+    /// What a look at a bond or at the leave of a fund's department shows: `None` exactly where
+    /// there is no such bond, and at other looks. A look at a bond reads its own payments, at most
+    /// 120.
     pub fn look(&self, chart: &Chart, read: &Read) -> Option<Shown>
         ensures { result ≡ debt_shown chart.now self.now.debts read.now }
     {
@@ -45,7 +46,8 @@ impl Debt {
 fn shown_of(chart: &Chart, payments: &[Payment], bond: &BondRow, closed: u16) -> Shown
     requires small { AreSmallDues (view_payments payments.now) }
     requires bond { IsBond (view_payments payments.now) bond.now }
-    ensures { result ≡ show_bond chart.now closed (view_bond (view_payments payments.now) bond.now) }
+    ensures { result ≡ show_bond chart.now closed
+        (view_bond (view_payments payments.now) bond.now) }
 {
     let own = &payments[bond.start..bond.start + usize::from(bond.count)];
     let paid = &own[..usize::from(bond.paid)];
@@ -69,7 +71,9 @@ fn earned_of(terms: Terms, payments: &[Payment], closed: u16) -> u128
     requires rate { terms.rate_bp ≤ 10000 }
     requires small { AreSmallDues (view_payments payments.now) }
     requires few { length payments.now ≤ 120 }
-    ensures value { result ≡ sum_by (λ p. spec.interest_for (bond_of terms) p (spec.days_by closed (bond_of terms) p)) (view_payments payments.now) }
+    ensures value { result
+        ≡ sum_by (λ p. spec.interest_for (bond_of terms) p (spec.days_by closed (bond_of terms) p))
+        (view_payments payments.now) }
     ensures small { result ≤ 120 * most_cents }
 {
     let mut earned = 0;

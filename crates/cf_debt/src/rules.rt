@@ -21,9 +21,10 @@ use cf_chart::Chart;
 use cf_register_parts::{is_before, month_at};
 
 impl Debt {
-    /// The first rule of the register that an act breaks: a bond with nothing left to pay, a payment that isn't due
-    /// yet, more leave than is left, a month that isn't the next one to close, or one with a payment due that isn't
-    /// paid. `None` at other acts than payments of debt, leave that is used or paid, and the close of a month.
+    /// The first rule of the register that an act breaks: a bond with nothing left to pay, a
+    /// payment that isn't due yet, more leave than is left, a month that isn't the next one to
+    /// close, or one with a payment due that isn't paid. `None` at other acts than payments of
+    /// debt, leave that is used or paid, and the close of a month.
     pub fn check(&self, chart: &Chart, on: Day, _desk: u16, act: &Act) -> Option<Refusal>
         ensures { result ≡ debt_refusal chart.now (registers_with self.now.debts) on act.now }
     {
@@ -55,7 +56,8 @@ impl Debt {
     }
 
     fn payment_refusal(&self, chart: &Chart, on: Day, payment: &DebtPayment) -> Option<Refusal>
-        ensures { result ≡ debt_refusal chart.now (registers_with self.now.debts) on (act.PayDue payment.now) }
+        ensures { result ≡ debt_refusal chart.now (registers_with self.now.debts) on
+            (act.PayDue payment.now) }
     {
         match self.bond(payment.bond) {
             None => None,
@@ -71,7 +73,8 @@ impl Debt {
     }
 
     fn leave_refusal(&self, leave: &LeaveAct) -> Option<Refusal>
-        ensures { result ≡ rules.leave_refusal (registers_with self.now.debts) (act.Leave leave.now) }
+        ensures { result ≡ rules.leave_refusal (registers_with self.now.debts)
+            (act.Leave leave.now) }
     {
         match leave {
             LeaveAct::Earn(_) => None,
@@ -81,7 +84,8 @@ impl Debt {
     }
 
     fn close_refusal(&self, chart: &Chart, on: Day, month: Month) -> Option<Refusal>
-        ensures { result ≡ debt_refusal chart.now (registers_with self.now.debts) on (act.Close (period.Month month)) }
+        ensures { result ≡ debt_refusal chart.now (registers_with self.now.debts) on
+            (act.Close (period.Month month)) }
     {
         let next = self.next_month(chart);
         if month != next {
@@ -100,10 +104,12 @@ impl Debt {
         month_at(chart, self.closed)
     }
 
-    /// The least bond of which a payment is due by the end of the next month to close and isn't paid, and the day on
-    /// which it is due.
+    /// The least bond of which a payment is due by the end of the next month to close and isn't
+    /// paid, and the day on which it is due.
     pub fn first_unpaid(&self, chart: &Chart) -> Option<(u32, Day)>
-        ensures { option_map debt_due result ≡ first_refusal (λ b. rules.unpaid chart.now self.now.debts.closed b (next_due b)) self.now.debts.bonds }
+        ensures { option_map debt_due result
+            ≡ first_refusal (λ b. rules.unpaid chart.now self.now.debts.closed b (next_due b))
+            self.now.debts.bonds }
     {
         unpaid_among(chart, &self.payments, &self.bonds, &self.live, self.closed)
     }
@@ -118,7 +124,9 @@ fn unpaid_among(
     closed: u16,
 ) -> Option<(u32, Day)>
     requires bonds { HasBonds closed (view_payments payments.now) bonds.now live.now }
-    ensures { option_map debt_due result ≡ first_refusal (λ b. rules.unpaid chart.now closed b (next_due b)) (view_bonds (view_payments payments.now) bonds.now) }
+    ensures { option_map debt_due result
+        ≡ first_refusal (λ b. rules.unpaid chart.now closed b (next_due b))
+        (view_bonds (view_payments payments.now) bonds.now) }
 {
     for number in live {
         let bond = &bonds[*number as usize - 1];
@@ -133,7 +141,8 @@ fn unpaid_among(
 fn unpaid_day(chart: &Chart, payments: &[Payment], bond: &BondRow, closed: u16) -> Option<Day>
     requires small { AreSmallDues (view_payments payments.now) }
     requires bond { IsBond (view_payments payments.now) bond.now }
-    ensures { option_map (debt_due_of bond.now.number) result ≡ unpaid_of chart.now closed (view_bond (view_payments payments.now) bond.now) }
+    ensures { option_map (debt_due_of bond.now.number) result
+        ≡ unpaid_of chart.now closed (view_bond (view_payments payments.now) bond.now) }
 {
     match next_of(payments, bond) {
         None => None,
@@ -149,7 +158,9 @@ fn unpaid_day(chart: &Chart, payments: &[Payment], bond: &BondRow, closed: u16) 
 
 fn not_due(chart: &Chart, on: Day, bond: &BondRow, payment: &Payment) -> Option<Refusal>
     requires { payment.now.month ≤ 2759 }
-    ensures { (all : List Due) → result ≡ rules.not_due chart.now on (view_bond all bond.now) (Some (view_payment payment.now)) }
+    ensures { (all : List Due)
+        → result ≡ rules.not_due chart.now on (view_bond all bond.now)
+        (Some (view_payment payment.now)) }
 {
     let next = due_day(chart, bond, payment);
     if is_before(on, next) {

@@ -17,7 +17,8 @@ pub fn add_schedule(
 )
     requires room { vec_len payments.old + length principals.now ≤ vec_capacity payments.old }
     requires within { month + every * length principals.now ≤ 2759 }
-    ensures { view_payments payments.new.items ≡ view_payments payments.old.items ++ dues_from every month amount principals.now }
+    ensures { view_payments payments.new.items
+        ≡ view_payments payments.old.items ++ dues_from every month amount principals.now }
 {
     let mut from = month;
     let mut owed = amount;
@@ -38,10 +39,12 @@ pub fn add_schedule(
 pub fn next_of(payments: &[Payment], bond: &BondRow) -> Option<Payment>
     requires small { AreSmallDues (view_payments payments.now) }
     requires bond { IsBond (view_payments payments.now) bond.now }
-    ensures value { option_map view_payment result ≡ next_due (view_bond (view_payments payments.now) bond.now) }
+    ensures value { option_map view_payment result
+        ≡ next_due (view_bond (view_payments payments.now) bond.now) }
     ensures small { IfSome result (λ p. IsSmallDue (view_payment p)) }
     ensures some { IfSome result (λ p. bond.now.paid < bond.now.count) }
-    ensures month { IfSome result (λ p. p.month ≡ bond.now.month + bond.now.terms.every * (bond.now.paid + 1)) }
+    ensures month { IfSome result
+        (λ p. p.month ≡ bond.now.month + bond.now.terms.every * (bond.now.paid + 1)) }
 {
     if bond.paid < bond.count {
         Some(payments[bond.start + usize::from(bond.paid)])

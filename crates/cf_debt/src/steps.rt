@@ -51,7 +51,8 @@ impl Debt {
         requires room { HasRoomToIssue (length issue.now.principals) self.old }
         requires few { self.old.acts < most_entries }
         ensures debts { self.new.debts ≡ record self.old.debts {
-          bonds = self.old.debts.bonds ++ bonds_by chart.now on (act.Issue issue.now) (record { number = number; second = 0 });
+          bonds = self.old.debts.bonds
+              ++ bonds_by chart.now on (act.Issue issue.now) (record { number = number; second = 0 });
         } }
         ensures acts { self.new.acts ≡ self.old.acts + 1 }
     {
@@ -75,7 +76,8 @@ impl Debt {
         requires room { HasRoomToIssue (length lease.now.principals) self.old }
         requires few { self.old.acts < most_entries }
         ensures debts { self.new.debts ≡ record self.old.debts {
-          bonds = self.old.debts.bonds ++ bonds_by chart.now on (act.Lease lease.now) (record { number = 0; second = number });
+          bonds = self.old.debts.bonds
+              ++ bonds_by chart.now on (act.Lease lease.now) (record { number = 0; second = number });
         } }
         ensures acts { self.new.acts ≡ self.old.acts + 1 }
     {
@@ -99,7 +101,8 @@ impl Debt {
         requires room { HasRoomToIssue (length principals.now) self.old }
         requires few { self.old.acts < most_entries }
         ensures debts { self.new.debts ≡ record self.old.debts {
-          bonds = self.old.debts.bonds ++ spec_new_bond chart.now on number debt.is_lease (issue_of debt principals.now) ∷ [];
+          bonds = self.old.debts.bonds
+              ++ spec_new_bond chart.now on number debt.is_lease (issue_of debt principals.now) ∷ [];
         } }
         ensures acts { self.new.acts ≡ self.old.acts + 1 }
     {
@@ -147,9 +150,11 @@ impl Debt {
     pub(crate) fn close_month(&mut self, chart: &Chart, month: Month)
         requires form { IsCallMonth month }
         requires next { month ≡ month_at chart.now self.old.debts.closed }
-        requires paid { first_refusal (unpaid_of chart.now self.old.debts.closed) self.old.debts.bonds ≡ None }
+        requires paid { first_refusal
+            (unpaid_of chart.now self.old.debts.closed) self.old.debts.bonds ≡ None }
         requires few { self.old.acts < most_entries }
-        ensures debts { self.new.debts ≡ record self.old.debts { closed = self.old.debts.closed + 1 } }
+        ensures debts { self.new.debts
+            ≡ record self.old.debts { closed = self.old.debts.closed + 1 } }
         ensures acts { self.new.acts ≡ self.old.acts + 1 }
     {
         let number = number_of_month(chart, month);
@@ -168,7 +173,8 @@ impl Debt {
         requires amount { row.amount ≤ most_cents }
         requires room { HasRoomForLeave row.fund row.dept self.old }
         requires few { self.old.acts < most_entries }
-        ensures debts { self.new.debts ≡ record self.old.debts { leave = self.old.debts.leave ++ view_leave row ∷ [] } }
+        ensures debts { self.new.debts
+            ≡ record self.old.debts { leave = self.old.debts.leave ++ view_leave row ∷ [] } }
         ensures acts { self.new.acts ≡ self.old.acts + 1 }
     {
         let key = leave_key(row.fund, row.dept);
@@ -188,7 +194,8 @@ impl Debt {
         requires amount { row.amount ≤ most_cents }
         requires room { HasRoomForLeave row.fund row.dept self.old }
         requires few { self.old.acts < most_entries }
-        ensures debts { self.new.debts ≡ record self.old.debts { leave = self.old.debts.leave ++ view_leave row ∷ [] } }
+        ensures debts { self.new.debts
+            ≡ record self.old.debts { leave = self.old.debts.leave ++ view_leave row ∷ [] } }
         ensures acts { self.new.acts ≡ self.old.acts + 1 }
     {
         let key = leave_key(row.fund, row.dept);
@@ -211,7 +218,8 @@ fn new_bond(
 ) -> BondRow
     requires day { is_day on ≡ true }
     requires form { IsIssueForm on (issue_of debt principals.now) }
-    ensures row { result ≡ bond_row chart.now on number debt.is_lease (issue_of debt principals.now) start }
+    ensures row { result
+        ≡ bond_row chart.now on number debt.is_lease (issue_of debt principals.now) start }
     ensures last { result.last ≤ 2759 }
 {
     let month = number_of_day(chart, on);
@@ -239,7 +247,9 @@ fn new_bond(
 fn count_payment(bonds: &mut Vec<BondRow>, place: usize)
     requires within { place < length bonds.old.items }
     requires fits { (d : Row) → (slice_index_or bonds.old.items place d).paid < 65535 }
-    ensures { (d : Row) → bonds.new.items ≡ slice_set bonds.old.items place (paid_row (slice_index_or bonds.old.items place d)) }
+    ensures { (d : Row)
+        → bonds.new.items ≡ slice_set bonds.old.items place
+        (paid_row (slice_index_or bonds.old.items place d)) }
 {
     let mut row = bonds[place];
     row.paid += 1;

@@ -21,8 +21,8 @@ pub struct DebtChanges {
 }
 
 impl Debt {
-    /// Bonds payable through a fiscal year up to 2200, in cents: what was issued, less the principal paid of payments
-    /// that were due, and without leases.
+    /// Bonds payable through a fiscal year up to 2200, in cents: what was issued, less the
+    /// principal paid of payments that were due, and without leases.
     pub fn principal_left(&self, chart: &Chart, year: u16) -> i128
         requires { year ≤ last_fiscal_year }
         ensures value { result ≡ items.bonds chart.now year (registers_with self.now.debts) }
@@ -46,8 +46,8 @@ impl Debt {
         difference(leased, leases_repaid)
     }
 
-    /// Accrued interest through a fiscal year up to 2200, in cents: what was charged for its closed months, less the
-    /// coupons paid of payments that were due. It may be below zero.
+    /// Accrued interest through a fiscal year up to 2200, in cents: what was charged for its closed
+    /// months, less the coupons paid of payments that were due. It may be below zero.
     pub fn accrued(&self, chart: &Chart, year: u16) -> i128
         requires { year ≤ last_fiscal_year }
         ensures value { result ≡ items.accrued chart.now year (registers_with self.now.debts) }

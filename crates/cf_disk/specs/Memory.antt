@@ -10,7 +10,8 @@ abbrev pub content_after : List ℕ → List DiskCall → List ℕ
 content_after first [] = first
 content_after first (Len ∷ earlier) = content_after first earlier
 content_after first (Read at len ∷ earlier) = content_after first earlier
-content_after first (Write at piece ∷ earlier) = written at piece.items (content_after first earlier)
+content_after first (Write at piece ∷ earlier) =
+    written at piece.items (content_after first earlier)
 content_after first (Cut len ∷ earlier) = resized len (content_after first earlier)
 content_after first (Sync held ∷ earlier) = content_after first earlier
 
@@ -19,8 +20,10 @@ abbrev pub IsImageAfter : List ℕ → List DiskCall → List ℕ → Type 0
 IsImageAfter first [] image = image ≡ first
 IsImageAfter first (Len ∷ earlier) image = IsImageAfter first earlier image
 IsImageAfter first (Read at len ∷ earlier) image = IsImageAfter first earlier image
-IsImageAfter first (Write at piece ∷ earlier) image = (old : List ℕ) × IsImageAfter first earlier old × Torn at (length piece.items) old image
-IsImageAfter first (Cut len ∷ earlier) image = (old : List ℕ) × IsImageAfter first earlier old × HalfCut len old image
+IsImageAfter first (Write at piece ∷ earlier) image = (old : List ℕ)
+    × IsImageAfter first earlier old × Torn at (length piece.items) old image
+IsImageAfter first (Cut len ∷ earlier) image = (old : List ℕ) × IsImageAfter first earlier old
+    × HalfCut len old image
 IsImageAfter first (Sync true ∷ earlier) image = image ≡ content_after first earlier
 IsImageAfter first (Sync false ∷ earlier) image = IsImageAfter first earlier image
 
@@ -29,7 +32,8 @@ abbrev pub IsImageOf : List ℕ → List DiskCall → List ℕ → Type 0
 IsImageOf first calls image = IsImageAfter first (reverse calls) image
 
 -- at some moment from the call of number t on
-pub record WasImageOf (first : List ℕ) (calls : List DiskCall) (t : ℕ) (image : List ℕ) : Type 0 where
+pub record WasImageOf (first : List ℕ) (calls : List DiskCall) (t : ℕ)
+    (image : List ℕ) : Type 0 where
   pub at : ℕ
   pub from : t ≤ at
   pub to : at ≤ length calls
@@ -43,4 +47,5 @@ pub record AddsWrite (at : ℕ) (piece : List ℕ) (old new : List DiskCall) : T
 
 -- a call that changes no byte
 abbrev pub IsStill : DiskCall → Type 0
-IsStill call = (first : List ℕ) (earlier : List DiskCall) → content_after first (call ∷ earlier) ≡ content_after first earlier
+IsStill call = (first : List ℕ) (earlier : List DiskCall)
+    → content_after first (call ∷ earlier) ≡ content_after first earlier

@@ -27,4 +27,5 @@ pub record AddsCall (old new : MemDisk) (call : DiskCall) : Type 0 where
   pub calls : new.calls.items ≡ old.calls.items ++ call ∷ []
 
 pub image_held : (d : MemDisk) → IsImageOf d.first.items d.calls.items d.bytes.items
-image_held d = subst (λ (image : List ℕ). IsImageOf d.first.items d.calls.items image) (sym d.recorded) (content_is_image d.first.items (reverse d.calls.items))
+image_held d = subst (λ (image : List ℕ). IsImageOf d.first.items d.calls.items image)
+    (sym d.recorded) (content_is_image d.first.items (reverse d.calls.items))

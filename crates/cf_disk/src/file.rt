@@ -12,7 +12,8 @@ use std::path::Path;
 
 /// The lock of an open file, for code that is generic over files.
 pub trait Lock {
-    /// Takes the lock on the file, without waiting. Whether it has it: another open of the file may hold it.
+    /// Takes the lock on the file, without waiting. Whether it has it: another open of the file may
+    /// hold it.
     fn take_lock(&self) -> bool;
 }
 
@@ -22,10 +23,11 @@ impl Lock for File {
     }
 }
 
-/// A disk over a file, of the system or of what stands in for it. Its first call opens the file and locks it, so that no
-/// second program that does the same writes it; a file that can't be opened, or that another holds, is a fault of that
-/// call. A missing file has no bytes, and is made by the first write or cut. Each sync is one of the system: of the file's
-/// data, and, until one has succeeded, of the folder that it lies in.
+/// A disk over a file, of the system or of what stands in for it. Its first call opens the file and
+/// locks it, so that no second program that does the same writes it; a file that can't be opened,
+/// or that another holds, is a fault of that call. A missing file has no bytes, and is made by the
+/// first write or cut. Each sync is one of the system: of the file's data, and, until one has
+/// succeeded, of the folder that it lies in.
 #[derive(Drop)]
 pub struct FileDisk<'a, R: Files> {
     files: &'a R,
@@ -96,8 +98,8 @@ where
         Some(())
     }
 
-    /// Syncs the folder once, so that the file is found again after a power cut. A disk does so whoever made the file: the
-    /// run that made it may have ended before its first sync.
+    /// Syncs the folder once, so that the file is found again after a power cut. A disk does so
+    /// whoever made the file: the run that made it may have ended before its first sync.
     fn sync_folder(&mut self) -> Option<()>
         ensures { self.new.faults ≡ self.old.faults }
     {

@@ -1,4 +1,5 @@
-//! The disk under the journal, as a trait with the rules of a crash; its kind in memory and over a real file.
+//! The disk under the journal, as a trait with the rules of a crash; its kind in memory and over a
+//! real file.
 #![tactic(auto)]
 
 mod disk;

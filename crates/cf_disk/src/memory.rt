@@ -21,9 +21,10 @@ pub enum DiskCall {
     Sync { held: bool },
 }
 
-/// A disk in memory. It keeps a record of its calls, which are counted from 1. It can be told which calls
-/// fail, and at which one it stops: that call fails, and each later one fails and does nothing. A failed
-/// write or cut is made. A growth that memory refuses is a fault, and the call isn't made.
+/// A disk in memory. It keeps a record of its calls, which are counted from 1. It can be told which
+/// calls fail, and at which one it stops: that call fails, and each later one fails and does
+/// nothing. A failed write or cut is made. A growth that memory refuses is a fault, and the call
+/// isn't made.
 #[derive(Drop)]
 pub struct MemDisk {
     alloc: Global,
@@ -46,8 +47,8 @@ impl MemDisk {
         MemDisk::with_faults(alloc, bytes, Vec::new(alloc), 0)
     }
 
-    /// A disk with these bytes, all of them synced, whose calls of these numbers fail, and that stops at the call
-    /// `stop`. With a `stop` of 0 it doesn't.
+    /// A disk with these bytes, all of them synced, whose calls of these numbers fail, and that
+    /// stops at the call `stop`. With a `stop` of 0 it doesn't.
     pub fn with_faults(
         alloc: Global,
         bytes: Vec<u8>,
@@ -167,7 +168,8 @@ fn write(
 ) -> Result<(), AllocError>
     ensures ok { OnOk result (bytes.new.items ≡ written at piece.now bytes.old.items) }
     ensures record { OnOk result (AddsWrite at piece.now calls.old.items calls.new.items) }
-    ensures err { OnErr result ((bytes.new.items ≡ bytes.old.items) × (calls.new.items ≡ calls.old.items)) }
+    ensures err { OnErr result
+        ((bytes.new.items ≡ bytes.old.items) × (calls.new.items ≡ calls.old.items)) }
 {
     let copy = Vec::from_slice(alloc, piece)?;
     let Some(end) = at.checked_add(piece.len() as u64) else {
@@ -185,7 +187,8 @@ fn write(
 fn resize(bytes: &mut Vec<u8>, calls: &mut Vec<DiskCall>, len: u64) -> Result<(), AllocError>
     ensures ok { OnOk result (bytes.new.items ≡ resized len bytes.old.items) }
     ensures record { OnOk result (calls.new.items ≡ calls.old.items ++ Cut len ∷ []) }
-    ensures err { OnErr result ((bytes.new.items ≡ bytes.old.items) × (calls.new.items ≡ calls.old.items)) }
+    ensures err { OnErr result
+        ((bytes.new.items ≡ bytes.old.items) × (calls.new.items ≡ calls.old.items)) }
 {
     calls.reserve(1)?;
     bytes.resize(len as usize, 0)?;

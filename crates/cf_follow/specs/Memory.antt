@@ -11,7 +11,8 @@ pub record MemoryState : Type 0 where
 
 -- entries of one desk are refused, and all where the history is full
 abbrev pub refusal_in : MemoryState → Entry → Option ℕ
-refusal_in s e = if e.change.desk == s.refuses then Some 1 else (if nat_lt (length s.entries) most_entries then None else Some 5)
+refusal_in s e = if e.change.desk == s.refuses then Some 1
+    else (if nat_lt (length s.entries) most_entries then None else Some 5)
 
 pub record IsMemory (entries : List Entry) : Type 0 where
   pub form : All IsEntryInForm entries

@@ -13,7 +13,8 @@ use cf_calls::Entry;
 pub enum Admission {
     /// It is the one that this office would add too, and was added.
     Added,
-    /// It isn't: the number of the refusal, or 0 where the office has the call already or draws other numbers for it.
+    /// It isn't: the number of the refusal, or 0 where the office has the call already or draws
+    /// other numbers for it.
     Refused(u8),
     /// There was no memory.
     NoMemory,
@@ -44,7 +45,8 @@ pub trait Follower {
     /// Takes an entry as the next one of its history, where it would add the same.
     fn admit(&mut self, entry: Entry) -> Admission
         requires { IsEntryInForm entry }
-        ensures admits { Admits (office history refusal faults since) self.old entry self.new result }
+        ensures admits { Admits
+            (office history refusal faults since) self.old entry self.new result }
         ensures few { length (history self.new) ≤ most_entries };
 
     ghost since_same: { (f : Self) → since f f None };

@@ -18,7 +18,8 @@ use cf_base::Source;
 use cf_journal_stream::{Reader, Unread, read_frame, read_head};
 use std::alloc::Global;
 
-/// The first place where two texts differ, or the shorter one's end; `None` where they are the same.
+/// The first place where two texts differ, or the shorter one's end; `None` where they are the
+/// same.
 fn first_difference(a: &[u8], b: &[u8]) -> Option<usize>
     ensures { MatchOption result (a.now ≡ b.now) (DifferAt a.now b.now) }
 {
@@ -52,7 +53,8 @@ fn follow_head<I: Source>(
     chart: &[u8],
     len: u64,
 ) -> Result<u64, FollowEnd>
-    ensures ok { IfOk result (λ from. ReadsHead (I.left input.old) (I.left input.new) from chart.now) }
+    ensures ok { IfOk result
+        (λ from. ReadsHead (I.left input.old) (I.left input.new) from chart.now) }
     ensures within { IfOk result (λ from. from ≤ len) }
     ensures err { IfErr result (HeadEnds chart.now len (I.left input.old) (I.left input.new)) }
     ensures cause { IfErr result (IsReadCause (I.faults input.old) (I.faults input.new)) }
@@ -82,8 +84,10 @@ fn follow_records<I: Source, F: Follower>(
     requires few { from ≤ most_entries }
     requires short { length chart.now ≤ most_chart }
     ensures ends { (left : Option (List ℕ)) → ReadsHead left (I.left input.old) from chart.now
-        → FollowEnds (office F.history F.refusal F.faults F.since) chart.now follower.old follower.new left (I.left input.new) result }
-    ensures still { F.history follower.new ≡ F.history follower.old → result ≢ FollowEnd.DiskFault → follower.new ≡ follower.old }
+        → FollowEnds (office F.history F.refusal F.faults F.since) chart.now follower.old
+        follower.new left (I.left input.new) result }
+    ensures still { F.history follower.new ≡ F.history follower.old → result ≢ FollowEnd.DiskFault
+        → follower.new ≡ follower.old }
     ensures cause { IsReadCause (I.faults input.old) (I.faults input.new) result }
 {
     let mut own = Vec::new(alloc);
@@ -113,8 +117,11 @@ fn read_stream<I: Source, F: Follower>(
     chart: &[u8],
     follower: &mut F,
 ) -> FollowEnd
-    ensures ends { FollowEnds (office F.history F.refusal F.faults F.since) chart.now follower.old follower.new (I.left input.old) (I.left input.new) result }
-    ensures still { F.history follower.new ≡ F.history follower.old → result ≢ FollowEnd.DiskFault → follower.new ≡ follower.old }
+    ensures ends { FollowEnds
+        (office F.history F.refusal F.faults F.since) chart.now follower.old follower.new
+        (I.left input.old) (I.left input.new) result }
+    ensures still { F.history follower.new ≡ F.history follower.old → result ≢ FollowEnd.DiskFault
+        → follower.new ≡ follower.old }
     ensures cause { IsReadCause (I.faults input.old) (I.faults input.new) result }
 {
     let Ok(mut reader) = Reader::new(alloc) else {
@@ -127,33 +134,44 @@ fn read_stream<I: Source, F: Follower>(
     }
 }
 
-/// Reads a stream into an office of this chart: the entries that it has already are compared, and the others are appended, as far as
-/// it would add the same. It holds one record of the stream at a time, and leaves unread what stands behind the closing byte.
+/// Reads a stream into an office of this chart: the entries that it has already are compared, and
+/// the others are appended, as far as it would add the same. It holds one record of the stream at a
+/// time, and leaves unread what stands behind the closing byte.
 pub fn follow<I: Source, F: Follower>(
     alloc: Global,
     input: &mut I,
     chart: &[u8],
     follower: &mut F,
 ) -> FollowEnd
-    ensures ends { FollowEnds (office F.history F.refusal F.faults F.since) chart.now follower.old follower.new (I.left input.old) (I.left input.new) result }
+    ensures ends { FollowEnds
+        (office F.history F.refusal F.faults F.since) chart.now follower.old follower.new
+        (I.left input.old) (I.left input.new) result }
 
-    // A stream that was shipped from a history which continues this one is followed without a difference.
-    ensures copies { (whole : List EntryOf) → IsBehind (office F.history F.refusal F.faults F.since) follower.old whole → IsShipped chart.now whole (I.left input.old)
+    // A stream that was shipped from a history which continues this one is followed without a
+    // difference.
+    ensures copies { (whole : List EntryOf)
+        → IsBehind (office F.history F.refusal F.faults F.since) follower.old whole
+        → IsShipped chart.now whole (I.left input.old)
         → IsCopy (office F.history F.refusal F.faults F.since) whole follower.new result }
 
     // Where it came whole, no field of it is at fault.
-    ensures whole { (whole : List EntryOf) → IsBehind (office F.history F.refusal F.faults F.since) follower.old whole → (s : IsShipped chart.now whole (I.left input.old))
-        → s.lost ≡ [] → length chart.now ≤ most_chart → (offset : ℕ) → result ≢ FollowEnd.StreamFault offset }
+    ensures whole { (whole : List EntryOf)
+        → IsBehind (office F.history F.refusal F.faults F.since) follower.old whole
+        → (s : IsShipped chart.now whole (I.left input.old))
+        → s.lost ≡ [] → length chart.now ≤ most_chart → (offset : ℕ)
+        → result ≢ FollowEnd.StreamFault offset }
 
     // Where the history stays, nothing is touched.
-    ensures still { F.history follower.new ≡ F.history follower.old → result ≢ FollowEnd.DiskFault → follower.new ≡ follower.old }
+    ensures still { F.history follower.new ≡ F.history follower.old → result ≢ FollowEnd.DiskFault
+        → follower.new ≡ follower.old }
 
     // Where the disk failed, it was at the entry of the last record that was taken.
     ensures since { (ends : FollowEnds (office F.history F.refusal F.faults F.since) chart.now
         follower.old follower.new (I.left input.old) (I.left input.new) result)
         → F.since follower.old follower.new (failed_in ends) }
     ensures cause { IsReadCause (I.faults input.old) (I.faults input.new) result }
-    ensures disk { result ≡ FollowEnd.DiskFault → Rose (F.faults follower.old) (F.faults follower.new) }
+    ensures disk { result ≡ FollowEnd.DiskFault
+        → Rose (F.faults follower.old) (F.faults follower.new) }
     ensures quiet { result ≢ FollowEnd.DiskFault → F.faults follower.new ≡ F.faults follower.old }
 {
     read_stream(alloc, input, chart, follower)

@@ -9,7 +9,8 @@ use cf_calls::Entry;
 use std::alloc::{AllocError, Global};
 use std::marker::Model;
 
-/// An office in memory that takes every entry but those of one desk, while its history has less than 1,500,000.
+/// An office in memory that takes every entry but those of one desk, while its history has less
+/// than 1,500,000.
 #[derive(Drop)]
 pub struct MemFollower {
     entries: Vec<Entry>,

@@ -43,8 +43,8 @@ impl fmt::Display for GrantKey {
     }
 }
 
-/// The first fault of a document of grants. Rows are counted from 0 in the order of the document; a fault of the table
-/// itself has place 0 and its name as key.
+/// The first fault of a document of grants. Rows are counted from 0 in the order of the document; a
+/// fault of the table itself has place 0 and its name as key.
 #[derive(Clone, Copy, Error)]
 pub enum GrantFault {
     /// The document has more than 1,048,576 bytes.

@@ -1,4 +1,5 @@
--- Where passes of different numbers have as many calls that failed as there are, each such call is one of theirs.
+-- Where passes of different numbers have as many calls that failed as there are, each such call is
+-- one of theirs.
 use Rattle.std.proofs.Common.{◌≡◌, ⊎_elim, ℕ, ◌+◌, ◌<◌, ◌≤◌, All, Bool, true, false, if◌then◌else◌, ◌==◌, List, [], ◌∷◌, ◌++◌, length, map, refl, sym, ap, subst, ◌∙◌, arith, length-append}
 use Rattle.std.specs.List.{Contains}
 use Rattle.std.proofs.lemmas.Bool.Decides.{nat_tests}

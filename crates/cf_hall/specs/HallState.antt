@@ -25,12 +25,16 @@ pub record BookState (D : Type 0) : Type 0 where
   pub archive : DurableBook D
   pub recorder : RecorderState
 
--- The history is the recorder's list, of this chart, and has the entries that it was opened with at least. So many calls were
--- accepted as it has entries, and the disk's count of faults has risen by the fault replies at least. Where there was none it
--- stands, and nothing came in doubt. No pass was ended. What is in doubt was so at opening, or is the entry of a call that was
--- answered by such a fault, and that the step accepts. Since the hall was opened a crash left what recovers to a front of the
--- history, no shorter than it was then, or to that and one such entry.
-pub record IsHallBook {D : Type 0} (tells : Bool) (moment : D → ℕ) (was_image : D → ℕ → List ℕ → Type 0) (faults : D → ℕ) (under : Plan) (first : ℕ) (doubt : Option Entry) (begun risen : ℕ) (archive : DurableBook D) (recorder : RecorderState) (totals : TotalsState) : Type 0 where
+-- The history is the recorder's list, of this chart, and has the entries that it was opened with at
+-- least. So many calls were accepted as it has entries, and the disk's count of faults has risen by
+-- the fault replies at least. Where there was none it stands, and nothing came in doubt. No pass
+-- was ended. What is in doubt was so at opening, or is the entry of a call that was answered by
+-- such a fault, and that the step accepts. Since the hall was opened a crash left what recovers to
+-- a front of the history, no shorter than it was then, or to that and one such entry.
+pub record IsHallBook {D : Type 0} (tells : Bool) (moment : D → ℕ)
+    (was_image : D → ℕ → List ℕ → Type 0) (faults : D → ℕ) (under : Plan) (first : ℕ)
+    (doubt : Option Entry) (begun risen : ℕ) (archive : DurableBook D) (recorder : RecorderState)
+    (totals : TotalsState) : Type 0 where
   pub plan : archive.plan ≡ under
   pub list : archive.entries ≡ entries_of recorder.list
   pub from : first ≤ length recorder.list
@@ -39,16 +43,21 @@ pub record IsHallBook {D : Type 0} (tells : Bool) (moment : D → ℕ) (was_imag
   pub quiet : totals.faulted ≡ 0 → faults archive.disk ≡ risen
   pub clear : totals.faulted ≡ 0 → (archive.doubt ≡ doubt) ⊎ (archive.doubt ≡ None)
   pub failed : totals.faulted ≡ length recorder.failed
-  pub unacknowledged : IfSome archive.doubt (IsUnacknowledged archive.plan doubt (calls_in recorder.failed) archive.entries)
+  pub unacknowledged : IfSome archive.doubt
+      (IsUnacknowledged archive.plan doubt (calls_in recorder.failed) archive.entries)
   pub none_ended : recorder.ended ≡ []
-  pub since : IsTrue tells → IsKeptSince moment was_image archive.plan first doubt (calls_in recorder.failed) archive.entries begun archive.disk
+  pub since : IsTrue tells
+      → IsKeptSince moment was_image archive.plan first doubt
+      (calls_in recorder.failed) archive.entries begun archive.disk
 
 -- the list stays, or grows by one entry for the pass of this number
 abbrev pub ListGrows : List TaggedEntry → ℕ → List TaggedEntry → Type 0
 ListGrows old number new = (new ≡ old) ⊎ ((e : Entry) × (new ≡ old ++ (e, number) ∷ []))
 
--- the history has one entry more than the list, which owes these changes to tables that were lent for it
-pub record WasAdded (plan : Plan) (list : List TaggedEntry) (history : List Entry) (lines : Tables) (changes : List LineChange) : Type 0 where
+-- the history has one entry more than the list, which owes these changes to tables that were lent
+-- for it
+pub record WasAdded (plan : Plan) (list : List TaggedEntry) (history : List Entry) (lines : Tables)
+    (changes : List LineChange) : Type 0 where
   pub entry : Entry
   pub last : history ≡ entries_of list ++ entry ∷ []
   pub owed : IsOwed plan (entries_of list) entry lines changes

@@ -8,7 +8,8 @@ use Rattle.cf_hall_names.specs.Shares.{SharesState}
 use Rattle.cf_turns.specs.Lists.{TaggedCall, TaggedEntry, longer}
 use Rattle.cf_turns.specs.States.{PassState}
 
--- the pass is of this table, and its part of the ledgers counts its accepted calls and its fault replies
+-- the pass is of this table, and its part of the ledgers counts its accepted calls and its fault
+-- replies
 pub record IsCounted (table : TableId) (p : PassState) (s : SharesState) : Type 0 where
   pub own : p.table ≡ table
   pub part : s.parts ≡ 1
@@ -20,9 +21,16 @@ pub record IsCounted (table : TableId) (p : PassState) (s : SharesState) : Type 
 abbrev pub Sights : PassState → List TaggedEntry → Call → Posted → PassState → Type 0
 Sights old list c (posted.Reply r) new = new ≡ record old { seen = longer old.seen list }
 Sights old list c posted.NoMemory new = new ≡ old
-Sights old list c posted.Disk new = new ≡ record old { seen = longer old.seen list; faults = min (old.faults + 1) (2 ^ 64 - 1); failed = old.failed ++ c ∷ [] }
+Sights old list c posted.Disk new = new
+    ≡ record old {
+      seen = longer old.seen list;
+      faults = min (old.faults + 1) (2 ^ 64 - 1);
+      failed =
+          old.failed ++ c ∷ [];
+    }
 
--- the calls that were answered by a fault of the disk, after this answer to a call of the pass of this number
+-- the calls that were answered by a fault of the disk, after this answer to a call of the pass of
+-- this number
 abbrev pub failed_after : List TaggedCall → Call → ℕ → Posted → List TaggedCall
 failed_after failed c number posted.Disk = failed ++ (c, number) ∷ []
 failed_after failed c number _ = failed

@@ -9,8 +9,10 @@ use Rattle.cf_hall_names.specs.Lists.{entries_of}
 use Rattle.cf_turns.specs.Lists.{TaggedEntry, longer}
 use Rattle.cf_turns.specs.States.{PassState, RecorderState}
 
--- the recorder is of this table, its list is a legal history, and these are the counts of its entries
-pub record IsRecording (table : TableId) (plan : Plan) (recorder : RecorderState) (totals : List ℕ) : Type 0 where
+-- the recorder is of this table, its list is a legal history, and these are the counts of its
+-- entries
+pub record IsRecording (table : TableId) (plan : Plan) (recorder : RecorderState)
+    (totals : List ℕ) : Type 0 where
   pub own : recorder.table ≡ table
   pub legal : IsLegal plan (entries_of recorder.list)
   pub counts : AreCounts plan recorder.list totals
@@ -31,5 +33,6 @@ pub record HasAsked (old now : PassState) (list : List TaggedEntry) : Type 0 whe
 
 -- the last entry of the list was recorded for the pass, which has seen the list
 pub record HasNoted (old : PassState) (list : List TaggedEntry) (new : PassState) : Type 0 where
-  pub pass : new ≡ record old { places = old.places ++ length list ∷ []; seen = longer old.seen list }
+  pub pass : new ≡ record old
+      { places = old.places ++ length list ∷ []; seen = longer old.seen list }
   pub seen : IsPrefix old.seen new.seen

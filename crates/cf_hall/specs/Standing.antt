@@ -9,9 +9,11 @@ use Rattle.cf_registers.specs.Moved.{row_of}
 use Rattle.cf_turns.specs.States.{PassState}
 
 -- the table has the numbers of the stripe's lines by the list that the tie has seen
-pub record StandsFor (table : TableId) (plan : Plan) (stripe : ℕ) (lines : Table) (p : PassState) : Type 0 where
+pub record StandsFor (table : TableId) (plan : Plan) (stripe : ℕ) (lines : Table)
+    (p : PassState) : Type 0 where
   pub own : p.table ≡ table
-  pub rows : (line year : ℕ) → stripe_of line ≡ stripe → row_in lines line year ≡ row_of plan (entries_of p.seen) line year
+  pub rows : (line year : ℕ) → stripe_of line ≡ stripe
+      → row_in lines line year ≡ row_of plan (entries_of p.seen) line year
 
 -- both are there, or both are away
 abbrev pub IsStripe : TableId → Plan → ℕ → Option Table → Option PassState → Type 0
@@ -21,4 +23,5 @@ IsStripe table plan stripe _ _ = ⊥
 
 -- the tables with this one in its place
 abbrev pub PutsTable : Tables → ℕ → Option Table → Tables → Type 0
-PutsTable old stripe rows new = (n : ℕ) → table_of new n ≡ (if stripe == n then rows else table_of old n)
+PutsTable old stripe rows new = (n : ℕ)
+    → table_of new n ≡ (if stripe == n then rows else table_of old n)

@@ -25,20 +25,26 @@ owed_changes (Some changes) = changes
 -- the rows of a stripe's lines are those of the history, once the changes that are owed are made
 abbrev pub AreRowsOf : Plan → List Entry → ℕ → Tables → List LineChange → Type 0
 AreRowsOf plan history stripe lines owed =
-    (line year : ℕ) → stripe_of line ≡ stripe → row_plus (row_at lines line year) (changes_at owed line year) ≡ row_of plan history line year
+    (line year : ℕ) → stripe_of line ≡ stripe
+    → row_plus (row_at lines line year) (changes_at owed line year)
+    ≡ row_of plan history line year
 
 -- a stripe that was taken: its table is there, and stands for the list that its tie has seen
-pub record IsTakenStripe (table : TableId) (plan : Plan) (stripe : ℕ) (lines : Tables) (owed : List LineChange) (p : PassState) : Type 0 where
+pub record IsTakenStripe (table : TableId) (plan : Plan) (stripe : ℕ) (lines : Tables)
+    (owed : List LineChange) (p : PassState) : Type 0 where
   pub own : p.table ≡ table
   pub there : has_stripe lines stripe ≡ true
   pub rows : AreRowsOf plan (entries_of p.seen) stripe lines owed
 
 -- the tables that are there are those of the ties that are there
-pub record AreTakenStripes (table : TableId) (plan : Plan) (lines : Tables) (owed : Option (List LineChange)) (ties : List (Option PassState)) : Type 0 where
-  pub stripes : (stripe : ℕ) → stripe < 8 → (p : PassState) → tie_at ties stripe ≡ Some p → IsTakenStripe table plan stripe lines (owed_changes owed) p
+pub record AreTakenStripes (table : TableId) (plan : Plan) (lines : Tables)
+    (owed : Option (List LineChange)) (ties : List (Option PassState)) : Type 0 where
+  pub stripes : (stripe : ℕ) → stripe < 8 → (p : PassState) → tie_at ties stripe ≡ Some p
+      → IsTakenStripe table plan stripe lines (owed_changes owed) p
   pub away : (stripe : ℕ) → stripe < 8 → tie_at ties stripe ≡ None → table_of lines stripe ≡ None
   pub can : IfSome owed (CanApply lines)
 
 -- the ties that are there have seen this list
 abbrev pub AllSeen : List TaggedEntry → List (Option PassState) → Type 0
-AllSeen list ties = (stripe : ℕ) → stripe < 8 → (p : PassState) → tie_at ties stripe ≡ Some p → p.seen ≡ list
+AllSeen list ties = (stripe : ℕ) → stripe < 8 → (p : PassState) → tie_at ties stripe ≡ Some p
+    → p.seen ≡ list

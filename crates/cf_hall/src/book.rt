@@ -35,10 +35,11 @@ use std::alloc::Global;
 use std::marker::Model;
 use std::snapshot::Snapshot;
 
-/// The history with its journal and disk, and all that counts it. Contracts see the archive and the recorder. Whatever a
-/// crash leaves of the disk recovers to the history, or to it and the entry in doubt, for that is the archive's promise; and
-/// what it left at each moment since the hall was opened, to a front of the history, or to that and one entry: one that was in
-/// doubt at opening, or that of a call which was answered by a fault of the disk.
+/// The history with its journal and disk, and all that counts it. Contracts see the archive and the
+/// recorder. Whatever a crash leaves of the disk recovers to the history, or to it and the entry in
+/// doubt, for that is the archive's promise; and what it left at each moment since the hall was
+/// opened, to a front of the history, or to that and one entry: one that was in doubt at opening,
+/// or that of a call which was answered by a fault of the disk.
 #[derive(Drop)]
 pub struct HallBook<N: City, D: Disk + Drop> {
     pub(crate) archive: Archive<D>,
@@ -53,7 +54,9 @@ impl<N: City, D: Disk + Drop> Model for HallBook<N, D> {
 
     ghost view = { λ b. record { archive = b.archive; recorder = b.recording } };
 
-    ghost invariant = { λ b. IsHallBook D.tells D.moment D.was_image D.faults N.plan N.first N.doubt N.begun N.risen b.archive b.recording b.totals };
+    ghost invariant = { λ b.
+        IsHallBook D.tells D.moment D.was_image D.faults N.plan N.first N.doubt N.begun N.risen
+        b.archive b.recording b.totals };
 }
 
 /// What the pass sees after an answer that added nothing. A fault reply is noted and counted.
@@ -66,8 +69,11 @@ fn see<N: City>(
     answer: &Posted,
 )
     requires own { turns.now ≡ N.table }
-    ensures recorder { recording.new ≡ record recording.old { failed = failed_after recording.old.failed call.value pass.old.number answer.now } }
-    ensures totals { totals.new ≡ record totals.old { faulted = totals.old.faulted + faults_by answer.now } }
+    ensures recorder { recording.new
+        ≡ record recording.old
+        { failed = failed_after recording.old.failed call.value pass.old.number answer.now } }
+    ensures totals { totals.new
+        ≡ record totals.old { faulted = totals.old.faulted + faults_by answer.now } }
     ensures pass { Sights pass.old recording.old.list call.value answer.now pass.new }
     ensures seen { IsPrefix pass.old.seen pass.new.seen }
 {
@@ -97,7 +103,8 @@ fn add_last<N: City, D: Disk + Drop>(
     requires seen { AllSeen recording.old.list taken.old.ties }
     requires added { WasAdded N.plan recording.old.list archive.now.entries taken.old.lines owed }
     ensures list { entries_of recording.new.list ≡ archive.now.entries }
-    ensures grows { (e : EntryOf) × (recording.new.list ≡ recording.old.list ++ (e, pass.old.number) ∷ []) }
+    ensures grows { (e : EntryOf)
+        × (recording.new.list ≡ recording.old.list ++ (e, pass.old.number) ∷ []) }
     ensures recorder { SameRecorder recording.old recording.new }
     ensures counted { length recording.new.list ≡ length recording.old.list + 1 }
     ensures seen { AllSeen recording.new.list taken.new.ties }
@@ -125,9 +132,10 @@ impl<N: City, D: Disk + Drop> HallBook<N, D> {
         pass
     }
 
-    /// What is done for a call while its caller has the book. The stripes of the call were taken and owe nothing. After
-    /// an accepted call they owe its entry's changes, and stand for the history once those are made. None is lost. Only a change
-    /// that the rules accept touches the disk, and not where memory was wanting.
+    /// What is done for a call while its caller has the book. The stripes of the call were taken
+    /// and owe nothing. After an accepted call they owe its entry's changes, and stand for the
+    /// history once those are made. None is lost. Only a change that the rules accept touches the
+    /// disk, and not where memory was wanting.
     pub fn settle(
         &mut self,
         alloc: Global,
@@ -140,17 +148,21 @@ impl<N: City, D: Disk + Drop> HallBook<N, D> {
         requires own { turns.now ≡ N.table }
         requires owes { taken.old.owed ≡ None }
         requires lent { LendsCall N.plan (has_line taken.old.lines) call }
-        ensures reply { Settles (state_of D.faults self.old.archive) call result (state_of D.faults self.new.archive) }
+        ensures reply { Settles (state_of D.faults self.old.archive) call result
+            (state_of D.faults self.new.archive) }
         ensures list { ListGrows self.old.recorder.list pass.old.number self.new.recorder.list }
         ensures taken { AllSeen self.new.recorder.list taken.new.ties }
         ensures stripes { SameStripes taken.old.lines taken.new.lines }
         ensures pass { Tells N.plan pass.old pass.new call result }
-        ensures disk { accepts self.old.archive.plan self.old.archive.entries call ≡ false → self.new.archive.disk ≡ self.old.archive.disk }
+        ensures disk { accepts self.old.archive.plan self.old.archive.entries call ≡ false
+            → self.new.archive.disk ≡ self.old.archive.disk }
         ensures memory { result ≡ posted.NoMemory → self.new.archive.disk ≡ self.old.archive.disk }
 
         // What a crash leaves at any moment of the call.
-        ensures any_moment { IsTrue D.tells → AtEachMoment D.moment D.was_image self.old.archive.disk self.new.archive.disk
-            (RecoversNear self.old.archive.plan self.old.archive.entries (IsInHand (state_of D.faults self.old.archive) call)) }
+        ensures any_moment { IsTrue D.tells
+            → AtEachMoment D.moment D.was_image self.old.archive.disk self.new.archive.disk
+            (RecoversNear self.old.archive.plan self.old.archive.entries
+            (IsInHand (state_of D.faults self.old.archive) call)) }
     {
         let said = Snapshot::of(&call);
         self.recording.catch_up(turns, taken, &mut pass.pass);
@@ -199,7 +211,8 @@ impl<N: City, D: Disk + Drop> HallBook<N, D> {
         requires empty { receipts.old.items ≡ [] }
         requires room { vec_len receipts.old + length passes.items ≤ vec_capacity receipts.old }
         ensures receipts { receipts.new.items ≡ map receipts_of passes.items }
-        ensures ends { HallEnds D.tells D.is_image D.moment D.was_image D.faults N.plan N.first N.doubt N.begun N.risen kept passes.items result.length result.disk }
+        ensures ends { HallEnds D.tells D.is_image D.moment D.was_image D.faults N.plan N.first
+            N.doubt N.begun N.risen kept passes.items result.length result.disk }
     {
         let HallBook {
             archive,

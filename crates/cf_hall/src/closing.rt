@@ -75,18 +75,21 @@ fn end_all<N: City>(
     ensures noted { recorder.new.failed ≡ recorder.old.failed }
     ensures seen { All (λ p. IsPrefix p.seen recorder.old.list) passes.items }
     ensures parts { shares.new.parts ≡ shares.old.parts + length passes.items }
-    ensures accepted { shares.new.accepted ≡ shares.old.accepted + accepted_of (map receipts_of passes.items) }
-    ensures faulted { shares.old.faulted + faults_in (map receipts_of passes.items) ≤ shares.new.faulted }
+    ensures accepted { shares.new.accepted
+        ≡ shares.old.accepted + accepted_of (map receipts_of passes.items) }
+    ensures faulted { shares.old.faulted + faults_in (map receipts_of passes.items)
+        ≤ shares.new.faulted }
     ensures counted { shares.new.faulted ≡ shares.old.faulted + length (failed_calls passes.items) }
-    ensures quiet { faults_in (map receipts_of passes.items) ≡ 0 → shares.new.faulted ≡ shares.old.faulted }
+    ensures quiet { faults_in (map receipts_of passes.items) ≡ 0
+        → shares.new.faulted ≡ shares.old.faulted }
 {
     for pass in passes {
         end_one(turns, recorder, shares, pass, receipts);
     }
 }
 
-/// Ends the pass that the hall kept for itself, and then all others, which have every part of the ledgers but those that
-/// are spare. It takes no memory.
+/// Ends the pass that the hall kept for itself, and then all others, which have every part of the
+/// ledgers but those that are spare. It takes no memory.
 pub(crate) fn close_in<N: City>(
     turns: &Turns,
     mut recorder: Recorder,
@@ -109,7 +112,8 @@ pub(crate) fn close_in<N: City>(
     ensures closes { Closes recorder.list (receipts_of kept ∷ map receipts_of passes.items) }
     ensures kept_seen { IsPrefix kept.seen recorder.list }
     ensures seen { All (λ p. IsPrefix p.seen recorder.list) passes.items }
-    ensures failed { (c : CallOf) → Contains (calls_in recorder.failed) c → Contains (failed_calls passes.items) c }
+    ensures failed { (c : CallOf) → Contains (calls_in recorder.failed) c
+        → Contains (failed_calls passes.items) c }
     ensures faulted { faults_in (map receipts_of passes.items) ≤ totals.faulted }
     ensures quiet { faults_in (map receipts_of passes.items) ≡ 0 → totals.faulted ≡ 0 }
 {

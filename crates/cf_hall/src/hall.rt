@@ -33,12 +33,13 @@ pub struct Hall<N: City, D: Disk + Drop> {
 }
 
 impl<N: City, D: Disk + Drop> Hall<N, D> {
-    /// Opens a hall over an opened book, with a second copy of its chart. The entries of the book's history are recorded
-    /// for a pass that the hall keeps. It takes no memory.
+    /// Opens a hall over an opened book, with a second copy of its chart. The entries of the book's
+    /// history are recorded for a pass that the hall keeps. It takes no memory.
     pub fn open(book: Book<D>, chart: Chart, opening: Opening) -> Hall<N, D>
         requires own { opening.turns ≡ N.table }
         requires stripes { (k : ℕ) → k < 8 → name_at opening.stripes k ≡ N.stripes k }
-        requires ledgers { (opening.accepted.name ≡ N.accepted) × (opening.faulted.name ≡ N.faulted) }
+        requires ledgers { (opening.accepted.name ≡ N.accepted)
+            × (opening.faulted.name ≡ N.faulted) }
         requires plan { (book.plan ≡ N.plan) × (chart ≡ N.plan) }
         requires first { length book.entries ≡ N.first }
         requires doubt { book.doubt ≡ N.doubt }
@@ -111,14 +112,15 @@ impl<N: City, D: Disk + Drop> Hall<N, D> {
         }
     }
 
-    /// Ends all passes, which are as many as were entered, and hands the disk back. The receipts of the passes come in
-    /// their order. It takes no memory, and waits for nobody.
+    /// Ends all passes, which are as many as were entered, and hands the disk back. The receipts of
+    /// the passes come in their order. It takes no memory, and waits for nobody.
     pub fn close(self, passes: Vec<HallPass<N>>, receipts: &mut Vec<Receipts>) -> Closed<D>
         requires all { length passes.items ≡ self.entered }
         requires empty { receipts.old.items ≡ [] }
         requires room { vec_len receipts.old + length passes.items ≤ vec_capacity receipts.old }
         ensures receipts { receipts.new.items ≡ map receipts_of passes.items }
-        ensures ends { HallEnds D.tells D.is_image D.moment D.was_image D.faults N.plan N.first N.doubt N.begun N.risen self.kept passes.items result.length result.disk }
+        ensures ends { HallEnds D.tells D.is_image D.moment D.was_image D.faults N.plan N.first
+            N.doubt N.begun N.risen self.kept passes.items result.length result.disk }
     {
         let Hall {
             shared,

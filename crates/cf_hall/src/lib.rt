@@ -1,5 +1,6 @@
-//! The office that several threads share. Its lines fall into eight stripes, each with a lock of its own; the history with
-//! its journal, the book, has one more. A call takes its stripes in rising number, then the book.
+//! The office that several threads share. Its lines fall into eight stripes, each with a lock of
+//! its own; the history with its journal, the book, has one more. A call takes its stripes in
+//! rising number, then the book.
 #![tactic(auto)]
 
 mod book;

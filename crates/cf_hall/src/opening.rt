@@ -1,5 +1,5 @@
-//! Opening a hall over an opened book: the entries of its journal are recorded for a pass of the hall's own, and every stripe
-//! sees them.
+//! Opening a hall over an opened book: the entries of its journal are recorded for a pass of the
+//! hall's own, and every stripe sees them.
 
 ghost use Rattle.std.specs.Prelude.{◌≡◌, ◌+◌, ◌<◌, ◌≤◌, ◌++◌, ◌∷◌, ℕ, [], length, IfOk};
 ghost use Rattle.std.specs.List.{count_by};
@@ -33,8 +33,8 @@ pub struct Blanks {
     pub eighth: Blank,
 }
 
-/// What a hall is opened with: its word, and its ledgers. It is made first; the one call that opens, uses and closes the
-/// hall then picks the hall's names from it.
+/// What a hall is opened with: its word, and its ledgers. It is made first; the one call that
+/// opens, uses and closes the hall then picks the hall's names from it.
 #[derive(Drop)]
 pub struct Opening {
     pub turns: Turns,
@@ -101,7 +101,9 @@ pub(crate) fn open_ties<N: City>(
     requires own { (turns.now ≡ N.table) × (recorder.old.table ≡ N.table) }
     requires names { (k : ℕ) → k < 8 → name_at blanks k ≡ N.stripes k }
     requires parts { (k : ℕ) → k < 8 → part_at blanks k ≡ 1 }
-    ensures recorder { (recorder.new.table ≡ recorder.old.table) × (recorder.new.list ≡ recorder.old.list) × (recorder.new.ended ≡ recorder.old.ended) × (recorder.new.failed ≡ recorder.old.failed) }
+    ensures recorder { (recorder.new.table ≡ recorder.old.table)
+        × (recorder.new.list ≡ recorder.old.list) × (recorder.new.ended ≡ recorder.old.ended)
+        × (recorder.new.failed ≡ recorder.old.failed) }
     ensures counts { (k : ℕ) → k < 8 → total_at result.0 k ≡ 0 }
     ensures ties { (k : ℕ) → k < 8 → HasSeen N.table [] (tie_at result.1 k) }
 {
@@ -171,7 +173,8 @@ pub(crate) fn record_all<N: City>(
     requires fresh { (pass.old.seen ≡ []) × (pass.old.places ≡ []) }
     ensures list { entries_of recorder.new.list ≡ entries.now }
     ensures recorder { SameRecorder recorder.old recorder.new }
-    ensures totals { totals.new ≡ record totals.old { accepted = totals.old.accepted + length entries.now } }
+    ensures totals { totals.new
+        ≡ record totals.old { accepted = totals.old.accepted + length entries.now } }
     ensures places { HasFirst (length entries.now) pass.new.places }
     ensures seen { pass.new.seen ≡ recorder.new.list }
     ensures faults { (pass.new.faults ≡ pass.old.faults) × (pass.new.failed ≡ pass.old.failed) }
@@ -184,8 +187,10 @@ pub(crate) fn record_all<N: City>(
 
 /// Adds counts to counts, stripe by stripe.
 fn add_all(counts: &mut [u64; 8], more: &[u64; 8])
-    requires { (k : ℕ) → k < 8 → (total_at counts.old k ≤ most_entries) × (total_at more.now k ≤ 1) }
-    ensures { (k : ℕ) → k < 8 → total_at counts.new k ≡ total_at counts.old k + total_at more.now k }
+    requires { (k : ℕ) → k < 8
+        → (total_at counts.old k ≤ most_entries) × (total_at more.now k ≤ 1) }
+    ensures { (k : ℕ) → k < 8
+        → total_at counts.new k ≡ total_at counts.old k + total_at more.now k }
 {
     for k in 0..8 {
         counts[k] += more[k];
@@ -195,7 +200,8 @@ fn add_all(counts: &mut [u64; 8], more: &[u64; 8])
 /// How many entries touch each stripe.
 fn count_touched(chart: &Chart, entries: &[Entry]) -> [u64; 8]
     requires { length entries.now ≤ most_entries }
-    ensures { (k : ℕ) → k < 8 → total_at result k ≡ count_by (entry_touches chart.now k) entries.now }
+    ensures { (k : ℕ) → k < 8
+        → total_at result k ≡ count_by (entry_touches chart.now k) entries.now }
 {
     let mut counts = [0; 8];
     for entry in entries {

@@ -8,8 +8,8 @@ use cf_hall_names::{City, Shares};
 use cf_turns::{Pass, Recorder, Turns};
 use std::marker::Model;
 
-/// A caller's beginning of the hall's history, with its part of the ledgers of accepted calls and of fault replies.
-/// Contracts see the pass.
+/// A caller's beginning of the hall's history, with its part of the ledgers of accepted calls and
+/// of fault replies. Contracts see the pass.
 #[derive(Drop)]
 pub struct HallPass<N: City> {
     pub(crate) pass: Pass,
@@ -41,7 +41,8 @@ impl<N: City> HallPass<N> {
     pub(crate) fn see_all(&mut self, turns: &Turns, recorder: &mut Recorder)
         requires own { (turns.now ≡ N.table) × (recorder.old.table ≡ N.table) }
         ensures recorder { recorder.new ≡ recorder.old }
-        ensures pass { self.new ≡ record self.old { seen = longer self.old.seen recorder.old.list } }
+        ensures pass { self.new
+            ≡ record self.old { seen = longer self.old.seen recorder.old.list } }
         ensures seen { IsPrefix self.old.seen self.new.seen }
     {
         let note = recorder.note(turns);

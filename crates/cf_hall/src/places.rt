@@ -128,10 +128,12 @@ impl<N: City> Places<N> {
         }
     }
 
-    /// Takes the stripes that a call touches and no others, in rising number, each once it is there.
+    /// Takes the stripes that a call touches and no others, in rising number, each once it is
+    /// there.
     pub(crate) fn take<R: Wait>(&self, rt: &R, chart: &Chart, call: &Call) -> Taken<N>
         ensures owes { result.owed ≡ None }
-        ensures exact { (k : ℕ) → k < 8 → has_stripe result.lines k ≡ call_touches chart.now k call.now }
+        ensures exact { (k : ℕ) → k < 8
+            → has_stripe result.lines k ≡ call_touches chart.now k call.now }
     {
         let touched = taken_stripes(chart, call);
         let first = self.first.take_if(rt, touched[0]);

@@ -25,8 +25,8 @@ use std::snapshot::Snapshot;
 /// No entry is left to be counted of any stripe.
 const NONE: [u64; 8] = [0; 8];
 
-/// Who records, with the counts of the entries that touch each stripe. The list is a legal history. Contracts see the
-/// recorder.
+/// Who records, with the counts of the entries that touch each stripe. The list is a legal history.
+/// Contracts see the recorder.
 #[derive(Drop)]
 pub struct Recording<N: City> {
     pub(crate) recorder: Recorder,
@@ -52,7 +52,8 @@ fn one_if(touched: bool) -> u64
 
 /// For each stripe 1 where the act touches it, and else 0.
 pub(crate) fn touched(chart: &Chart, act: &Act) -> [u64; 8]
-    ensures { (k : ℕ) → k < 8 → total_at result k ≡ (if spec.touches chart.now k act.now then 1 else 0) }
+    ensures { (k : ℕ) → k < 8
+        → total_at result k ≡ (if spec.touches chart.now k act.now then 1 else 0) }
 {
     let marks = touched_stripes(chart, act);
     [
@@ -72,14 +73,15 @@ impl<N: City> Recording<N> {
     pub(crate) fn open_pass(&mut self, turns: &Turns) -> Pass
         requires own { turns.now ≡ N.table }
         ensures table { result.table ≡ N.table }
-        ensures fresh { (result.seen ≡ []) × (result.places ≡ []) × (result.faults ≡ 0) × (result.failed ≡ []) }
+        ensures fresh { (result.seen ≡ []) × (result.places ≡ []) × (result.faults ≡ 0)
+            × (result.failed ≡ []) }
         ensures recorder { self.new ≡ record self.old { opened = self.old.opened + 1 } }
     {
         self.recorder.open_pass(turns)
     }
 
-    /// Begins a call: the pass asks how long the list is, so that no answer is of an older one, and the stripes that
-    /// were taken see the whole list. So their tables are those of the history.
+    /// Begins a call: the pass asks how long the list is, so that no answer is of an older one, and
+    /// the stripes that were taken see the whole list. So their tables are those of the history.
     pub(crate) fn catch_up(&mut self, turns: &Turns, taken: &mut Taken<N>, pass: &mut Pass)
         requires own { (turns.now ≡ N.table) × (pass.old.table ≡ N.table) }
         requires owes { taken.old.owed ≡ None }
@@ -113,10 +115,12 @@ impl<N: City> Recording<N> {
         pass.learn(turns, note);
     }
 
-    /// Notes that a call of the pass was answered by a fault of the disk. The pass sees the whole list.
+    /// Notes that a call of the pass was answered by a fault of the disk. The pass sees the whole
+    /// list.
     pub(crate) fn fail(&mut self, turns: &Turns, call: Snapshot<Call>, pass: &mut Pass)
         requires own { (turns.now ≡ N.table) × (pass.old.table ≡ N.table) }
-        ensures recorder { self.new ≡ record self.old { failed = self.old.failed ++ (call.value, pass.old.number) ∷ [] } }
+        ensures recorder { self.new
+            ≡ record self.old { failed = self.old.failed ++ (call.value, pass.old.number) ∷ [] } }
         ensures pass { pass.new ≡ record pass.old {
           seen = longer pass.old.seen self.old.list;
           faults = min (pass.old.faults + 1) (2 ^ 64 - 1);
@@ -128,7 +132,8 @@ impl<N: City> Recording<N> {
         self.tell(turns, pass);
     }
 
-    /// Records an accepted entry for a pass, which sees it, as do the stripes that were taken: they owe its changes.
+    /// Records an accepted entry for a pass, which sees it, as do the stripes that were taken: they
+    /// owe its changes.
     pub(crate) fn record(
         &mut self,
         turns: &Turns,

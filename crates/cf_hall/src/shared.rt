@@ -18,8 +18,9 @@ use std::alloc::Global;
 use std::marker::Model;
 use std::sync::{Mutex, Wait};
 
-/// What threads share of a hall: the history word, a copy of the chart, the place of each stripe, and the book. A call
-/// holds its stripes while it is answered, and the book only while it is settled.
+/// What threads share of a hall: the history word, a copy of the chart, the place of each stripe,
+/// and the book. A call holds its stripes while it is answered, and the book only while it is
+/// settled.
 #[derive(Drop)]
 pub struct Shared<N: City, D: Disk + Drop> {
     pub(crate) turns: Turns,
@@ -68,7 +69,8 @@ impl<N: City, D: Disk + Drop> Shared<N, D> {
         }
     }
 
-    /// A pass with the next number, which has seen the whole history, while no thread shares the hall.
+    /// A pass with the next number, which has seen the whole history, while no thread shares the
+    /// hall.
     pub(crate) fn open_pass(&mut self) -> Pass
         ensures shared { self.new ≡ self.old }
         ensures table { result.table ≡ N.table }
@@ -86,8 +88,9 @@ impl<N: City, D: Disk + Drop> Shared<N, D> {
         (turns, book.into_inner())
     }
 
-    /// Answers a call, and tells what its pass has seen then. It waits for the stripes of the call and for the book. The
-    /// book is given back before the changes of line numbers are made, and the stripes after that.
+    /// Answers a call, and tells what its pass has seen then. It waits for the stripes of the call
+    /// and for the book. The book is given back before the changes of line numbers are made, and
+    /// the stripes after that.
     pub fn post<R: Wait, G: Gate>(
         &self,
         rt: &R,

@@ -5,8 +5,9 @@ use cf_hall_names::{City, OfStripe};
 use cf_turns::Tie;
 use std::marker::Model;
 
-/// A stripe as it lies in its place, where nothing is owed to it: its table, with the tie whose list the table is of. It
-/// can't be let go, so who took it has to give it back. Contracts see the tie.
+/// A stripe as it lies in its place, where nothing is owed to it: its table, with the tie whose
+/// list the table is of. It can't be let go, so who took it has to give it back. Contracts see the
+/// tie.
 pub struct Stripe<N: City, const K: usize> {
     pub(crate) table: LineTable,
     pub(crate) tie: Tie<OfStripe<N, K>>,

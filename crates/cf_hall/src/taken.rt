@@ -12,7 +12,8 @@ use cf_office::{PreparedLines, apply_lines};
 use cf_turns::Tie;
 use std::marker::Model;
 
-/// The stripes that a call has taken from their places, as they lay there. Contracts see their ties.
+/// The stripes that a call has taken from their places, as they lay there. Contracts see their
+/// ties.
 pub struct Stripes<N: City> {
     pub(crate) first: Option<Stripe<N, 0>>,
     pub(crate) second: Option<Stripe<N, 1>>,
@@ -30,11 +31,12 @@ impl<N: City> Model for Stripes<N> {
 
     ghost Value = { List (Option PassState) };
 
-    ghost view = { λ s. s.first ∷ s.second ∷ s.third ∷ s.fourth ∷ s.fifth ∷ s.sixth ∷ s.seventh ∷ s.eighth ∷ [] };
+    ghost view = { λ s. s.first ∷ s.second ∷ s.third ∷ s.fourth ∷ s.fifth ∷ s.sixth ∷ s.seventh
+        ∷ s.eighth ∷ [] };
 }
 
-/// The line numbers and the ties of the stripes that a call has taken, with the changes that its entry owes them. They
-/// can't be let go: a call has to give them back.
+/// The line numbers and the ties of the stripes that a call has taken, with the changes that its
+/// entry owes them. They can't be let go: a call has to give them back.
 pub struct Taken<N: City> {
     pub(crate) lines: Lines,
     pub(crate) owed: Option<PreparedLines>,

@@ -35,7 +35,8 @@ failed_calls (p ∷ ps) = p.failed ++ failed_calls ps
 
 -- each has the places of the entries of the list that were recorded for its pass
 abbrev pub AreReceiptsOf : List TaggedEntry → List ReceiptsState → Type 0
-AreReceiptsOf list receipts = (k : ℕ) (r : ReceiptsState) → slice_get receipts k ≡ Some r → r.places ≡ places_of r.number list
+AreReceiptsOf list receipts = (k : ℕ) (r : ReceiptsState) → slice_get receipts k ≡ Some r
+    → r.places ≡ places_of r.number list
 
 -- the numbers differ
 abbrev pub AreApart : List ℕ → Type 0
@@ -43,7 +44,8 @@ AreApart numbers = (n : ℕ) → count_of n numbers ≤ 1
 
 -- each entry of the list was recorded for exactly one of their passes
 abbrev pub EachOnce : List TaggedEntry → List ReceiptsState → Type 0
-EachOnce list receipts = (k : ℕ) (e : TaggedEntry) → slice_get list k ≡ Some e → count_of e.1 (numbers_of receipts) ≡ 1
+EachOnce list receipts = (k : ℕ) (e : TaggedEntry) → slice_get list k ≡ Some e
+    → count_of e.1 (numbers_of receipts) ≡ 1
 
 -- the receipts of all passes that recorded
 pub record Closes (list : List TaggedEntry) (receipts : List ReceiptsState) : Type 0 where

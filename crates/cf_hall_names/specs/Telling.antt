@@ -24,7 +24,8 @@ pub record Reads (old new : PassState) : Type 0 where
   pub reads : new.reads ≡ old.reads + 1
   pub seen : IsPrefix old.seen new.seen
 
--- a reply is of the list that the pass has seen now, which is no shorter than the word that it read in this call
+-- a reply is of the list that the pass has seen now, which is no shorter than the word that it read
+-- in this call
 pub record Replies (old new : PassState) (r : Reply) : Type 0 where
   pub at : r.at ≡ length new.seen
   pub fresh : new.last_read ≤ r.at
@@ -54,7 +55,8 @@ pub record IsAccepted (plan : Plan) (history : List Entry) (c : Call) : Type 0 w
   pub called : c ≡ call.Change change
   pub accepts : verdict_of plan history change ≡ Accept drawn
 
--- the disk failed while a change was written that the rules accept over the list that the pass has seen now
+-- the disk failed while a change was written that the rules accept over the list that the pass has
+-- seen now
 pub record Fails (plan : Plan) (old new : PassState) (c : Call) : Type 0 where
   pub legal : IsLegal plan (entries_of new.seen)
   pub accepted : IsAccepted plan (entries_of new.seen) c
@@ -69,7 +71,8 @@ pub record IsSameSight (old new : PassState) : Type 0 where
   pub failed : new.failed ≡ old.failed
 
 abbrev pub Says : Plan → PassState → PassState → Call → Posted → Type 0
-Says plan old new c (posted.Reply r) = Replies old new r × (Adds plan old new c r ⊎ Keeps plan old new c r)
+Says plan old new c (posted.Reply r) = Replies old new r
+    × (Adds plan old new c r ⊎ Keeps plan old new c r)
 Says plan old new c posted.NoMemory = IsSameSight old new × (new.faults ≡ old.faults)
 Says plan old new c posted.Disk = Fails plan old new c
 
@@ -80,7 +83,8 @@ Tells plan old new c given = Reads old new × Says plan old new c given
 -- ---- an entry that no reply acknowledged
 
 -- it is that of one of these calls: a change that the step accepts over this history
-pub record IsOfCall (plan : Plan) (history : List Entry) (calls : List Call) (e : Entry) : Type 0 where
+pub record IsOfCall (plan : Plan) (history : List Entry) (calls : List Call)
+    (e : Entry) : Type 0 where
   pub call : Call
   pub stands : Contains calls call
   pub adds : next_of plan history call ≡ history ++ e ∷ []

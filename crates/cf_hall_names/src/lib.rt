@@ -1,5 +1,5 @@
-//! The names of an office that threads share: its table, its chart and its ledgers. And the ties of its stripes to the one
-//! list of entries, with the counts that they are held against.
+//! The names of an office that threads share: its table, its chart and its ledgers. And the ties of
+//! its stripes to the one list of entries, with the counts that they are held against.
 #![tactic(auto)]
 
 mod names;

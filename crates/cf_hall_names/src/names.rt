@@ -6,8 +6,8 @@ use cf_turns::Stripe;
 use std::marker::{Brand, PhantomData};
 use std::sync::ledger::Ledger;
 
-/// Names a hall: its table, its chart, its ledgers by their numbers, and what its book and its disk were at opening: how long
-/// the history, what was in doubt, the moment and the count of faults.
+/// Names a hall: its table, its chart, its ledgers by their numbers, and what its book and its disk
+/// were at opening: how long the history, what was in doubt, the moment and the count of faults.
 pub trait City {
     ghost use Rattle.atomic_table.specs.Seated.{TableId};
     ghost use Rattle.std.specs.Prelude.{Option};

@@ -1,5 +1,5 @@
-//! The ledgers of accepted calls and of fault replies: the totals, which stand with the history, and the parts, of which
-//! each pass has one.
+//! The ledgers of accepted calls and of fault replies: the totals, which stand with the history,
+//! and the parts, of which each pass has one.
 
 ghost use Rattle.std.specs.Prelude.{◌≡◌, ◌+◌, ◌<◌};
 
@@ -35,7 +35,13 @@ impl<N: City> Model for Shares<N> {
 
     ghost Value = { SharesState };
 
-    ghost view = { λ s. record { parts = s.accepted.parts; accepted = s.accepted.amount; faulted = s.faulted.amount } };
+    ghost view = { λ s.
+        record {
+          parts = s.accepted.parts;
+          accepted = s.accepted.amount;
+          faulted =
+              s.faulted.amount;
+        } };
 
     ghost invariant = { λ s. s.faulted.parts ≡ s.accepted.parts };
 }

@@ -1,4 +1,5 @@
-//! The ties of the stripes that a call has taken, and the counts of all stripes that they are held against.
+//! The ties of the stripes that a call has taken, and the counts of all stripes that they are held
+//! against.
 
 ghost use Rattle.std.specs.Prelude.{◌≡◌, ◌+◌, ◌<◌, Some, None};
 ghost use Rattle.cf_turns.specs.States.{PassState};
@@ -30,7 +31,8 @@ impl<N: City> Model for Ties<N> {
 
     ghost Value = { List (Option PassState) };
 
-    ghost view = { λ t. t.first ∷ t.second ∷ t.third ∷ t.fourth ∷ t.fifth ∷ t.sixth ∷ t.seventh ∷ t.eighth ∷ [] };
+    ghost view = { λ t. t.first ∷ t.second ∷ t.third ∷ t.fourth ∷ t.fifth ∷ t.sixth ∷ t.seventh
+        ∷ t.eighth ∷ [] };
 }
 
 /// How many entries touch each stripe.
@@ -51,7 +53,8 @@ impl<N: City> Model for Counts<N> {
 
     ghost Value = { List ℕ };
 
-    ghost view = { λ c. c.first.total ∷ c.second.total ∷ c.third.total ∷ c.fourth.total ∷ c.fifth.total ∷ c.sixth.total ∷ c.seventh.total ∷ c.eighth.total ∷ [] };
+    ghost view = { λ c. c.first.total ∷ c.second.total ∷ c.third.total ∷ c.fourth.total
+        ∷ c.fifth.total ∷ c.sixth.total ∷ c.seventh.total ∷ c.eighth.total ∷ [] };
 }
 
 /// The tie of a stripe that was taken sees the whole list.
@@ -65,7 +68,8 @@ fn follow<N: City, const K: usize>(
     requires turns { turns.now ≡ N.table }
     requires recorder { recorder.old.table ≡ N.table }
     requires tie { (p : PassState) → tie.old ≡ Some p → p.table ≡ N.table }
-    requires total { count.old.total + more ≡ touch_count (entry_touches N.plan K) recorder.old.list }
+    requires total { count.old.total + more
+        ≡ touch_count (entry_touches N.plan K) recorder.old.list }
     requires away { tie.old ≡ None → more ≡ 0 }
     ensures total { count.new.total ≡ touch_count (entry_touches N.plan K) recorder.old.list }
     ensures list { recorder.new.list ≡ recorder.old.list }
@@ -78,8 +82,8 @@ fn follow<N: City, const K: usize>(
     }
 }
 
-/// The ties of all stripes that were taken see the whole list, and the counts are those of the list. So many entries of
-/// it aren't counted yet, stripe by stripe.
+/// The ties of all stripes that were taken see the whole list, and the counts are those of the
+/// list. So many entries of it aren't counted yet, stripe by stripe.
 pub fn follow_all<N: City>(
     ties: &mut Ties<N>,
     turns: &Turns,

@@ -17,13 +17,15 @@ pub record Moment (A : Type 0) : Type 0 where
   pub sent : Option (List ℕ)
 
 abbrev pub moment_of : {A : Type 0} → A → LinkRead → Moment A
-moment_of answerer passed = record { answerer = answerer; received = passed.received; sent = passed.sent }
+moment_of answerer passed =
+    record { answerer = answerer; received = passed.received; sent = passed.sent }
 
 abbrev pub moment_now : {A : Type 0} → A → LinkTells → Moment A
 moment_now answerer link = moment_of answerer (read_now link)
 
 -- so many requests came and were answered, each leaving the link open
-pub record Went {A : Type 0} (rule : Rule A) (old : Moment A) (text_old : List ℕ) (new : Moment A) (text_new : List ℕ) (count : ℕ) : Type 0 where
+pub record Went {A : Type 0} (rule : Rule A) (old : Moment A) (text_old : List ℕ) (new : Moment A)
+    (text_new : List ℕ) (count : ℕ) : Type 0 where
   pub came : List ℕ
   pub messages : List Message
   pub answers : List (List ℕ)
@@ -34,9 +36,11 @@ pub record Went {A : Type 0} (rule : Rule A) (old : Moment A) (text_old : List �
   pub talk : Talk rule old.answerer messages answers new.answerer
   pub sent : Appends old.sent new.sent (joined answers)
 
--- A read was asked in its turn: each request that had come whole was answered, each answer was sent whole, and
--- nothing else was. What had come behind these requests has no whole request at its front.
-pub record ReadInTurn {A : Type 0} (rule : Rule A) (start : Moment A) (read : LinkRead) : Type 0 where
+-- A read was asked in its turn: each request that had come whole was answered, each answer was sent
+-- whole, and nothing else was. What had come behind these requests has no whole request at its
+-- front.
+pub record ReadInTurn {A : Type 0} (rule : Rule A) (start : Moment A)
+    (read : LinkRead) : Type 0 where
   pub middle : A
   pub rest : List ℕ
   pub count : ℕ
@@ -61,9 +65,10 @@ IsCounted end.WriteFault count = count < 1000000
 IsCounted end.Limit count = count ≡ 1000000
 IsCounted end.NoMemory count = count < 1000000
 
--- A link was served: the bytes that came are requests that left it open, one after another, and a rest; their
--- answers were sent, and then it ended over the rest.
-pub record Served {A : Type 0} (rule : Rule A) (before after : A) (old new : LinkTells) (how : LinkEnd) : Type 0 where
+-- A link was served: the bytes that came are requests that left it open, one after another, and a
+-- rest; their answers were sent, and then it ended over the rest.
+pub record Served {A : Type 0} (rule : Rule A) (before after : A) (old new : LinkTells)
+    (how : LinkEnd) : Type 0 where
   pub came : List ℕ
   pub messages : List Message
   pub rest : List ℕ
@@ -80,7 +85,8 @@ pub record Served {A : Type 0} (rule : Rule A) (before after : A) (old new : Lin
 
 -- A link was served, each read was asked in its turn, and a fault of the link is told by how it
 -- ended, and by one count.
-pub record Serves {A : Type 0} (rule : Rule A) (before after : A) (old new : LinkTells) (how : LinkEnd) : Type 0 where
+pub record Serves {A : Type 0} (rule : Rule A) (before after : A) (old new : LinkTells)
+    (how : LinkEnd) : Type 0 where
   pub served : Served rule before after old new how
   pub turns : ReadsEach (ReadInTurn rule (moment_now before old)) old.input.reads new.input.reads
   pub faults : FaultsOf old new how

@@ -32,20 +32,23 @@ ReadsOver waits old new = ReadsEach (ReadOver waits old) old.link.input.reads ne
 
 -- each read that was asked since was asked as the link stood before
 abbrev pub ReadsNow : Stage → Stage → Type 0
-ReadsNow old new = ReadsEach (λ read. read ≡ read_now old.link) old.link.input.reads new.link.input.reads
+ReadsNow old new = ReadsEach
+    (λ read. read ≡ read_now old.link) old.link.input.reads new.link.input.reads
 
 -- nothing came, and what came before is not used
 abbrev pub OnlyAnswers : Stage → Stage → Type 0
 OnlyAnswers old new = OnlySends old.link new.link × (new.text ≡ old.text)
 
 -- the link ends over the text
-pub record EndsOver {A : Type 0} (rule : Rule A) (before after : A) (old new : Stage) (how : LinkEnd) : Type 0 where
+pub record EndsOver {A : Type 0} (rule : Rule A) (before after : A) (old new : Stage)
+    (how : LinkEnd) : Type 0 where
   pub last : List ℕ
   pub ends : Last rule before old.text new.link.input.ended how last after
   pub gave : Gave how old.link new.link last
 
 -- bytes came, and then the link ends
-pub record Stops {A : Type 0} (rule : Rule A) (before after : A) (old new : Stage) (how : LinkEnd) : Type 0 where
+pub record Stops {A : Type 0} (rule : Rule A) (before after : A) (old new : Stage)
+    (how : LinkEnd) : Type 0 where
   pub came : List ℕ
   pub received : Appends old.link.input.received new.link.input.received came
   pub over : EndsOver rule before after (record old { text = old.text ++ came }) new how
@@ -62,4 +65,5 @@ pub record Replied {A : Type 0} (rule : Rule A) (before after : A) (old new : St
 
 -- so many requests came and were answered, each leaving the link open
 abbrev pub GoesOn : {A : Type 0} → Rule A → A → A → Stage → Stage → ℕ → Type 0
-GoesOn rule before after old new = Went rule (moment_now before old.link) old.text (moment_now after new.link) new.text
+GoesOn rule before after old new =
+    Went rule (moment_now before old.link) old.text (moment_now after new.link) new.text

@@ -37,11 +37,15 @@ closes m = (heading_of m.head).closes
 abbrev pub request_of : Route → Message → Request
 request_of route m = record { route = route; body = m.body }
 
--- how a request is answered: one that goes nowhere by the door itself, and any other as the answerer answers it
+-- how a request is answered: one that goes nowhere by the door itself, and any other as the
+-- answerer answers it
 pub data Answers {A : Type 0} (rule : Rule A) (before : A) (m : Message) : List ℕ → A → Type 0 where
-  missed : (miss : Miss) → (heading_of m.head).ask ≡ Err miss → Answers rule before m (miss_answer (heading_of m.head).is_head (closes m) miss) before
-  told : (route : Route) (code : ℕ) (body : List ℕ) (after : A) → (heading_of m.head).ask ≡ Ok route → IsAnswerCode code
-      → rule before (request_of route m) (Some (code, body)) after → Answers rule before m (answer_bytes code None (closes m) false body) after
+  missed : (miss : Miss) → (heading_of m.head).ask ≡ Err miss
+      → Answers rule before m (miss_answer (heading_of m.head).is_head (closes m) miss) before
+  told : (route : Route) (code : ℕ) (body : List ℕ) (after : A) → (heading_of m.head).ask ≡ Ok route
+      → IsAnswerCode code
+      → rule before (request_of route m) (Some (code, body)) after
+      → Answers rule before m (answer_bytes code None (closes m) false body) after
 
 -- requests that leave the link open, answered one after another
 abbrev pub Talk : {A : Type 0} → Rule A → A → List Message → List (List ℕ) → A → Type 0
@@ -49,7 +53,8 @@ Talk rule before [] [] after = after ≡ before
 Talk rule before [] (a ∷ answers) after = ⊥
 Talk rule before (m ∷ ms) [] after = ⊥
 Talk rule before (m ∷ ms) (a ∷ answers) after =
-    (middle : _) × (closes m ≡ false) × Answers rule before m a middle × Talk rule middle ms answers after
+    (middle : _) × (closes m ≡ false) × Answers rule before m a middle
+    × Talk rule middle ms answers after
 
 -- the text breaks off inside a body
 pub record IsOpenBody (text : List ℕ) : Type 0 where
@@ -77,25 +82,39 @@ pub record IsRefused (text : List ℕ) (head : RequestHead) (why : Refusal) : Ty
   pub refuses : (heading_of head).body ≡ Err why
 
 -- the last answer on a link, after which it is closed
-pub data LastAnswer {A : Type 0} (rule : Rule A) (before : A) (text : List ℕ) : LinkEnd → List ℕ → A → Type 0 where
-  no_head : IsNoHead text → LastAnswer rule before text end.Closed (refusal_answer false refusal.Head) before
-  refused : (head : RequestHead) (why : Refusal) → IsRefused text head why → LastAnswer rule before text end.Closed (refusal_answer (heading_of head).is_head why) before
-  closing : (m : Message) (answer : List ℕ) (after : A) → BeginsWith text m → closes m ≡ true → Answers rule before m answer after → LastAnswer rule before text end.Closed answer after
-  -- there is no memory: for the link, where no byte waits; to take a whole request that goes somewhere; or to answer it
+pub data LastAnswer {A : Type 0} (rule : Rule A) (before : A) (text : List ℕ) : LinkEnd → List ℕ → A
+    → Type 0 where
+  no_head : IsNoHead text
+      → LastAnswer rule before text end.Closed (refusal_answer false refusal.Head) before
+  refused : (head : RequestHead) (why : Refusal) → IsRefused text head why
+      → LastAnswer rule before text end.Closed (refusal_answer (heading_of head).is_head why) before
+  closing : (m : Message) (answer : List ℕ) (after : A) → BeginsWith text m → closes m ≡ true
+      → Answers rule before m answer after → LastAnswer rule before text end.Closed answer after
+  -- there is no memory: for the link, where no byte waits; to take a whole request that goes
+  -- somewhere; or to answer it
   no_link : text ≡ [] → LastAnswer rule before text end.NoMemory memory_answer before
-  no_room : (m : Message) (route : Route) → BeginsWith text m → (heading_of m.head).ask ≡ Ok route → LastAnswer rule before text end.NoMemory memory_answer before
-  no_memory : (m : Message) (route : Route) (after : A) → BeginsWith text m → (heading_of m.head).ask ≡ Ok route
-      → rule before (request_of route m) None after → LastAnswer rule before text end.NoMemory memory_answer after
+  no_room : (m : Message) (route : Route) → BeginsWith text m → (heading_of m.head).ask ≡ Ok route
+      → LastAnswer rule before text end.NoMemory memory_answer before
+  no_memory : (m : Message) (route : Route) (after : A) → BeginsWith text m
+      → (heading_of m.head).ask ≡ Ok route
+      → rule before (request_of route m) None after
+      → LastAnswer rule before text end.NoMemory memory_answer after
 
--- how a link ends that has been left open so far, over the bytes that were not used: what is answered last, and the answerer after
-pub data Last {A : Type 0} (rule : Rule A) (before : A) (text : List ℕ) (ended : Bool) : LinkEnd → List ℕ → A → Type 0 where
+-- how a link ends that has been left open so far, over the bytes that were not used: what is
+-- answered last, and the answerer after
+pub data Last {A : Type 0} (rule : Rule A) (before : A) (text : List ℕ) (ended : Bool) : LinkEnd
+    → List ℕ → A → Type 0 where
   between : text ≡ [] → ended ≡ true → Last rule before text ended end.Closed [] before
   cut : IsCut text → ended ≡ true → Last rule before text ended end.Cut [] before
-  answered : (how : LinkEnd) (answer : List ℕ) (after : A) → LastAnswer rule before text how answer after → Last rule before text ended how answer after
+  answered : (how : LinkEnd) (answer : List ℕ) (after : A)
+      → LastAnswer rule before text how answer after → Last rule before text ended how answer after
   limit : Last rule before text ended end.Limit [] before
   -- what came before the fault is nothing, or breaks off inside a request
   read_fault : IsOpenText text → Last rule before text ended end.ReadFault [] before
   -- a front of the answer was sent
-  unsent_last : (how : LinkEnd) (answer : List ℕ) (after : A) → LastAnswer rule before text how answer after → Last rule before text ended end.WriteFault answer after
-  unsent : (m : Message) (answer : List ℕ) (after : A) → BeginsWith text m → closes m ≡ false → Answers rule before m answer after
+  unsent_last : (how : LinkEnd) (answer : List ℕ) (after : A)
+      → LastAnswer rule before text how answer after
+      → Last rule before text ended end.WriteFault answer after
+  unsent : (m : Message) (answer : List ℕ) (after : A) → BeginsWith text m → closes m ≡ false
+      → Answers rule before m answer after
       → Last rule before text ended end.WriteFault answer after

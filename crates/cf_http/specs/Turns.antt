@@ -16,18 +16,29 @@ IsFinished (Ok u) true how = how ≡ Some end.Closed
 IsFinished (Ok u) false how = how ≡ None
 
 -- an answer was sent, and the link stays open, or is closed after it; or a front of it was sent
-pub data Said (old new : LinkTells) (answer : List ℕ) (closes : Bool) : Option LinkEnd → Type 0 where
-  stays : closes ≡ false → Appends old.output.sent new.output.sent answer → Said old new answer closes None
-  closed : closes ≡ true → Appends old.output.sent new.output.sent answer → Said old new answer closes (Some end.Closed)
-  fault : SentFront old.output.sent new.output.sent answer → Said old new answer closes (Some end.WriteFault)
+pub data Said (old new : LinkTells) (answer : List ℕ) (closes : Bool) : Option LinkEnd
+    → Type 0 where
+  stays : closes ≡ false → Appends old.output.sent new.output.sent answer
+      → Said old new answer closes None
+  closed : closes ≡ true → Appends old.output.sent new.output.sent answer
+      → Said old new answer closes (Some end.Closed)
+  fault : SentFront old.output.sent new.output.sent answer
+      → Said old new answer closes (Some end.WriteFault)
 
 -- the answer where there is no memory was sent, or a front of it
 abbrev pub SaidNoMemory : LinkTells → LinkTells → LinkEnd → Type 0
-SaidNoMemory old new how = ((how ≡ end.NoMemory) ⊎ (how ≡ end.WriteFault)) × Gave how old new memory_answer
+SaidNoMemory old new how = ((how ≡ end.NoMemory) ⊎ (how ≡ end.WriteFault))
+    × Gave how old new memory_answer
 
 -- the answerer answered a request, or there was no memory, before it was asked or for its answer
-pub data Told {A : Type 0} (rule : Rule A) (before : A) (old new : LinkTells) (route : Route) (body : List ℕ) (closes : Bool) : A → Option LinkEnd → Type 0 where
-  told : (code : ℕ) (text : List ℕ) (after : A) (how : Option LinkEnd) → IsAnswerCode code → rule before (record { route = route; body = body }) (Some (code, text)) after
-      → Said old new (answer_bytes code None closes false text) closes how → Told rule before old new route body closes after how
-  no_room : (how : LinkEnd) → SaidNoMemory old new how → Told rule before old new route body closes before (Some how)
-  no_memory : (after : A) (how : LinkEnd) → rule before (record { route = route; body = body }) None after → SaidNoMemory old new how → Told rule before old new route body closes after (Some how)
+pub data Told {A : Type 0} (rule : Rule A) (before : A) (old new : LinkTells) (route : Route)
+    (body : List ℕ) (closes : Bool) : A → Option LinkEnd → Type 0 where
+  told : (code : ℕ) (text : List ℕ) (after : A) (how : Option LinkEnd) → IsAnswerCode code
+      → rule before (record { route = route; body = body }) (Some (code, text)) after
+      → Said old new (answer_bytes code None closes false text) closes how
+      → Told rule before old new route body closes after how
+  no_room : (how : LinkEnd) → SaidNoMemory old new how
+      → Told rule before old new route body closes before (Some how)
+  no_memory : (after : A) (how : LinkEnd)
+      → rule before (record { route = route; body = body }) None after → SaidNoMemory old new how
+      → Told rule before old new route body closes after (Some how)

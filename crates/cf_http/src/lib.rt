@@ -1,4 +1,5 @@
-//! A server of HTTP/1.1 links: requests come on a link one after another, and each is answered before the next is read.
+//! A server of HTTP/1.1 links: requests come on a link one after another, and each is answered
+//! before the next is read.
 #![tactic(auto)]
 
 mod answer;

@@ -37,7 +37,8 @@ close_line closes = if closes then codes "connection: close\r\n" else []
 -- the lines before a body of so many bytes
 unfoldable pub lines_of : ℕ → ℕ → Option Method → Bool → List ℕ
 lines_of code len allow closes =
-    joined (codes "HTTP/1.1 " ∷ code_digits code ∷ codes " " ∷ phrase_of code ∷ codes "\r\ncontent-type: application/json\r\ncontent-length: "
+    joined (codes "HTTP/1.1 " ∷ code_digits code ∷ codes " " ∷ phrase_of code
+    ∷ codes "\r\ncontent-type: application/json\r\ncontent-length: "
     ∷ decimal len ∷ codes "\r\n" ∷ allow_line allow ∷ close_line closes ∷ codes "\r\n" ∷ [])
 
 -- the answer to HEAD ends after the empty line
@@ -45,7 +46,8 @@ abbrev pub body_for : Bool → List ℕ → List ℕ
 body_for is_head body = if is_head then [] else body
 
 abbrev pub answer_bytes : ℕ → Option Method → Bool → Bool → List ℕ → List ℕ
-answer_bytes code allow closes is_head body = lines_of code (length body) allow closes ++ body_for is_head body
+answer_bytes code allow closes is_head body =
+    lines_of code (length body) allow closes ++ body_for is_head body
 
 -- a refused head, after which the link is closed
 abbrev pub refusal_code : Refusal → ℕ
@@ -59,7 +61,8 @@ refusal_body Coding = codes "{\"form\":\"coding\"}"
 refusal_body Long = codes "{\"form\":\"long\"}"
 
 abbrev pub refusal_answer : Bool → Refusal → List ℕ
-refusal_answer is_head refusal = answer_bytes (refusal_code refusal) None true is_head (refusal_body refusal)
+refusal_answer is_head refusal =
+    answer_bytes (refusal_code refusal) None true is_head (refusal_body refusal)
 
 -- a request that goes nowhere
 abbrev pub miss_code : Miss → ℕ
@@ -75,7 +78,8 @@ miss_body NoRoute = codes "{\"form\":\"route\"}"
 miss_body (WrongMethod method) = codes "{\"form\":\"method\"}"
 
 abbrev pub miss_answer : Bool → Bool → Miss → List ℕ
-miss_answer is_head closes miss = answer_bytes (miss_code miss) (miss_allow miss) closes is_head (miss_body miss)
+miss_answer is_head closes miss =
+    answer_bytes (miss_code miss) (miss_allow miss) closes is_head (miss_body miss)
 
 -- want of memory, after which the link is closed
 abbrev pub memory_answer : List ℕ

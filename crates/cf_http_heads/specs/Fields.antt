@@ -1,4 +1,5 @@
--- What the fields of a head say. A field is its name and its value, without the white space around it.
+-- What the fields of a head say. A field is its name and its value, without the white space around
+-- it.
 use Rattle.std.specs.Prelude.{◌≢◌, All, Option, Some, None, take, drop, ℕ, List, [], ◌∷◌, Bool, not, ◌&&◌, length, map, codes, if◌then◌else◌, ◌==◌, nat_le, nat_lt, Result, Ok, Err}
 use Rattle.std.specs.List.{filter, list_any, list_all}
 use Rattle.std.specs.Char.{is_ascii_digit}
@@ -24,11 +25,12 @@ is_number text = nat_lt 0 (length text) && list_all is_ascii_digit text
 abbrev pub stated_length : List (List ℕ) → Result ℕ Refusal
 stated_length [] = Ok 0
 stated_length (v ∷ []) =
-    if is_number v then (if nat_le (digits_value 10 v) 262144 then Ok (digits_value 10 v) else Err Long) else Err Head
+    if is_number v then
+    (if nat_le (digits_value 10 v) 262144 then Ok (digits_value 10 v) else Err Long) else Err Head
 stated_length (v ∷ w ∷ vs) = Err Head
 
--- the length of the body, or the first rule that refuses the head: an HTTP/1.1 head names one host; no body comes in a transfer coding;
--- its length is stated once, by digits, and is at most 262,144
+-- the length of the body, or the first rule that refuses the head: an HTTP/1.1 head names one host;
+-- no body comes in a transfer coding; its length is stated once, by digits, and is at most 262,144
 abbrev pub body_length : ℕ → Fields → Result ℕ Refusal
 body_length minor fields =
     if minor == 1 && not (length (values_of (codes "host") fields) == 1) then Err Head
@@ -42,7 +44,8 @@ put_front b (e ∷ es) = (b ∷ e) ∷ es
 
 abbrev pub parts : ℕ → List ℕ → List (List ℕ)
 parts separator [] = [] ∷ []
-parts separator (b ∷ bs) = if b == separator then [] ∷ parts separator bs else put_front b (parts separator bs)
+parts separator (b ∷ bs) = if b == separator then [] ∷ parts separator bs
+    else put_front b (parts separator bs)
 
 abbrev pub elements : List ℕ → List (List ℕ)
 elements value = parts comma value
@@ -50,11 +53,13 @@ elements value = parts comma value
 -- white space, the word in any ASCII case, and white space
 abbrev pub is_close : List ℕ → Bool
 is_close element =
-    str_eq_ignore_ascii_case (take 5 (skip_ows element)) (codes "close") && list_all is_ows (drop 5 (skip_ows element))
+    str_eq_ignore_ascii_case (take 5 (skip_ows element)) (codes "close")
+    && list_all is_ows (drop 5 (skip_ows element))
 
 -- an element of a field on the connection says that the link is to be closed
 abbrev pub says_close : Fields → Bool
-says_close fields = list_any (λ value. list_any is_close (elements value)) (values_of (codes "connection") fields)
+says_close fields =
+    list_any (λ value. list_any is_close (elements value)) (values_of (codes "connection") fields)
 
 -- the first of these values, if there is one
 abbrev pub first_value : List (List ℕ) → Option (List ℕ)

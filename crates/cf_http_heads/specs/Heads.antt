@@ -18,9 +18,11 @@ pub record IsHead (h : RequestHead) : Type 0 where
 -- the text goes on past 16,384 bytes, and no head of at most so many begins it
 pub record IsTooLong (text : List ℕ) : Type 0 where
   pub long : 16384 < length text
-  pub none : (h : RequestHead) (rest : List ℕ) → ReadsRequest text h rest → 16384 < length (print_request h)
+  pub none : (h : RequestHead) (rest : List ℕ) → ReadsRequest text h rest
+      → 16384 < length (print_request h)
 
--- the text is refused as a head: whatever follows, no head of at most 64 fields begins it, or it is too long
+-- the text is refused as a head: whatever follows, no head of at most 64 fields begins it, or it is
+-- too long
 abbrev pub IsNoHead : List ℕ → Type 0
 IsNoHead text = RequestOverflows 64 text ⊎ IsTooLong text
 

@@ -26,16 +26,19 @@ words_of path = parts 47 path
 -- a number of one to five digits, from least to most
 abbrev pub number_from : ℕ → ℕ → List ℕ → Option ℕ
 number_from least most text =
-    if is_number text && nat_le (length text) 5 && nat_le (digits_value 10 text) most && nat_le least (digits_value 10 text)
+    if is_number text && nat_le (length text) 5 && nat_le (digits_value 10 text) most
+    && nat_le least (digits_value 10 text)
     then Some (digits_value 10 text) else None
 
 abbrev pub line_route : List ℕ → List ℕ → Option Route
 line_route line year =
-    option_and_then (λ l. option_map (λ y. Line l y) (number_from 1971 last_year year)) (number_from 0 65535 line)
+    option_and_then (λ l. option_map (λ y. Line l y) (number_from 1971 last_year year))
+    (number_from 0 65535 line)
 
 abbrev pub report_route : List ℕ → List ℕ → Option Route
 report_route year kind =
-    option_and_then (λ y. option_map (λ k. Report y k) (statement_of kind)) (number_from 1971 last_year year)
+    option_and_then (λ y. option_map (λ k. Report y k) (statement_of kind))
+    (number_from 1971 last_year year)
 
 -- /calls, /lines/{line}/{year} and /reports/{year}/{kind}, by the words of the path
 abbrev pub route_by : List (List ℕ) → Option Route
@@ -63,14 +66,16 @@ method_name Post = codes "POST"
 abbrev pub ask_by : List ℕ → Option Route → Result Route Miss
 ask_by method None = Err NoRoute
 ask_by method (Some route) =
-    if bytes_eq method (method_name (method_of route)) then Ok route else Err (WrongMethod (method_of route))
+    if bytes_eq method (method_name (method_of route)) then Ok route
+    else Err (WrongMethod (method_of route))
 
 abbrev pub ask_of : List ℕ → List ℕ → Result Route Miss
 ask_of method target = ask_by method (route_of (path_of target))
 
 -- a path is split at its first slash, if it has one
 abbrev pub IsSplit : List ℕ → Option (Bor (List ℕ) × Bor (List ℕ)) → Type 0
-IsSplit path r = MatchOption r (words_of path ≡ path ∷ []) (λ x. words_of path ≡ x.0.now ∷ words_of x.1.now)
+IsSplit path r = MatchOption r (words_of path ≡ path ∷ [])
+    (λ x. words_of path ≡ x.0.now ∷ words_of x.1.now)
 
 -- these two words are given
 abbrev pub HasTwoWords : List ℕ → List ℕ → Option (Bor (List ℕ) × Bor (List ℕ)) → Type 0

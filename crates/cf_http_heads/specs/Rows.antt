@@ -13,20 +13,25 @@ two = param_token ∷ 47 ∷ param_token ∷ []
 
 module _ {K : Type 0} (calls lines reports : K) where
   abbrev pub desk_rows : RowsOf K
-  desk_rows = (codes "/calls", calls) ∷ (codes "/lines/" ++ two, lines) ∷ (codes "/reports/" ++ two, reports) ∷ []
+  desk_rows = (codes "/calls", calls) ∷ (codes "/lines/" ++ two, lines)
+      ∷ (codes "/reports/" ++ two, reports) ∷ []
 
--- a pattern with two parameters after a word: the text of its route, and where the names of its parameters stand in that
+-- a pattern with two parameters after a word: the text of its route, and where the names of its
+-- parameters stand in that
 abbrev pub two_parts : List ℕ → List ℕ → List (ℕ × ℕ) → Place → RouteOf Place
-two_parts word text names place = record { pattern = word ++ two; text = text; names = names; value = place }
+two_parts word text names place =
+    record { pattern = word ++ two; text = text; names = names; value = place }
 
 abbrev pub calls_row : RouteOf Place
 calls_row = record { pattern = codes "/calls"; text = codes "/calls"; names = []; value = Calls }
 
 abbrev pub lines_row : RouteOf Place
-lines_row = two_parts (codes "/lines/") (codes "/lines/{line}/{year}") ((8, 12) ∷ (15, 19) ∷ []) Lines
+lines_row = two_parts (codes "/lines/") (codes "/lines/{line}/{year}")
+    ((8, 12) ∷ (15, 19) ∷ []) Lines
 
 abbrev pub reports_row : RouteOf Place
-reports_row = two_parts (codes "/reports/") (codes "/reports/{year}/{kind}") ((10, 14) ∷ (17, 21) ∷ []) Reports
+reports_row = two_parts (codes "/reports/") (codes "/reports/{year}/{kind}")
+    ((10, 14) ∷ (17, 21) ∷ []) Reports
 
 abbrev pub router_rows : RowsOf (RouteOf Place)
 router_rows = desk_rows calls_row lines_row reports_row
@@ -35,5 +40,7 @@ router_rows = desk_rows calls_row lines_row reports_row
 abbrev pub IsPlace : List (List ℕ) → Option Place → Type 0
 IsPlace words None = route_by words ≡ None
 IsPlace words (Some Calls) = route_by words ≡ Some route.Calls
-IsPlace words (Some Lines) = (a b c : List ℕ) × (words ≡ [] ∷ a ∷ b ∷ c ∷ []) × (route_by words ≡ line_route b c)
-IsPlace words (Some Reports) = (a b c : List ℕ) × (words ≡ [] ∷ a ∷ b ∷ c ∷ []) × (route_by words ≡ report_route b c)
+IsPlace words (Some Lines) = (a b c : List ℕ) × (words ≡ [] ∷ a ∷ b ∷ c ∷ [])
+    × (route_by words ≡ line_route b c)
+IsPlace words (Some Reports) = (a b c : List ℕ) × (words ≡ [] ∷ a ∷ b ∷ c ∷ [])
+    × (route_by words ≡ report_route b c)

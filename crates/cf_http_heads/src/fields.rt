@@ -12,11 +12,13 @@ ghost use Rattle.cf_http_heads.specs.Fields.{values_of, is_number, stated_length
 
 use httparse::Header;
 
-/// Why a head is refused, by RFC 9112 (its rules of `Host`, `Transfer-Encoding` and `Content-Length`), but for two rules
-/// of our own: every transfer coding is refused, and a length that is stated twice, be it the same.
+/// Why a head is refused, by RFC 9112 (its rules of `Host`, `Transfer-Encoding` and
+/// `Content-Length`), but for two rules of our own: every transfer coding is refused, and a length
+/// that is stated twice, be it the same.
 #[derive(Clone, Copy)]
 pub enum Refusal {
-    /// It is no head, or one beyond the limits, or its host or its body's length isn't stated as it must be.
+    /// It is no head, or one beyond the limits, or its host or its body's length isn't stated as it
+    /// must be.
     Head,
     /// Its body has a transfer coding.
     Coding,
@@ -68,7 +70,8 @@ fn are_digits(text: &[u8]) -> bool
 /// The number that digits write, unless it is above `most`.
 pub fn number_within(digits: &[u8], most: u32) -> Option<u32>
     requires { list_all is_ascii_digit digits.now ≡ true }
-    ensures { result ≡ if nat_le (digits_value 10 digits.now) most then Some (digits_value 10 digits.now) else None }
+    ensures { result ≡ if nat_le (digits_value 10 digits.now) most
+        then Some (digits_value 10 digits.now) else None }
 {
     let mut number: u64 = 0;
     for digit in digits {
@@ -82,7 +85,8 @@ pub fn number_within(digits: &[u8], most: u32) -> Option<u32>
 
 /// The first field of a name.
 fn first_of<'b>(headers: &[Header<'b>], name: &str) -> Option<&'b [u8]>
-    ensures { option_copied result ≡ first_value (values_of name.now (map header_parts headers.now)) }
+    ensures { option_copied result
+        ≡ first_value (values_of name.now (map header_parts headers.now)) }
 {
     for header in headers {
         if is_named(header.name, name) {
@@ -107,7 +111,8 @@ pub fn length_of_body(minor: u8, headers: &[Header<'_>]) -> Result<u32, Refusal>
 
 /// The length that the fields on it state.
 fn stated(headers: &[Header<'_>]) -> Result<u32, Refusal>
-    ensures { result ≡ stated_length (values_of (codes "content-length") (map header_parts headers.now)) }
+    ensures { result ≡ stated_length
+        (values_of (codes "content-length") (map header_parts headers.now)) }
 {
     if count_of(headers, "content-length") > 1 {
         return Err(Refusal::Head);
@@ -128,7 +133,8 @@ fn length_in(text: &[u8]) -> Result<u32, Refusal>
     number_within(text, LONGEST_BODY).ok_or(Refusal::Long)
 }
 
-/// Whether a field on the connection says that the link is to be closed (RFC 9112: the connection option `close`).
+/// Whether a field on the connection says that the link is to be closed (RFC 9112: the connection
+/// option `close`).
 pub fn is_closing(headers: &[Header<'_>]) -> bool
     ensures { result ≡ says_close (map header_parts headers.now) }
 {
@@ -158,8 +164,10 @@ fn has_close(value: &[u8]) -> bool
 /// The place of the first comma.
 fn comma_in(text: &[u8]) -> Option<usize>
     ensures within { MatchOption result (HasNone comma text.now) (λ i. i < length text.now) }
-    ensures before { MatchOption result (HasNone comma text.now) (λ i. HasNone comma (take i text.now)) }
-    ensures here { MatchOption result (HasNone comma text.now) (λ i. slice_index text.now i ≡ comma) }
+    ensures before { MatchOption result (HasNone comma text.now)
+        (λ i. HasNone comma (take i text.now)) }
+    ensures here { MatchOption result (HasNone comma text.now)
+        (λ i. slice_index text.now i ≡ comma) }
 {
     text.iter().position(|b| *b == b',')
 }

@@ -20,7 +20,8 @@ pub const MOST_FIELDS: usize = 64;
 pub struct Heading {
     /// How many bytes the head has.
     pub length: usize,
-    /// Whether its method is HEAD, so that the answer has no body (RFC 9110: a server sends no content to HEAD).
+    /// Whether its method is HEAD, so that the answer has no body (RFC 9110: a server sends no
+    /// content to HEAD).
     pub is_head: bool,
     /// Whether the link is to be closed after the answer.
     pub closes: bool,
@@ -49,7 +50,8 @@ fn heading_in(
     minor: u8,
     headers: &[Header<'_>],
 ) -> Heading
-    ensures { result ≡ heading_by length method.now target.now minor (map header_parts headers.now) }
+    ensures { result ≡ heading_by length method.now target.now minor
+        (map header_parts headers.now) }
 {
     Heading {
         length,

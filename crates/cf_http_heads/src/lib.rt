@@ -1,4 +1,5 @@
-//! Heads of HTTP/1.1 requests and the lines of answers: what the bytes of a request ask for, and which bytes answer it.
+//! Heads of HTTP/1.1 requests and the lines of answers: what the bytes of a request ask for, and
+//! which bytes answer it.
 #![tactic(auto)]
 
 mod fields;

@@ -80,7 +80,9 @@ fn put_close(out: &mut Vec<u8>, closes: bool)
 fn put_status(out: &mut Vec<u8>, code: u16)
     requires code { IsStatusCode code }
     requires room { vec_len out.old + 40 ≤ vec_capacity out.old }
-    ensures text { out.new.items ≡ out.old.items ++ joined (codes "HTTP/1.1 " ∷ code_digits code ∷ codes " " ∷ phrase_of code ∷ []) }
+    ensures text { out.new.items
+        ≡ out.old.items ++ joined
+        (codes "HTTP/1.1 " ∷ code_digits code ∷ codes " " ∷ phrase_of code ∷ []) }
     ensures length { vec_len out.new ≤ vec_len out.old + 40 }
     ensures capacity { vec_capacity out.old ≤ vec_capacity out.new }
 {
@@ -92,7 +94,10 @@ fn put_status(out: &mut Vec<u8>, code: u16)
 
 fn put_length(out: &mut Vec<u8>, length: usize)
     requires room { vec_len out.old + 80 ≤ vec_capacity out.old }
-    ensures text { out.new.items ≡ out.old.items ++ joined (codes "\r\ncontent-type: application/json\r\ncontent-length: " ∷ decimal length ∷ codes "\r\n" ∷ []) }
+    ensures text { out.new.items
+        ≡ out.old.items ++ joined
+        (codes "\r\ncontent-type: application/json\r\ncontent-length: " ∷ decimal length
+        ∷ codes "\r\n" ∷ []) }
     ensures length { vec_len out.new ≤ vec_len out.old + 80 }
     ensures capacity { vec_capacity out.old ≤ vec_capacity out.new }
 {

@@ -28,7 +28,8 @@ pub enum Method {
 #[derive(Clone, Copy)]
 pub enum Miss {
     NoRoute,
-    /// The route is asked by this method alone, which the answer names (RFC 9110: 405 with the field `Allow`).
+    /// The route is asked by this method alone, which the answer names (RFC 9110: 405 with the
+    /// field `Allow`).
     WrongMethod(Method),
 }
 

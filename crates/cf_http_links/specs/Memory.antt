@@ -29,6 +29,12 @@ reads_of l = map (read_by l.bytes.items l.sent.items) l.reads.items
 
 abbrev pub tells_of : MemLink → LinkTells
 tells_of l = record {
-  input = record { received = Some (received_of l); ended = ended_of l; reads = Some (reads_of l); faults = l.read_faults };
+  input = record {
+    received = Some (received_of l);
+    ended = ended_of l;
+    reads =
+        Some (reads_of l);
+    faults = l.read_faults;
+  };
   output = record { sent = Some (sent_of l); faults = l.write_faults };
 }

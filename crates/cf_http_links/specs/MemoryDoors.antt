@@ -14,4 +14,5 @@ abbrev pub given_of : MemDoor → ℕ
 given_of d = d.given
 
 abbrev pub door_tells : MemDoor → DoorTells MemLink
-door_tells d = record { finished = finished_of d; given = given_of d; coming = is_coming d; faults = d.faults }
+door_tells d = record
+    { finished = finished_of d; given = given_of d; coming = is_coming d; faults = d.faults }

@@ -14,8 +14,9 @@ pub struct Passed {
     pub sent: usize,
 }
 
-/// A link over bytes in memory, with a record of its reads. It can be told how many bytes a read gives at most, which
-/// reads and writes fail, and how many bytes it takes. A growth that memory refuses is a fault.
+/// A link over bytes in memory, with a record of its reads. It can be told how many bytes a read
+/// gives at most, which reads and writes fail, and how many bytes it takes. A growth that memory
+/// refuses is a fault.
 #[derive(Drop)]
 pub struct MemLink {
     bytes: Vec<u8>,
@@ -35,7 +36,8 @@ pub struct MemLink {
 impl MemLink {
     ghost use Rattle.cf_http_links.specs.Memory.{bytes_of, received_of, sent_of, ended_of, passed_of};
 
-    /// A link on which these bytes come, in pieces of at most `piece` bytes, and whose calls succeed.
+    /// A link on which these bytes come, in pieces of at most `piece` bytes, and whose calls
+    /// succeed.
     pub fn new(alloc: Global, bytes: Vec<u8>, piece: usize) -> Self
         ensures bytes { bytes_of result ≡ bytes.items }
         ensures received { received_of result ≡ [] }
@@ -46,8 +48,8 @@ impl MemLink {
         MemLink::failing(alloc, bytes, piece, u64::MAX, usize::MAX)
     }
 
-    /// A link on which these bytes come, in pieces of at most `piece` bytes. The read of this number, from 0, fails,
-    /// and so does a write past this many bytes.
+    /// A link on which these bytes come, in pieces of at most `piece` bytes. The read of this
+    /// number, from 0, fails, and so does a write past this many bytes.
     pub fn failing(alloc: Global, bytes: Vec<u8>, piece: usize, fail_at: u64, limit: usize) -> Self
         ensures bytes { bytes_of result ≡ bytes.items }
         ensures received { received_of result ≡ [] }
@@ -83,7 +85,8 @@ impl MemLink {
         self.place
     }
 
-    /// What had passed when each of its reads was asked, the oldest first. A read that memory refused isn't there.
+    /// What had passed when each of its reads was asked, the oldest first. A read that memory
+    /// refused isn't there.
     pub fn reads(&self) -> &[Passed]
         ensures { result.now ≡ passed_of self.now }
     {
@@ -140,8 +143,8 @@ impl Link for MemLink {
     }
 }
 
-/// A link that is to come at a door in memory: its bytes, how many a read gives at most, which read fails, and
-/// past how many bytes a write does.
+/// A link that is to come at a door in memory: its bytes, how many a read gives at most, which read
+/// fails, and past how many bytes a write does.
 #[derive(Drop)]
 pub struct Coming {
     pub bytes: Vec<u8>,
@@ -150,8 +153,8 @@ pub struct Coming {
     pub limit: usize,
 }
 
-/// A door over links in memory, which it gives in their order. It can be told at which call of `next`, from 1,
-/// it fails. It has room for all of its links from the start.
+/// A door over links in memory, which it gives in their order. It can be told at which call of
+/// `next`, from 1, it fails. It has room for all of its links from the start.
 #[derive(Drop)]
 pub struct MemDoor {
     alloc: Global,

@@ -1,4 +1,5 @@
-//! Links and doors over TCP. They are the trusted edge: nothing is proved of what a real link carries.
+//! Links and doors over TCP. They are the trusted edge: nothing is proved of what a real link
+//! carries.
 
 ghost use Rattle.std.specs.Prelude.{◌≡◌, ◌≤◌, ◌+◌, None, [], true, false};
 
@@ -39,9 +40,9 @@ impl TcpLink {
         self.stream.set_read_timeout(Some(patience))
     }
 
-    /// Closes the connection. Bytes that the peer sent and nobody read would have the system reset it, and the
-    /// peer could lose the last answer: so the end is told first, and a bounded rest is read. A link that failed is
-    /// closed at once.
+    /// Closes the connection. Bytes that the peer sent and nobody read would have the system reset
+    /// it, and the peer could lose the last answer: so the end is told first, and a bounded rest is
+    /// read. A link that failed is closed at once.
     fn close(mut self) {
         let is_failed = self.read_faults > 0 || self.write_faults > 0;
         if self.ended || is_failed || self.end_writing().is_err() {
@@ -99,7 +100,8 @@ fn set_up(stream: &TcpStream, patience: Duration) -> io::Result<()> {
     stream.set_nodelay(true)
 }
 
-/// The next connection, if the door listens. One that is broken before it can be served is passed over.
+/// The next connection, if the door listens. One that is broken before it can be served is passed
+/// over.
 fn accepted(listener: &Option<TcpListener>, patience: Duration) -> Option<TcpStream> {
     let Some(listener) = listener else {
         return None;
@@ -115,14 +117,14 @@ fn accepted(listener: &Option<TcpListener>, patience: Duration) -> Option<TcpStr
 }
 
 impl<'a, R: Net<Listener = TcpListener, Stream = TcpStream>> TcpDoor<'a, R> {
-    /// A door at a port, or at one that the system picks for port 0. A peer that sends or takes nothing for 10
-    /// seconds ends its link by a fault.
+    /// A door at a port, or at one that the system picks for port 0. A peer that sends or takes
+    /// nothing for 10 seconds ends its link by a fault.
     pub fn new(net: &'a R, port: u16) -> Self {
         TcpDoor::patient(net, port, Duration::from_secs(PATIENCE))
     }
 
-    /// A door at a port whose peers may send or take nothing for so long, which isn't 0, before their link ends by
-    /// a fault.
+    /// A door at a port whose peers may send or take nothing for so long, which isn't 0, before
+    /// their link ends by a fault.
     pub fn patient(net: &'a R, port: u16, patience: Duration) -> Self {
         TcpDoor {
             net,

@@ -29,7 +29,8 @@ module _ (version : ℕ) (chart : List ℕ) (history : List Entry) (valid : IsVa
   abbrev behind_byte : (image : List ℕ) → IsAtRest version chart history image → List ℕ
   behind_byte image rest = ((to_be_bytes w32 (length chart) ++ chart) ++ records_of history) ++ rest.gate ∷ rest.behind
 
-  -- a crash in the write of the version leaves any byte there, each of which gives a grammar that has the history
+  -- a crash in the write of the version leaves any byte there, each of which gives a grammar that
+  -- has the history
   pub torn_raise : version ≡ 1 → (earlier image : List ℕ) → IsAtRest version chart history earlier → Torn 1 1 earlier image → IsAtRest version chart history image
   torn_raise first earlier image rest torn =
       let torn' : Torn 1 1 (1 ∷ rest.byte ∷ behind_byte earlier rest) image = subst (λ (old : List ℕ). Torn 1 1 old image) rest.layout torn in

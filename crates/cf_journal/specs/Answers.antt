@@ -15,8 +15,10 @@ use Rattle.cf_journal.specs.declared.refused.OpenRefused.TheVariants as open_ref
 use Rattle.cf_journal.specs.declared.refused.FoundRefused.{FoundRefused}
 use Rattle.cf_journal.specs.declared.refused.FoundRefused.TheVariants as found_refused
 
--- the answer `Disk` comes only where the count of faults rose in the call, and the count rises only there
-pub record HasDiskCause {T E : Type 0} (disk : E) (before now : ℕ) (result : Result T E) : Type 0 where
+-- the answer `Disk` comes only where the count of faults rose in the call, and the count rises only
+-- there
+pub record HasDiskCause {T E : Type 0} (disk : E) (before now : ℕ)
+    (result : Result T E) : Type 0 where
   pub later : before ≤ now
   pub failed : IsErrOf result disk → Rose before now
   pub quiet : IsErrOf result disk ⊎ (now ≡ before)
@@ -26,13 +28,16 @@ abbrev pub Opens : Result Opened OpenRefused → Result (List ℕ × List Entry)
 Opens (Ok o) frames = frames ≡ Ok (o.bytes.items, o.entries.items)
 Opens (Err open_refused.Disk) frames = ⊤
 Opens (Err open_refused.NoMemory) frames = ⊤
-Opens (Err (open_refused.NotFounded len byte)) frames = frames ≡ Err (open_refused.NotFounded len byte)
+Opens (Err (open_refused.NotFounded len byte)) frames = frames
+    ≡ Err (open_refused.NotFounded len byte)
 Opens (Err (open_refused.Damaged offset)) frames = frames ≡ Err (open_refused.Damaged offset)
 
--- founding succeeds where the bytes are not founded, and is refused as already founded exactly where they are
+-- founding succeeds where the bytes are not founded, and is refused as already founded exactly
+-- where they are
 abbrev pub Founds : {A : Type 0} → Result A FoundRefused → List ℕ → Type 0
 Founds (Ok _) bytes = is_founded (length bytes) bytes ≡ false
-Founds (Err (found_refused.AlreadyFounded len byte)) bytes = (is_founded (length bytes) bytes ≡ true) × (len ≡ length bytes) × (byte ≡ slice_index bytes 0)
+Founds (Err (found_refused.AlreadyFounded len byte)) bytes =
+    (is_founded (length bytes) bytes ≡ true) × (len ≡ length bytes) × (byte ≡ slice_index bytes 0)
 Founds (Err found_refused.Disk) bytes = ⊤
 Founds (Err found_refused.NoMemory) bytes = ⊤
 
@@ -45,7 +50,9 @@ abbrev pub IsCutFrom : (List ℕ → Type 0) → List ℕ → Type 0
 IsCutFrom old image = (earlier : List ℕ) × old earlier × HalfCut 1 earlier image
 
 -- what founding did up to its first sync that succeeded, and from there on
-pub record FromFirstSync {D : Type 0} (content : D → List ℕ) (is_image : D → List ℕ → Type 0) (moment : D → ℕ) (was_image : D → ℕ → List ℕ → Type 0) (old new : D) (chart : List ℕ) : Type 0 where
+pub record FromFirstSync {D : Type 0} (content : D → List ℕ) (is_image : D → List ℕ → Type 0)
+    (moment : D → ℕ) (was_image : D → ℕ → List ℕ → Type 0) (old new : D)
+    (chart : List ℕ) : Type 0 where
   pub synced : D
   pub before : AtEachMoment moment was_image old synced (IsCutFrom (is_image old))
   pub bytes : content synced ≡ take 1 (content old)
@@ -73,19 +80,24 @@ GivesChart (Err e) x = (e ≡ open_refused.Damaged 6) × IsErr x
 
 -- the entry behind the gate at a place, with its payload's length
 abbrev pub GivesEntry : Result (ℕ × Entry) OpenRefused → ℕ → ℕ → List ℕ → Type 0
-GivesEntry (Ok x) version at behind = (x.0 ≡ stated_len behind) × (entry_behind version behind ≡ Some x.1) × (5 + x.0 ≤ length behind)
+GivesEntry (Ok x) version at behind = (x.0 ≡ stated_len behind)
+    × (entry_behind version behind ≡ Some x.1) × (5 + x.0 ≤ length behind)
 GivesEntry (Err open_refused.NoMemory) version at behind = ⊤
-GivesEntry (Err e) version at behind = (e ≡ open_refused.Damaged at) × (entry_behind version behind ≡ None)
+GivesEntry (Err e) version at behind = (e ≡ open_refused.Damaged at)
+    × (entry_behind version behind ≡ None)
 
 -- the entries, and the place of the first gate that isn't open
 abbrev pub GivesEntries : Result (ℕ × Vec Entry Global) OpenRefused → ℕ → ℕ → List ℕ → Type 0
 GivesEntries (Ok x) version first records = entries_from version 0 first records ≡ Ok x.1.items
 GivesEntries (Err open_refused.NoMemory) version first records = ⊤
-GivesEntries (Err (open_refused.Damaged at)) version first records = entries_from version 0 first records ≡ Err at
+GivesEntries (Err (open_refused.Damaged at)) version first records =
+    entries_from version 0 first records ≡ Err at
 GivesEntries (Err e) version first records = ⊥
 
--- the records of these entries, all of the version, stand in front of the first gate that isn't open, whose place this is
-pub record EndsAt (version first : ℕ) (bytes : List ℕ) (entries : List Entry) (place : ℕ) : Type 0 where
+-- the records of these entries, all of the version, stand in front of the first gate that isn't
+-- open, whose place this is
+pub record EndsAt (version first : ℕ) (bytes : List ℕ) (entries : List Entry)
+    (place : ℕ) : Type 0 where
   pub all : All HasRecord entries
   pub of : All (IsOf version) entries
   pub gate : ℕ

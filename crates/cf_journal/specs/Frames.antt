@@ -37,10 +37,12 @@ with_chart chart (Err at) = Err (Damaged at)
 -- a chart that is accepted, with the entries of the version behind it
 abbrev pub chart_and_entries : ℕ → ℕ → List ℕ → Result (List ℕ × List Entry) OpenRefused
 chart_and_entries version n image =
-    if is_ok (chart_of (take n (drop 6 image))) then with_chart (take n (drop 6 image)) (entries_from version 0 (6 + n) (drop (6 + n) image))
+    if is_ok (chart_of (take n (drop 6 image)))
+    then with_chart (take n (drop 6 image)) (entries_from version 0 (6 + n) (drop (6 + n) image))
     else Err (Damaged 6)
 
-abbrev pub behind_head : Result (ℕ × ℕ) OpenRefused → List ℕ → Result (List ℕ × List Entry) OpenRefused
+abbrev pub behind_head : Result (ℕ × ℕ) OpenRefused → List ℕ
+    → Result (List ℕ × List Entry) OpenRefused
 behind_head (Ok x) image = chart_and_entries x.0 x.1 image
 behind_head (Err e) image = Err e
 

@@ -29,15 +29,17 @@ has_act journal act = is_of (version_of journal) (kind_of act)
 abbrev pub EndsAtStep : Journal → ℕ → Type 0
 EndsAtStep journal len = (journal.gate + (1 + len)) % 65536 ≡ 0
 
--- An entry is reserved: its record, a closed gate at the place where the next entry goes, and room behind that, in zeros.
--- Where all of it goes to bytes that were written before there is no room, and else it ends at the next multiple of 64 KiB.
+-- An entry is reserved: its record, a closed gate at the place where the next entry goes, and room
+-- behind that, in zeros. Where all of it goes to bytes that were written before there is no room,
+-- and else it ends at the next multiple of 64 KiB.
 pub record Reserves (journal : Journal) (entry : Entry) : Type 0 where
   pub has : HasRecord entry
   pub room : ℕ
   pub bytes : journal.reserved.items ≡ record_of entry ++ 0 ∷ replicate room 0
   pub size : journal.size ≡ record_len entry
   pub small : room < 65536
-  pub ends : ((room ≡ 0) × (journal.size ≤ journal.ahead)) ⊎ EndsAtStep journal (journal.size + room)
+  pub ends : ((room ≡ 0) × (journal.size ≤ journal.ahead))
+      ⊎ EndsAtStep journal (journal.size + room)
 
 -- the file has what was written behind the gate
 abbrev pub HasAhead : Journal → List ℕ → Type 0
@@ -53,25 +55,34 @@ pub record StandsBehind (journal : Journal) (chart : List ℕ) (history : List E
   pub gate : journal.gate ≡ gate_after (6 + length chart) history
   pub count : journal.count ≡ length history
 
--- Nothing is in doubt, and the entries are of the journal's version. Where the disk tells its bytes, every image recovers to
--- the chart and the history, and at version 2 every image tells version 2.
-pub record IsSettled {D : Type 0} (tells : Bool) (is_image : D → List ℕ → Type 0) (journal : Journal) (disk : D) (chart : List ℕ) (history : List Entry) : Type 0 where
+-- Nothing is in doubt, and the entries are of the journal's version. Where the disk tells its
+-- bytes, every image recovers to the chart and the history, and at version 2 every image tells
+-- version 2.
+pub record IsSettled {D : Type 0} (tells : Bool) (is_image : D → List ℕ → Type 0)
+    (journal : Journal) (disk : D) (chart : List ℕ) (history : List Entry) : Type 0 where
   pub clear : in_doubt journal ≡ false
   pub stands : StandsBehind journal chart history
   pub valid : IsValid (version_of journal) chart history
-  pub images : IsTrue tells → (image : List ℕ) → is_image disk image → IsAtRest (version_of journal) chart history image
+  pub images : IsTrue tells → (image : List ℕ) → is_image disk image
+      → IsAtRest (version_of journal) chart history image
 
--- The entry is in doubt. Where the disk tells its bytes, every image recovers to the history, or to it and the entry.
-pub record IsInDoubt {D : Type 0} (tells : Bool) (is_image : D → List ℕ → Type 0) (journal : Journal) (disk : D) (chart : List ℕ) (history : List Entry) (entry : Entry) : Type 0 where
+-- The entry is in doubt. Where the disk tells its bytes, every image recovers to the history, or to
+-- it and the entry.
+pub record IsInDoubt {D : Type 0} (tells : Bool) (is_image : D → List ℕ → Type 0)
+    (journal : Journal) (disk : D) (chart : List ℕ) (history : List Entry)
+    (entry : Entry) : Type 0 where
   pub doubt : in_doubt journal ≡ true
   pub stands : StandsBehind journal chart history
   pub valid : IsValid (version_of journal) chart history
   pub has : HasRecord entry
   pub of : IsOf (version_of journal) entry
-  pub images : IsTrue tells → (image : List ℕ) → is_image disk image → IsStaged (version_of journal) chart history entry image
+  pub images : IsTrue tells → (image : List ℕ) → is_image disk image
+      → IsStaged (version_of journal) chart history entry image
 
 -- After a failed append the entry is in doubt, or nothing is and the journal is as before.
-pub record AfterFailure {D : Type 0} (tells : Bool) (is_image : D → List ℕ → Type 0) (journal : Journal) (disk : D) (chart : List ℕ) (history : List Entry) (entry : Entry) : Type 0 where
+pub record AfterFailure {D : Type 0} (tells : Bool) (is_image : D → List ℕ → Type 0)
+    (journal : Journal) (disk : D) (chart : List ℕ) (history : List Entry)
+    (entry : Entry) : Type 0 where
   pub clear : in_doubt journal ≡ false → IsSettled tells is_image journal disk chart history
   pub doubt : in_doubt journal ≡ true → IsInDoubt tells is_image journal disk chart history entry
 

@@ -21,7 +21,8 @@ RecoversTo chart history image = frames image ≡ Ok (chart, history)
 
 -- to the history, or to it and the entry
 abbrev pub RecoversToEither : List ℕ → List Entry → Entry → List ℕ → Type 0
-RecoversToEither chart history entry image = RecoversTo chart history image ⊎ RecoversTo chart (history ++ entry ∷ []) image
+RecoversToEither chart history entry image = RecoversTo chart history image
+    ⊎ RecoversTo chart (history ++ entry ∷ []) image
 
 -- the chart is accepted, and each entry has a record and is of the version
 pub record IsValid (version : ℕ) (chart : List ℕ) (history : List Entry) : Type 0 where
@@ -29,9 +30,11 @@ pub record IsValid (version : ℕ) (chart : List ℕ) (history : List Entry) : T
   pub records : All HasRecord history
   pub of : All (IsOf version) history
 
--- The journal of a chart and a history, with a closed gate at its end and anything behind that. Its byte 1 tells version 1
--- only where that is the journal's version: until a raise to version 2 has succeeded the byte may be any.
-pub record IsAtRest (version : ℕ) (chart : List ℕ) (history : List Entry) (image : List ℕ) : Type 0 where
+-- The journal of a chart and a history, with a closed gate at its end and anything behind that. Its
+-- byte 1 tells version 1 only where that is the journal's version: until a raise to version 2 has
+-- succeeded the byte may be any.
+pub record IsAtRest (version : ℕ) (chart : List ℕ) (history : List Entry)
+    (image : List ℕ) : Type 0 where
   pub recovers : RecoversTo chart history image
   pub byte : ℕ
   pub first : byte ≡ 1 → version ≡ 1
@@ -41,7 +44,8 @@ pub record IsAtRest (version : ℕ) (chart : List ℕ) (history : List Entry) (i
   pub layout : image ≡ front_of byte chart history ++ gate ∷ behind
 
 -- the same with the record of an entry behind a gate that may be open or closed
-pub record IsStaged (version : ℕ) (chart : List ℕ) (history : List Entry) (entry : Entry) (image : List ℕ) : Type 0 where
+pub record IsStaged (version : ℕ) (chart : List ℕ) (history : List Entry) (entry : Entry)
+    (image : List ℕ) : Type 0 where
   pub recovers : RecoversToEither chart history entry image
   pub byte : ℕ
   pub first : byte ≡ 1 → version ≡ 1

@@ -1,5 +1,6 @@
--- The records of a journal (own format). A record is a gate of one byte, the payload's length in four bytes, the highest
--- first, and the payload. The next record's gate follows. A gate of 1 is open, any other value is closed.
+-- The records of a journal (own format). A record is a gate of one byte, the payload's length in
+-- four bytes, the highest first, and the payload. The next record's gate follows. A gate of 1 is
+-- open, any other value is closed.
 use Rattle.std.specs.Prelude.{◌<◌, ◌^◌, ℕ, zero, suc, ◌+◌, ◌==◌, nat_lt, if◌then◌else◌, List, [], ◌∷◌, ◌++◌, length, take, drop, Option, Some, None, Result, Ok, Err}
 use Rattle.std.specs.Int.{w32, to_be_bytes, from_be_bytes}
 use Rattle.cf_calls.specs.declared.entry.Entry.{Entry}
@@ -16,8 +17,8 @@ of_length n (Err offset) = None
 abbrev pub stated_len : List ℕ → ℕ
 stated_len behind = from_be_bytes w32 (take 4 behind)
 
--- The entry behind an open gate. A length, a payload of exactly that length in the grammar of the version, and a following
--- gate must stand there.
+-- The entry behind an open gate. A length, a payload of exactly that length in the grammar of the
+-- version, and a following gate must stand there.
 abbrev pub entry_behind : ℕ → List ℕ → Option Entry
 entry_behind version behind =
     if nat_lt (length behind) (5 + stated_len behind) then None
@@ -29,13 +30,15 @@ in_front None at later = Err at
 in_front (Some e) at (Ok es) = Ok (e ∷ es)
 in_front (Some e) at (Err place) = Err place
 
--- The entries of the records before the first gate that isn't open, or the place of the first open gate with no entry
--- behind it, in the grammar of a version. The first gate stands `skip` bytes on, and `at` is the place of that gate.
+-- The entries of the records before the first gate that isn't open, or the place of the first open
+-- gate with no entry behind it, in the grammar of a version. The first gate stands `skip` bytes on,
+-- and `at` is the place of that gate.
 unfoldable pub entries_from : ℕ → ℕ → ℕ → List ℕ → Result (List Entry) ℕ
 entries_from version skip at [] = Ok []
 entries_from version (suc skip) at (byte ∷ rest) = entries_from version skip at rest
 entries_from version zero at (gate ∷ behind) =
-    if gate == 1 then in_front (entry_behind version behind) at (entries_from version (4 + stated_len behind) (5 + stated_len behind + at) behind) else Ok []
+    if gate == 1 then in_front (entry_behind version behind) at
+    (entries_from version (4 + stated_len behind) (5 + stated_len behind + at) behind) else Ok []
 
 -- ---- writing, which is the same in both versions
 

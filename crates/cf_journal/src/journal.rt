@@ -1,7 +1,7 @@
 //! Appending to a journal.
 //!
-//! A record is written behind a closed gate that is on the disk, and synced; then the gate is opened by a
-//! write of its own, and synced. So a crash leaves the record out or has it whole.
+//! A record is written behind a closed gate that is on the disk, and synced; then the gate is
+//! opened by a write of its own, and synced. So a crash leaves the record out or has it whole.
 
 ghost use Rattle.std.specs.Prelude.{◌≡◌, ◌+◌, ◌*◌, ◌%◌, ◌<◌, ◌≤◌, ◌^◌, [], ◌∷◌, ◌++◌, true, false, List, ℕ, IsTrue, OnOk, OnErr, is_ok, if◌then◌else◌, replicate};
 ghost use Rattle.cf_base.specs.Causes.{HasCause};
@@ -21,8 +21,8 @@ use cf_codec_fields::kind::is_of;
 use cf_disk::Disk;
 use std::alloc::Global;
 
-/// A file that grows does so to a multiple of so many bytes, by zeros behind the record. A sync of a file that keeps its
-/// length writes less, since the file system has nothing to note of it.
+/// A file that grows does so to a multiple of so many bytes, by zeros behind the record. A sync of
+/// a file that keeps its length writes less, since the file system has nothing to note of it.
 const STEP: u64 = 65_536;
 
 /// The end of a journal, where the next entry is written.
@@ -38,8 +38,8 @@ pub struct Journal {
     count: u64,
     // The version of the grammar of its entries.
     version: u8,
-    // What is to stand behind the gate, up to the next one, which is closed, with zeros where the file is to grow; empty
-    // where nothing is reserved.
+    // What is to stand behind the gate, up to the next one, which is closed, with zeros where the
+    // file is to grow; empty where nothing is reserved.
     reserved: Vec<u8>,
     // Whether the gate may be open all the same.
     doubt: bool,
@@ -49,7 +49,8 @@ pub struct Journal {
     ghost room: { gate ≤ 2 ^ 63 + 2 ^ 33 + 2 ^ 26 * count },
 }
 
-/// The length in bytes of an entry's record with its gate: how far the next gate stands behind this one.
+/// The length in bytes of an entry's record with its gate: how far the next gate stands behind this
+/// one.
 pub fn record_len(entry: &Entry) -> u64
     requires { IsEntryInForm entry.now }
     ensures { result ≡ records.record_len entry.now }
@@ -80,7 +81,8 @@ impl Journal {
         }
     }
 
-    /// Takes the memory of an entry's record. Where there is none the journal stays, but nothing is reserved.
+    /// Takes the memory of an entry's record. Where there is none the journal stays, but nothing is
+    /// reserved.
     pub fn reserve(&mut self, entry: &Entry) -> Result<(), NoMemory>
         requires { IsEntryInForm entry.now }
         ensures ok { OnOk result (Reserves self.new entry.now) }
@@ -104,7 +106,8 @@ impl Journal {
     /// the write of its gate, or the sync after that write, failed. Where it isn't in doubt then, a
     /// crash leaves the history, and the next entry is written to the same place.
     pub fn append<D: Disk>(&mut self, disk: &mut D) -> Result<(), Disk_>
-        requires reserved { (e : EntryOf) × Reserves self.old e × (has_act self.old e.change.act ≡ true) }
+        requires reserved { (e : EntryOf) × Reserves self.old e
+            × (has_act self.old e.change.act ≡ true) }
         requires clear { in_doubt self.old ≡ false }
         requires room { count_of self.old < 2 ^ 31 }
 
@@ -116,17 +119,22 @@ impl Journal {
             → AfterFailure D.tells D.is_image self.new disk.new chart history entry) }
 
         // What a crash leaves at any moment of the call.
-        ensures any_moment { IsTrue D.tells → (chart : List ℕ) (history : List EntryOf) (entry : EntryOf)
+        ensures any_moment { IsTrue D.tells
+            → (chart : List ℕ) (history : List EntryOf) (entry : EntryOf)
             → IsSettled D.tells D.is_image self.old disk.old chart history → Reserves self.old entry
-            → AtEachMoment D.moment D.was_image disk.old disk.new (RecoversToEither chart history entry) }
+            → AtEachMoment D.moment D.was_image disk.old disk.new
+            (RecoversToEither chart history entry) }
 
         // The file keeps its length, or grows to a multiple of 64 KiB.
         ensures length { IsTrue D.tells → HasAhead self.old (D.content disk.old)
-            → OnOk result (HasAhead self.new (D.content disk.new) × GrowsByStep (D.content disk.old) (D.content disk.new)) }
+            → OnOk result (HasAhead self.new (D.content disk.new)
+            × GrowsByStep (D.content disk.old) (D.content disk.new)) }
 
-        ensures reserved { OnErr result ((e : EntryOf) → Reserves self.old e → Reserves self.new e) }
+        ensures reserved { OnErr result
+            ((e : EntryOf) → Reserves self.old e → Reserves self.new e) }
         ensures none { OnOk result ((e : EntryOf) → Reserves self.new e → ⊥) }
-        ensures count { count_of self.new ≡ (if is_ok result then count_of self.old + 1 else count_of self.old) }
+        ensures count { count_of self.new
+            ≡ (if is_ok result then count_of self.old + 1 else count_of self.old) }
         ensures version { version_of self.new ≡ version_of self.old }
         ensures clear { OnOk result (in_doubt self.new ≡ false) }
         ensures cause { HasCause (D.faults disk.old) (D.faults disk.new) result }
@@ -144,8 +152,8 @@ impl Journal {
         Ok(())
     }
 
-    /// Closes the gate of the entry in doubt. At any moment a crash leaves the history, or the history and
-    /// that entry; after `Ok` it leaves the history, and nothing is in doubt.
+    /// Closes the gate of the entry in doubt. At any moment a crash leaves the history, or the
+    /// history and that entry; after `Ok` it leaves the history, and nothing is in doubt.
     pub fn mend<D: Disk>(&mut self, disk: &mut D) -> Result<(), Disk_>
         requires { in_doubt self.old ≡ true }
 
@@ -157,9 +165,11 @@ impl Journal {
             → IsInDoubt D.tells D.is_image self.new disk.new chart history entry) }
 
         // What a crash leaves at any moment of the call.
-        ensures any_moment { IsTrue D.tells → (chart : List ℕ) (history : List EntryOf) (entry : EntryOf)
+        ensures any_moment { IsTrue D.tells
+            → (chart : List ℕ) (history : List EntryOf) (entry : EntryOf)
             → IsInDoubt D.tells D.is_image self.old disk.old chart history entry
-            → AtEachMoment D.moment D.was_image disk.old disk.new (RecoversToEither chart history entry) }
+            → AtEachMoment D.moment D.was_image disk.old disk.new
+            (RecoversToEither chart history entry) }
 
         ensures reserved { (e : EntryOf) → Reserves self.old e → Reserves self.new e }
         ensures count { count_of self.new ≡ count_of self.old }
@@ -174,9 +184,10 @@ impl Journal {
         Ok(())
     }
 
-    /// Makes a journal of version 1 one of version 2, by a write of byte 1 and a sync; at version 2 it does
-    /// nothing. A crash at any moment leaves the history, for its entries read alike in both versions, and byte
-    /// 1 with any value. After `Disk_` the version is 1 still, and it may be called again.
+    /// Makes a journal of version 1 one of version 2, by a write of byte 1 and a sync; at version 2
+    /// it does nothing. A crash at any moment leaves the history, for its entries read alike in
+    /// both versions, and byte 1 with any value. After `Disk_` the version is 1 still, and it may
+    /// be called again.
     pub fn raise<D: Disk>(&mut self, disk: &mut D) -> Result<(), Disk_>
         requires { in_doubt self.old ≡ false }
 
@@ -186,7 +197,8 @@ impl Journal {
         ensures version { version_of self.new ≡ (if is_ok result then 2 else 1) }
         ensures has { OnOk result ((act : ActOf) → has_act self.new act ≡ true) }
         ensures already { version_of self.old ≡ 2 → (is_ok result ≡ true) × (disk.new ≡ disk.old) }
-        ensures byte { IsTrue D.tells → version_of self.old ≡ 1 → OnOk result (D.content disk.new ≡ written 1 (2 ∷ []) (D.content disk.old)) }
+        ensures byte { IsTrue D.tells → version_of self.old ≡ 1
+            → OnOk result (D.content disk.new ≡ written 1 (2 ∷ []) (D.content disk.old)) }
 
         // What a crash leaves at any moment of the call.
         ensures any_moment { IsTrue D.tells → (chart : List ℕ) (history : List EntryOf)
@@ -248,7 +260,8 @@ fn extend(out: &mut Vec<u8>, bytes: &[u8]) -> Result<(), NoMemory>
     }
 }
 
-/// How many bytes it is from the end of what stands behind a gate, so many bytes of it, to the next multiple of the step.
+/// How many bytes it is from the end of what stands behind a gate, so many bytes of it, to the next
+/// multiple of the step.
 fn room_behind(gate: u64, size: u64) -> u64
     requires { size ≤ 2 ^ 26 }
     ensures ends { (gate + (1 + (size + result))) % 65536 ≡ 0 }

@@ -1,4 +1,5 @@
-//! The journal: the chart and the history of an office in a file, as a crash at any moment leaves it.
+//! The journal: the chart and the history of an office in a file, as a crash at any moment leaves
+//! it.
 #![tactic(auto)]
 
 mod founding;

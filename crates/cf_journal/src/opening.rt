@@ -31,16 +31,21 @@ pub struct Opened {
     pub entries: Vec<Entry>,
 }
 
-/// Opens the journal on a disk, in either version: its end, its chart and its entries. It syncs, then reads, and writes nothing.
+/// Opens the journal on a disk, in either version: its end, its chart and its entries. It syncs,
+/// then reads, and writes nothing.
 pub fn open<D: Disk>(alloc: Global, disk: &mut D) -> Result<Opened, OpenRefused>
     ensures answer { IsTrue D.tells → Opens result (frames (D.content disk.old)) }
     ensures states { IfOk result (λ o. chart_of o.bytes.items ≡ Ok o.chart) }
-    ensures settled { IfOk result (λ o. IsSettled D.tells D.is_image o.journal disk.new o.bytes.items o.entries.items) }
-    ensures version { IsTrue D.tells → IfOk result (λ o. version_of o.journal ≡ spec.version_by (slice_index (D.content disk.old) 1)) }
+    ensures settled { IfOk result
+        (λ o. IsSettled D.tells D.is_image o.journal disk.new o.bytes.items o.entries.items) }
+    ensures version { IsTrue D.tells
+        → IfOk result (λ o. version_of o.journal
+        ≡ spec.version_by (slice_index (D.content disk.old) 1)) }
 
     // It changes nothing, and at its end a crash leaves what a read gives.
     ensures content { IsTrue D.tells → D.content disk.new ≡ D.content disk.old }
-    ensures durable { IsTrue D.tells → OnOk result (IsOnlyImage (D.content disk.new) (D.is_image disk.new)) }
+    ensures durable { IsTrue D.tells
+        → OnOk result (IsOnlyImage (D.content disk.new) (D.is_image disk.new)) }
     ensures any_moment { AtEachMoment D.moment D.was_image disk.old disk.new (D.is_image disk.old) }
 
     ensures cause { HasDiskCause open_refused.Disk (D.faults disk.old) (D.faults disk.new) result }
@@ -55,9 +60,12 @@ fn read_journal<D: Disk>(alloc: Global, disk: &mut D, len: u64) -> Result<Opened
     requires { IsTrue D.tells → len ≡ length (D.content disk.old) }
     ensures answer { IsTrue D.tells → Opens result (frames (D.content disk.old)) }
     ensures states { IfOk result (λ o. chart_of o.bytes.items ≡ Ok o.chart) }
-    ensures settled { IfOk result (λ o. (IsTrue D.tells → IsOnlyImage (D.content disk.old) (D.is_image disk.old))
+    ensures settled { IfOk result
+        (λ o. (IsTrue D.tells → IsOnlyImage (D.content disk.old) (D.is_image disk.old))
         → IsSettled D.tells D.is_image o.journal disk.new o.bytes.items o.entries.items) }
-    ensures version { IsTrue D.tells → IfOk result (λ o. version_of o.journal ≡ spec.version_by (slice_index (D.content disk.old) 1)) }
+    ensures version { IsTrue D.tells
+        → IfOk result (λ o. version_of o.journal
+        ≡ spec.version_by (slice_index (D.content disk.old) 1)) }
     ensures content { IsTrue D.tells → D.content disk.new ≡ D.content disk.old }
     ensures images { AddsNone (D.is_image disk.old) (D.is_image disk.new) }
     ensures any_moment { AtEachMoment D.moment D.was_image disk.old disk.new (D.is_image disk.old) }
@@ -88,8 +96,8 @@ fn version_by(byte: u8) -> u8
     if byte == 1 { 1 } else { 2 }
 }
 
-/// The version and the chart's length, by the length of the file and its first six bytes. The chart and the
-/// gate behind it lie within the file.
+/// The version and the chart's length, by the length of the file and its first six bytes. The chart
+/// and the gate behind it lie within the file.
 fn stated_head(head: &[u8], len: u64) -> Result<(u8, u64), OpenRefused>
     requires { length head.now ≡ min 6 len }
     ensures answer { result ≡ spec.stated_head len head.now }
@@ -116,10 +124,14 @@ fn stated_head(head: &[u8], len: u64) -> Result<(u8, u64), OpenRefused>
 /// Reads the head of a file of this length: its version, and the chart's length.
 fn read_head<D: Disk>(disk: &mut D, len: u64) -> Result<(u8, u64), OpenRefused>
     requires { IsTrue D.tells → len ≡ length (D.content disk.old) }
-    ensures answer { IsTrue D.tells → GivesHead result (spec.stated_head len (take 6 (D.content disk.old))) }
-    ensures version { IsTrue D.tells → IfOk result (λ h. h.0 ≡ spec.version_by (slice_index (take 6 (D.content disk.old)) 1)) }
+    ensures answer { IsTrue D.tells
+        → GivesHead result (spec.stated_head len (take 6 (D.content disk.old))) }
+    ensures version { IsTrue D.tells
+        → IfOk result (λ h. h.0 ≡ spec.version_by (slice_index (take 6 (D.content disk.old)) 1)) }
     ensures known { IfOk result (λ h. (1 ≤ h.0) × (h.0 ≤ 2)) }
-    ensures bytes { IsTrue D.tells → IfOk result (λ h. take 6 (D.content disk.old) ≡ 1 ∷ slice_index (take 6 (D.content disk.old)) 1 ∷ to_be_bytes w32 h.1) }
+    ensures bytes { IsTrue D.tells
+        → IfOk result (λ h. take 6 (D.content disk.old)
+        ≡ 1 ∷ slice_index (take 6 (D.content disk.old)) 1 ∷ to_be_bytes w32 h.1) }
     ensures within { IfOk result (λ h. 7 + h.1 ≤ len) }
     ensures small { IfOk result (λ h. h.1 < 2 ^ 32) }
     ensures content { IsTrue D.tells → D.content disk.new ≡ D.content disk.old }
@@ -141,7 +153,8 @@ fn read_piece<D: Disk>(
     len: u64,
 ) -> Result<Vec<u8>, OpenRefused>
     requires { IsTrue D.tells → at + len ≤ length (D.content disk.old) }
-    ensures bytes { IsTrue D.tells → IfOk result (λ piece. piece.items ≡ take len (drop at (D.content disk.old))) }
+    ensures bytes { IsTrue D.tells
+        → IfOk result (λ piece. piece.items ≡ take len (drop at (D.content disk.old))) }
     ensures len { IfOk result (λ piece. vec_len piece ≡ len) }
     ensures refused { IfErr result (λ e. (e ≡ open_refused.Disk) ⊎ (e ≡ open_refused.NoMemory)) }
     ensures content { IsTrue D.tells → D.content disk.new ≡ D.content disk.old }
@@ -175,7 +188,8 @@ fn stated_len(behind: &[u8]) -> u64
     u64::from(u32::from_be_bytes([behind[0], behind[1], behind[2], behind[3]]))
 }
 
-/// The entry of the record behind the open gate at a place, in the grammar of the version, with its payload's length.
+/// The entry of the record behind the open gate at a place, in the grammar of the version, with its
+/// payload's length.
 fn entry_behind(
     alloc: Global,
     version: u8,
@@ -199,8 +213,8 @@ fn entry_behind(
     }
 }
 
-/// The entries of the records from the first gate on, which stands at `first`, and the place of the first
-/// gate that isn't open.
+/// The entries of the records from the first gate on, which stands at `first`, and the place of the
+/// first gate that isn't open.
 fn read_entries(
     alloc: Global,
     version: u8,

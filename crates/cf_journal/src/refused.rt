@@ -16,7 +16,8 @@ pub struct Disk_;
 pub enum FoundRefused {
     /// A call of the disk failed.
     Disk,
-    /// A journal is there: the length of its file in bytes, which is above 1, and its first byte, 1.
+    /// A journal is there: the length of its file in bytes, which is above 1, and its first byte,
+    /// 1.
     AlreadyFounded { len: u64, byte: u8 },
     /// There was no memory for the head.
     NoMemory,
@@ -27,12 +28,12 @@ pub enum FoundRefused {
 pub enum OpenRefused {
     /// A call of the disk failed.
     Disk,
-    /// There is no journal: the length of the file in bytes, and its first byte. The length is at most 1, or
-    /// the byte isn't 1.
+    /// There is no journal: the length of the file in bytes, and its first byte. The length is at
+    /// most 1, or the byte isn't 1.
     NotFounded { len: u64, byte: Option<u8> },
-    /// The file isn't what a journal leaves: the place of what is wrong. It is 1 where the head is cut short,
-    /// 2 for the length of the chart, 6 for the chart, and else the place of an open gate with no entry
-    /// behind it.
+    /// The file isn't what a journal leaves: the place of what is wrong. It is 1 where the head is
+    /// cut short, 2 for the length of the chart, 6 for the chart, and else the place of an open
+    /// gate with no entry behind it.
     Damaged { offset: u64 },
     /// There was no memory for the chart or the entries.
     NoMemory,

@@ -14,13 +14,16 @@ use Rattle.cf_journal_book.specs.declared.admission.Admission.TheVariants as adm
 abbrev pub grown_by : DurableState → Entry → DurableState
 grown_by s e = record s { entries = s.entries ++ e ∷ []; doubt = None }
 
--- what is said of an entry: it is added exactly where the office would take it again behind its history. A refusal and want of memory
--- change nothing, and a fault of the disk leaves the history.
+-- what is said of an entry: it is added exactly where the office would take it again behind its
+-- history. A refusal and want of memory change nothing, and a fault of the disk leaves the history.
 abbrev pub Admits : DurableState → Entry → Admission → DurableState → Type 0
-Admits before e admission.Added after = (entry_refusal before.plan before.entries e ≡ None) × (after ≡ grown_by before e)
-Admits before e (admission.Refused n) after = (entry_refusal before.plan before.entries e ≡ Some n) × (after ≡ before)
+Admits before e admission.Added after = (entry_refusal before.plan before.entries e ≡ None)
+    × (after ≡ grown_by before e)
+Admits before e (admission.Refused n) after = (entry_refusal before.plan before.entries e ≡ Some n)
+    × (after ≡ before)
 Admits before e admission.NoMemory after = after ≡ before
-Admits before e admission.Disk after = (entry_refusal before.plan before.entries e ≡ None) × DiskFails before (call.Change e.change) after
+Admits before e admission.Disk after = (entry_refusal before.plan before.entries e ≡ None)
+    × DiskFails before (call.Change e.change) after
 
 -- what was given where it wasn't added
 abbrev pub kept_as : Posted → Admission

@@ -18,7 +18,8 @@ use Rattle.cf_journal_book.specs.declared.archive.Settled.TheVariants.{Kept, Add
 
 -- the lines of the stripes that a call touches are lent
 abbrev pub LendsCall : Plan → (ℕ → Bool) → Call → Type 0
-LendsCall plan lends c = (line : ℕ) → call_touches plan (stripe_of line) c ≡ true → lends line ≡ true
+LendsCall plan lends c = (line : ℕ) → call_touches plan (stripe_of line) c ≡ true
+    → lends line ≡ true
 
 -- every line's numbers are there, and they are those of the history
 pub record HasAllLines (plan : Plan) (history : List Entry) (tables : Tables) : Type 0 where
@@ -29,8 +30,10 @@ abbrev pub given : Settled → Posted
 given (Kept posted) = posted
 given (Added reply owed) = posted.Reply reply
 
--- these changes of line numbers are what an entry that the step adds makes, and the tables have room for them
-pub record IsOwed (plan : Plan) (history : List Entry) (e : Entry) (tables : Tables) (changes : List LineChange) : Type 0 where
+-- these changes of line numbers are what an entry that the step adds makes, and the tables have
+-- room for them
+pub record IsOwed (plan : Plan) (history : List Entry) (e : Entry) (tables : Tables)
+    (changes : List LineChange) : Type 0 where
   pub legal : IsLegal plan history
   pub adds : Adds plan history e
   pub can : CanApply tables changes
@@ -44,4 +47,5 @@ IsEntryOf (call.Look l) e = ⊥
 -- the history stays, or grows by one entry of this call, whose changes of line numbers are owed
 abbrev pub Grows : Plan → List Entry → List Entry → Call → Tables → Settled → Type 0
 Grows plan before after c tables (Kept posted) = after ≡ before
-Grows plan before after c tables (Added reply owed) = (e : Entry) × (after ≡ before ++ e ∷ []) × IsEntryOf c e × IsOwed plan before e tables owed
+Grows plan before after c tables (Added reply owed) = (e : Entry) × (after ≡ before ++ e ∷ [])
+    × IsEntryOf c e × IsOwed plan before e tables owed

@@ -18,13 +18,18 @@ use Rattle.cf_journal_book.specs.Recovery.{RecoversTo}
 use Rattle.cf_journal_book.specs.Settling.{WouldAdd}
 
 -- the journal keeps the history, and this entry is in doubt, where one is
-abbrev pub Keeps : {D : Type 0} → Bool → (D → List ℕ → Type 0) → Journal → D → List ℕ → List Entry → Option Entry → Type 0
-Keeps tells is_image journal disk chart history None = IsSettled tells is_image journal disk chart history
-Keeps tells is_image journal disk chart history (Some e) = IsInDoubt tells is_image journal disk chart history e
+abbrev pub Keeps : {D : Type 0} → Bool → (D → List ℕ → Type 0) → Journal → D → List ℕ → List Entry
+    → Option Entry → Type 0
+Keeps tells is_image journal disk chart history None =
+    IsSettled tells is_image journal disk chart history
+Keeps tells is_image journal disk chart history (Some e) =
+    IsInDoubt tells is_image journal disk chart history e
 
--- What a book's type promises: its history is legal, these bytes state its chart, its journal keeps the history on its
--- disk, and the entry in doubt is one that the step would add.
-pub record IsKept {D : Type 0} (tells : Bool) (is_image : D → List ℕ → Type 0) (plan : Plan) (history : List Entry) (journal : Journal) (disk : D) (chart : List ℕ) (doubt : Option Entry) : Type 0 where
+-- What a book's type promises: its history is legal, these bytes state its chart, its journal keeps
+-- the history on its disk, and the entry in doubt is one that the step would add.
+pub record IsKept {D : Type 0} (tells : Bool) (is_image : D → List ℕ → Type 0) (plan : Plan)
+    (history : List Entry) (journal : Journal) (disk : D) (chart : List ℕ)
+    (doubt : Option Entry) : Type 0 where
   pub legal : IsLegal plan history
   pub states : chart_of chart ≡ Ok plan
   pub kept : Keeps tells is_image journal disk chart history doubt
@@ -54,11 +59,13 @@ IsInHand s c e = (s.doubt ≡ Some e) ⊎ WouldAdd s c e
 
 -- the bytes recover to the history, or to it and one entry that is of this kind
 abbrev pub RecoversNear : Plan → List Entry → (Entry → Type 0) → List ℕ → Type 0
-RecoversNear plan history P image = RecoversTo plan history image ⊎ ((e : Entry) × P e × RecoversTo plan (history ++ e ∷ []) image)
+RecoversNear plan history P image = RecoversTo plan history image
+    ⊎ ((e : Entry) × P e × RecoversTo plan (history ++ e ∷ []) image)
 
 -- the same of the journal's frames
 abbrev pub FramesNear : List ℕ → List Entry → (Entry → Type 0) → List ℕ → Type 0
-FramesNear chart history P image = FramesTo chart history image ⊎ ((e : Entry) × P e × FramesTo chart (history ++ e ∷ []) image)
+FramesNear chart history P image = FramesTo chart history image
+    ⊎ ((e : Entry) × P e × FramesTo chart (history ++ e ∷ []) image)
 
 -- ---- writing an entry
 

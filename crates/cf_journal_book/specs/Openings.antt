@@ -23,13 +23,18 @@ Refuses (NotFounded len byte) x = x ≡ Err (NotFounded len byte)
 Refuses (Damaged offset refusal) x = x ≡ Err (Damaged offset refusal)
 
 -- opening gives what the bytes recover to; a fault of the disk and want of memory are free
-abbrev pub Reopens : Result (BookState × Journal × Vec ℕ Global) BookRefused → Result OfficeState BookRefused → Type 0
+abbrev pub Reopens : Result (BookState × Journal × Vec ℕ Global) BookRefused
+    → Result OfficeState BookRefused → Type 0
 Reopens (Ok x) recovers = recovers ≡ Ok (office_state x.0)
 Reopens (Err e) recovers = Refuses e recovers
 
--- the book of a disk was opened: it is that of what the disk's content recovers to, and nothing was written
-pub record OpensBook {D : Type 0} (tells : Bool) (content : D → List ℕ) (is_image : D → List ℕ → Type 0) (moment : D → ℕ) (was_image : D → ℕ → List ℕ → Type 0) (faults : D → ℕ) (old : D) (book : DurableBook D) : Type 0 where
-  pub recovers : IsTrue tells → recovered (content old) ≡ Ok (record { plan = book.plan; entries = book.entries })
+-- the book of a disk was opened: it is that of what the disk's content recovers to, and nothing was
+-- written
+pub record OpensBook {D : Type 0} (tells : Bool) (content : D → List ℕ)
+    (is_image : D → List ℕ → Type 0) (moment : D → ℕ) (was_image : D → ℕ → List ℕ → Type 0)
+    (faults : D → ℕ) (old : D) (book : DurableBook D) : Type 0 where
+  pub recovers : IsTrue tells
+      → recovered (content old) ≡ Ok (record { plan = book.plan; entries = book.entries })
   pub clear : book.doubt ≡ None
   pub reads : IsTrue tells → content book.disk ≡ content old
   pub durable : IsTrue tells → IsOnlyImage (content book.disk) (is_image book.disk)
@@ -37,7 +42,9 @@ pub record OpensBook {D : Type 0} (tells : Bool) (content : D → List ℕ) (is_
   pub quiet : faults book.disk ≡ faults old
 
 -- no book was opened, and nothing was written
-pub record OpensNone {D : Type 0} (tells : Bool) (content : D → List ℕ) (is_image : D → List ℕ → Type 0) (moment : D → ℕ) (was_image : D → ℕ → List ℕ → Type 0) (faults : D → ℕ) (old new : D) (why : BookRefused) : Type 0 where
+pub record OpensNone {D : Type 0} (tells : Bool) (content : D → List ℕ)
+    (is_image : D → List ℕ → Type 0) (moment : D → ℕ) (was_image : D → ℕ → List ℕ → Type 0)
+    (faults : D → ℕ) (old new : D) (why : BookRefused) : Type 0 where
   pub refuses : IsTrue tells → Refuses why (recovered (content old))
   pub reads : IsTrue tells → content new ≡ content old
   pub any_moment : AtEachMoment moment was_image old new (is_image old)

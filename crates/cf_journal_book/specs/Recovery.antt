@@ -1,4 +1,5 @@
--- What the bytes of a journal recover to: its entries, which the office takes again one after another (own rule).
+-- What the bytes of a journal recover to: its entries, which the office takes again one after
+-- another (own rule).
 use Rattle.std.specs.Prelude.{◌≡◌, ℕ, ◌+◌, Bool, ◌==◌, ◌&&◌, if◌then◌else◌, List, [], ◌∷◌, ◌++◌, length, Option, Some, None, Result, Ok, Err}
 use Rattle.cf_calls.specs.declared.entry.Drawn.{Drawn}
 use Rattle.cf_calls.specs.declared.entry.Entry.{Entry}
@@ -22,8 +23,8 @@ use Rattle.cf_journal_book.specs.declared.refused.BookRefused.TheVariants.{NotFo
 abbrev pub is_same_drawn : Drawn → Drawn → Bool
 is_same_drawn a b = (a.number == b.number) && (a.second == b.second)
 
--- nothing where the change is accepted with the entry's numbers; else the number of the refusal, which is 0 where it is
--- a repeat or draws other numbers
+-- nothing where the change is accepted with the entry's numbers; else the number of the refusal,
+-- which is 0 where it is a repeat or draws other numbers
 abbrev pub refusal_by : Drawn → Verdict → Option ℕ
 refusal_by drawn (Accept d) = if is_same_drawn d drawn then None else Some 0
 refusal_by drawn (Refuse r) = Some (number_of r)
@@ -36,10 +37,13 @@ abbrev pub refused_or : ℕ → Option ℕ → Option (ℕ × ℕ) → Option (�
 refused_or at None later = later
 refused_or at (Some n) later = Some (at, n)
 
--- the gate's place of the first entry that is refused, with the number, where the first gate stands at `at`
+-- the gate's place of the first entry that is refused, with the number, where the first gate stands
+-- at `at`
 unfoldable pub first_refused : Plan → List Entry → ℕ → List Entry → Option (ℕ × ℕ)
 first_refused plan before at [] = None
-first_refused plan before at (e ∷ later) = refused_or at (entry_refusal plan before e) (first_refused plan (before ++ e ∷ []) (at + record_len e) later)
+first_refused plan before at (e ∷ later) =
+    refused_or at (entry_refusal plan before e)
+    (first_refused plan (before ++ e ∷ []) (at + record_len e) later)
 
 -- ---- a whole journal
 
@@ -54,8 +58,11 @@ unless_refused s None = Ok s
 unless_refused s (Some x) = Err (Damaged x.0 (Some x.1))
 
 -- the entries under the chart that stands in front of them; frames have a chart that is accepted
-abbrev pub under_chart : Result Plan ChartFault → List ℕ → List Entry → Result OfficeState BookRefused
-under_chart (Ok plan) chart entries = unless_refused (record { plan = plan; entries = entries }) (first_refused plan [] (6 + length chart) entries)
+abbrev pub under_chart : Result Plan ChartFault → List ℕ → List Entry
+    → Result OfficeState BookRefused
+under_chart (Ok plan) chart entries =
+    unless_refused (record { plan = plan; entries = entries })
+    (first_refused plan [] (6 + length chart) entries)
 under_chart (Err f) chart entries = Err (Damaged 6 None)
 
 abbrev pub of_frames : Result (List ℕ × List Entry) OpenRefused → Result OfficeState BookRefused

@@ -39,8 +39,8 @@ pub record WouldAdd (s : DurableState) (c : Call) (e : Entry) : Type 0 where
   pub accepts : verdict_of s.plan s.entries change ≡ Accept drawn
   pub entry : e ≡ entry_by change drawn
 
--- The disk failed while an accepted change was written: the history stays, and what is in doubt is what was, or
--- nothing, or the entry of this change.
+-- The disk failed while an accepted change was written: the history stays, and what is in doubt is
+-- what was, or nothing, or the entry of this change.
 pub record DiskFails (before : DurableState) (c : Call) (after : DurableState) : Type 0 where
   pub entry : Entry
   pub would : WouldAdd before c entry
@@ -49,10 +49,12 @@ pub record DiskFails (before : DurableState) (c : Call) (after : DurableState) :
   pub rose : Rose before.faults after.faults
   pub doubt : (after.doubt ≡ before.doubt) ⊎ ((after.doubt ≡ None) ⊎ (after.doubt ≡ Some entry))
 
--- What is given for a call: the step's reply, at the length of the next history; want of memory; or that the disk failed,
--- which only a change that would be accepted gets.
+-- What is given for a call: the step's reply, at the length of the next history; want of memory; or
+-- that the disk failed, which only a change that would be accepted gets.
 pub data Settles (before : DurableState) (c : Call) : Posted → DurableState → Type 0 where
   replied : (body : Body) → body_of before.plan before.entries c ≡ body
-      → Settles before c (posted.Reply (record { at = length (next_of before.plan before.entries c); body = body })) (next_state before c)
+      → Settles before c (posted.Reply
+      (record { at = length (next_of before.plan before.entries c); body = body }))
+      (next_state before c)
   memory : Settles before c posted.NoMemory before
   failed : (after : DurableState) → DiskFails before c after → Settles before c posted.Disk after

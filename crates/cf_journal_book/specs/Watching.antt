@@ -1,4 +1,5 @@
--- What the entries of a history post on both bases, and what is shown of each to one who watches it being opened.
+-- What the entries of a history post on both bases, and what is shown of each to one who watches it
+-- being opened.
 use Rattle.std.specs.Prelude.{◌≡◌, ℕ, ◌+◌, List, [], ◌∷◌, length}
 use Rattle.cf_budget.specs.declared.changes.LineChange.{LineChange}
 use Rattle.cf_calls.specs.declared.entry.Entry.{Entry}
@@ -30,7 +31,8 @@ posted_over plan s place e = record {
 
 abbrev pub posted_after : Plan → Registers → ℕ → List Entry → List Posted
 posted_after plan s place [] = []
-posted_after plan s place (e ∷ later) = posted_over plan s place e ∷ posted_after plan (registers_step plan s e) (place + 1) later
+posted_after plan s place (e ∷ later) =
+    posted_over plan s place e ∷ posted_after plan (registers_step plan s e) (place + 1) later
 
 -- all entries of a history, oldest first
 abbrev pub all_posted : Plan → List Entry → List Posted
@@ -42,10 +44,13 @@ next_posted plan before e = posted_over plan (registers_of plan before) (length 
 
 -- what is shown of an entry
 abbrev pub shown_as : ℕ → Entry → Registers → List Post → List Post → Posted
-shown_as place e before fund gov = record { place = place; entry = e; before = before; fund = fund; gov = gov }
+shown_as place e before fund gov =
+    record { place = place; entry = e; before = before; fund = fund; gov = gov }
 
--- this is shown of the entry that comes next in a legal history, and these are its changes of line numbers
-pub record IsNext (plan : Plan) (history : List Entry) (x : Posted) (changes : List LineChange) : Type 0 where
+-- this is shown of the entry that comes next in a legal history, and these are its changes of line
+-- numbers
+pub record IsNext (plan : Plan) (history : List Entry) (x : Posted)
+    (changes : List LineChange) : Type 0 where
   pub legal : IsLegal plan history
   pub adds : Adds plan history x.entry
   pub posted : x ≡ next_posted plan history x.entry

@@ -10,7 +10,8 @@ use cf_calls::Posted;
 pub enum Admission {
     /// It is the one that this book would add too. It stands on the disk, and was added.
     Added,
-    /// It isn't: the number of the refusal, from 1 to 25, or 0 where the book has the call already or draws other numbers for it.
+    /// It isn't: the number of the refusal, from 1 to 25, or 0 where the book has the call already
+    /// or draws other numbers for it.
     Refused(u8),
     /// There was no memory.
     NoMemory,

@@ -35,13 +35,15 @@ use std::alloc::Global;
 use std::marker::Model;
 use std::snapshot::Snapshot;
 
-/// A history with the journal that keeps it on a disk, and all that is looked up in it but line numbers. Whatever a crash
-/// leaves of the disk recovers to the history, or to it and the one entry in doubt.
+/// A history with the journal that keeps it on a disk, and all that is looked up in it but line
+/// numbers. Whatever a crash leaves of the disk recovers to the history, or to it and the one entry
+/// in doubt.
 pub struct Archive<D: Disk + Drop> {
     rest: Rest,
     journal: Journal,
     disk: D,
-    // For proofs alone: the bytes that state the chart, and the entry in doubt. Neither has bytes of its own.
+    // For proofs alone: the bytes that state the chart, and the entry in doubt. Neither has bytes
+    // of its own.
     chart: Snapshot<Vec<u8>>,
     doubt: Option<Snapshot<Entry>>,
 }
@@ -66,9 +68,18 @@ impl<D: Disk + Drop> Model for Archive<D> {
 
     ghost Value = { DurableBook D };
 
-    ghost view = { λ a. record { plan = a.rest.plan; entries = a.rest.entries; doubt = doubt_of a.doubt; disk = a.disk } };
+    ghost view = { λ a.
+        record {
+          plan = a.rest.plan;
+          entries = a.rest.entries;
+          doubt = doubt_of a.doubt;
+          disk =
+              a.disk;
+        } };
 
-    ghost invariant = { λ a. IsKept D.tells D.is_image a.rest.plan a.rest.entries a.journal a.disk a.chart.value.items (doubt_of a.doubt) };
+    ghost invariant = { λ a.
+        IsKept D.tells D.is_image a.rest.plan a.rest.entries a.journal a.disk a.chart.value.items
+        (doubt_of a.doubt) };
 }
 
 /// What a call over an archive came to.
@@ -80,8 +91,8 @@ pub enum Settled {
     Added(Reply, PreparedLines),
 }
 
-/// Takes all memory that an accepted change needs before it is written, and makes its entry ready in the history and in
-/// the journal.
+/// Takes all memory that an accepted change needs before it is written, and makes its entry ready
+/// in the history and in the journal.
 fn prepare(
     lines: &mut Lines,
     rest: &mut Rest,
@@ -99,7 +110,8 @@ fn prepare(
     ensures stripes { SameStripes lines.old lines.new }
     ensures place { SamePlace journal.old journal.new }
     ensures ready { IfSome result (λ p. rest.new.ready ≡ Some (entry_by change drawn)) }
-    ensures owed { IfSome result (λ p. IsOwed rest.old.plan rest.old.entries (entry_by change drawn) lines.new p.0.lines) }
+    ensures owed { IfSome result
+        (λ p. IsOwed rest.old.plan rest.old.entries (entry_by change drawn) lines.new p.0.lines) }
     ensures reserved { IfSome result (λ p. Reserves journal.new (entry_by change drawn)) }
     ensures entry { IfSome result (λ p. p.1.value ≡ entry_by change drawn) }
 {
@@ -127,8 +139,10 @@ impl<D: Disk + Drop> Archive<D> {
     /// The archive of a history that the journal keeps, with nothing in doubt.
     pub(crate) fn of(rest: Rest, journal: Journal, disk: D, chart: Snapshot<Vec<u8>>) -> Archive<D>
         requires states { chart_of chart.value.items ≡ Ok rest.plan }
-        requires settled { IsSettled D.tells D.is_image journal disk chart.value.items rest.entries }
-        ensures { result ≡ record { plan = rest.plan; entries = rest.entries; doubt = None; disk = disk } }
+        requires settled { IsSettled D.tells D.is_image journal disk chart.value.items
+            rest.entries }
+        ensures { result ≡ record
+            { plan = rest.plan; entries = rest.entries; doubt = None; disk = disk } }
     {
         // The state says of its history that it is legal.
         let _legal = rest.entries();
@@ -149,25 +163,31 @@ impl<D: Disk + Drop> Archive<D> {
         &self.rest
     }
 
-    /// What is given for a call: the step's reply, with the step's next history; or want of memory or a fault of the
-    /// disk, which leave the history. The entry of an accepted change stands on the disk when its reply is given, and its
-    /// changes of line numbers are owed to the tables, which have room for them. Only such a change touches the disk, and not
-    /// where memory was wanting.
+    /// What is given for a call: the step's reply, with the step's next history; or want of memory
+    /// or a fault of the disk, which leave the history. The entry of an accepted change stands on
+    /// the disk when its reply is given, and its changes of line numbers are owed to the tables,
+    /// which have room for them. Only such a change touches the disk, and not where memory was
+    /// wanting.
     pub fn settle(&mut self, alloc: Global, lines: &mut Lines, call: Call) -> Settled
         requires form { IsCallInForm call }
         requires tables { AreTablesOf self.old.plan self.old.entries lines.old }
         requires lent { LendsCall self.old.plan (has_line lines.old) call }
-        ensures reply { Settles (state_of D.faults self.old) call (given result) (state_of D.faults self.new) }
-        ensures grows { Grows self.old.plan self.old.entries self.new.entries call lines.new result }
+        ensures reply { Settles (state_of D.faults self.old) call (given result)
+            (state_of D.faults self.new) }
+        ensures grows { Grows self.old.plan self.old.entries self.new.entries call lines.new
+            result }
         ensures plan { self.new.plan ≡ self.old.plan }
         ensures rows { SameRows lines.old lines.new }
         ensures stripes { SameStripes lines.old lines.new }
-        ensures disk { accepts self.old.plan self.old.entries call ≡ false → self.new.disk ≡ self.old.disk }
+        ensures disk { accepts self.old.plan self.old.entries call ≡ false
+            → self.new.disk ≡ self.old.disk }
         ensures memory { given result ≡ posted.NoMemory → self.new.disk ≡ self.old.disk }
 
         // What a crash leaves at any moment of the call.
-        ensures any_moment { IsTrue D.tells → AtEachMoment D.moment D.was_image self.old.disk self.new.disk
-            (RecoversNear self.old.plan self.old.entries (IsInHand (state_of D.faults self.old) call)) }
+        ensures any_moment { IsTrue D.tells
+            → AtEachMoment D.moment D.was_image self.old.disk self.new.disk
+            (RecoversNear self.old.plan self.old.entries
+            (IsInHand (state_of D.faults self.old) call)) }
     {
         match call {
             Call::Look(look) => {
@@ -182,15 +202,20 @@ impl<D: Disk + Drop> Archive<D> {
         requires form { IsChangeInForm change }
         requires tables { AreTablesOf self.old.plan self.old.entries lines.old }
         requires lent { LendsTouched self.old.plan (has_line lines.old) change.act }
-        ensures reply { Settles (state_of D.faults self.old) (calls.Change change) (given result) (state_of D.faults self.new) }
-        ensures grows { Grows self.old.plan self.old.entries self.new.entries (calls.Change change) lines.new result }
+        ensures reply { Settles (state_of D.faults self.old) (calls.Change change) (given result)
+            (state_of D.faults self.new) }
+        ensures grows { Grows self.old.plan self.old.entries self.new.entries
+            (calls.Change change) lines.new result }
         ensures plan { self.new.plan ≡ self.old.plan }
         ensures rows { SameRows lines.old lines.new }
         ensures stripes { SameStripes lines.old lines.new }
-        ensures disk { accepts self.old.plan self.old.entries (calls.Change change) ≡ false → self.new.disk ≡ self.old.disk }
+        ensures disk { accepts self.old.plan self.old.entries (calls.Change change) ≡ false
+            → self.new.disk ≡ self.old.disk }
         ensures memory { given result ≡ posted.NoMemory → self.new.disk ≡ self.old.disk }
-        ensures any_moment { IsTrue D.tells → AtEachMoment D.moment D.was_image self.old.disk self.new.disk
-            (RecoversNear self.old.plan self.old.entries (IsInHand (state_of D.faults self.old) (calls.Change change))) }
+        ensures any_moment { IsTrue D.tells
+            → AtEachMoment D.moment D.was_image self.old.disk self.new.disk
+            (RecoversNear self.old.plan self.old.entries
+            (IsInHand (state_of D.faults self.old) (calls.Change change))) }
     {
         let history = History::new(lines, &self.rest);
         match judge(&history, &change) {
@@ -207,17 +232,25 @@ impl<D: Disk + Drop> Archive<D> {
         requires form { IsEntryInForm entry }
         requires tables { AreTablesOf self.old.plan self.old.entries lines.old }
         requires lent { LendsTouched self.old.plan (has_line lines.old) entry.change.act }
-        ensures refused { IfErr result (λ n. entry_refusal self.old.plan self.old.entries entry ≡ Some n) }
+        ensures refused { IfErr result
+            (λ n. entry_refusal self.old.plan self.old.entries entry ≡ Some n) }
         ensures same { OnErr result (self.new ≡ self.old) }
         ensures taken { OnOk result (entry_refusal self.old.plan self.old.entries entry ≡ None) }
-        ensures reply { IfOk result (λ s. Settles (state_of D.faults self.old) (calls.Change entry.change) (given s) (state_of D.faults self.new)) }
-        ensures grows { IfOk result (λ s. Grows self.old.plan self.old.entries self.new.entries (calls.Change entry.change) lines.new s) }
+        ensures reply { IfOk result
+            (λ s. Settles (state_of D.faults self.old) (calls.Change entry.change) (given s)
+            (state_of D.faults self.new)) }
+        ensures grows { IfOk result
+            (λ s. Grows self.old.plan self.old.entries self.new.entries
+            (calls.Change entry.change) lines.new s) }
         ensures plan { self.new.plan ≡ self.old.plan }
         ensures rows { SameRows lines.old lines.new }
         ensures stripes { SameStripes lines.old lines.new }
-        ensures memory { IfOk result (λ s. given s ≡ posted.NoMemory → self.new.disk ≡ self.old.disk) }
-        ensures any_moment { IsTrue D.tells → AtEachMoment D.moment D.was_image self.old.disk self.new.disk
-            (RecoversNear self.old.plan self.old.entries (IsInHand (state_of D.faults self.old) (calls.Change entry.change))) }
+        ensures memory { IfOk result
+            (λ s. given s ≡ posted.NoMemory → self.new.disk ≡ self.old.disk) }
+        ensures any_moment { IsTrue D.tells
+            → AtEachMoment D.moment D.was_image self.old.disk self.new.disk
+            (RecoversNear self.old.plan self.old.entries
+            (IsInHand (state_of D.faults self.old) (calls.Change entry.change))) }
     {
         let history = History::new(lines, &self.rest);
         match refusal_of(&history, &entry) {
@@ -232,14 +265,18 @@ impl<D: Disk + Drop> Archive<D> {
         requires accepted { step.verdict_of self.old.plan self.old.entries change ≡ Accept drawn }
         requires tables { AreTablesOf self.old.plan self.old.entries lines.old }
         requires lent { LendsTouched self.old.plan (has_line lines.old) change.act }
-        ensures reply { Settles (state_of D.faults self.old) (calls.Change change) (given result) (state_of D.faults self.new) }
-        ensures grows { Grows self.old.plan self.old.entries self.new.entries (calls.Change change) lines.new result }
+        ensures reply { Settles (state_of D.faults self.old) (calls.Change change) (given result)
+            (state_of D.faults self.new) }
+        ensures grows { Grows self.old.plan self.old.entries self.new.entries
+            (calls.Change change) lines.new result }
         ensures plan { self.new.plan ≡ self.old.plan }
         ensures rows { SameRows lines.old lines.new }
         ensures stripes { SameStripes lines.old lines.new }
         ensures memory { given result ≡ posted.NoMemory → self.new.disk ≡ self.old.disk }
-        ensures any_moment { IsTrue D.tells → AtEachMoment D.moment D.was_image self.old.disk self.new.disk
-            (RecoversNear self.old.plan self.old.entries (IsInHand (state_of D.faults self.old) (calls.Change change))) }
+        ensures any_moment { IsTrue D.tells
+            → AtEachMoment D.moment D.was_image self.old.disk self.new.disk
+            (RecoversNear self.old.plan self.old.entries
+            (IsInHand (state_of D.faults self.old) (calls.Change change))) }
     {
         let Some((prepared, entry)) = prepare(
             lines,
@@ -268,12 +305,14 @@ impl<D: Disk + Drop> Archive<D> {
         Settled::Added(reply, owed)
     }
 
-    /// Gives the disk back. The history is sound, no entry of it posts to a closed fiscal year, and its statements articulate.
-    /// Whatever a crash leaves of the disk recovers to it, or to it and the entry in doubt, with which it is sound too.
+    /// Gives the disk back. The history is sound, no entry of it posts to a closed fiscal year, and
+    /// its statements articulate. Whatever a crash leaves of the disk recovers to it, or to it and
+    /// the entry in doubt, with which it is sound too.
     pub fn close(self) -> D
         ensures disk { result ≡ self.disk }
         ensures sound { IsSoundState (record { plan = self.plan; entries = self.entries }) }
-        ensures doubt_sound { IfSome self.doubt (λ e. IsSoundState (record { plan = self.plan; entries = self.entries ++ e ∷ [] })) }
+        ensures doubt_sound { IfSome self.doubt
+            (λ e. IsSoundState (record { plan = self.plan; entries = self.entries ++ e ∷ [] })) }
         ensures closed { ClosedYearsStay self.plan self.entries }
         ensures articulates { AllArticulate self.plan self.entries }
         ensures images { IsTrue D.tells → (image : List ℕ) → D.is_image result image

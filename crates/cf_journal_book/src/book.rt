@@ -37,8 +37,8 @@ use std::alloc::{AllocError, Global};
 use std::marker::Model;
 use std::snapshot::Snapshot;
 
-/// An office with the journal that keeps its history on a disk. Whatever a crash leaves of the disk recovers to the
-/// history, or to it and the one entry in doubt.
+/// An office with the journal that keeps its history on a disk. Whatever a crash leaves of the disk
+/// recovers to the history, or to it and the one entry in doubt.
 #[derive(Drop)]
 pub struct Book<D: Disk + Drop> {
     lines: Lines,
@@ -65,8 +65,10 @@ impl<D: Disk + Drop> Book<D> {
         chart: Snapshot<Vec<u8>>,
     ) -> Book<D>
         requires states { chart_of chart.value.items ≡ Ok office.plan }
-        requires settled { IsSettled D.tells D.is_image journal disk chart.value.items office.entries }
-        ensures { result ≡ record { plan = office.plan; entries = office.entries; doubt = None; disk = disk } }
+        requires settled { IsSettled D.tells D.is_image journal disk chart.value.items
+            office.entries }
+        ensures { result ≡ record
+            { plan = office.plan; entries = office.entries; doubt = None; disk = disk } }
     {
         let (lines, rest) = office.into_parts();
         let archive = Archive::of(rest, journal, disk, chart);
@@ -97,11 +99,12 @@ impl<D: Disk + Drop> Book<D> {
         self.archive.rest().chart()
     }
 
-    /// The rows of a statement of a fiscal year from 1971 to 2199. They are read off running numbers: it takes no longer
-    /// with more entries. It fails exactly for want of memory.
+    /// The rows of a statement of a fiscal year from 1971 to 2199. They are read off running
+    /// numbers: it takes no longer with more entries. It fails exactly for want of memory.
     pub fn report_rows(&self, alloc: Global, year: u16, kind: Kind) -> Result<Vec<Row>, AllocError>
         requires { IsYear year }
-        ensures { IfOk result (λ rows. rows.items ≡ report.report_rows self.now.plan self.now.entries year kind) }
+        ensures { IfOk result
+            (λ rows. rows.items ≡ report.report_rows self.now.plan self.now.entries year kind) }
     {
         report_rows(alloc, &self.history(), year, kind)
     }
@@ -115,21 +118,30 @@ impl<D: Disk + Drop> Book<D> {
         History::new(&self.lines, self.archive.rest())
     }
 
-    /// What is given for a call: the step's reply, with the step's next history; or want of memory or a fault of the
-    /// disk, which leave the history. The entry of an accepted change stands on the disk when its reply is given. Only
-    /// such a change touches the disk: a look, a repeat, a refusal and want of memory leave it alone.
+    /// What is given for a call: the step's reply, with the step's next history; or want of memory
+    /// or a fault of the disk, which leave the history. The entry of an accepted change stands on
+    /// the disk when its reply is given. Only such a change touches the disk: a look, a repeat, a
+    /// refusal and want of memory leave it alone.
     pub fn settle(&mut self, alloc: Global, call: Call) -> Posted
         requires { IsCallInForm call }
-        ensures reply { Settles (state_of D.faults self.old) call result (state_of D.faults self.new) }
-        ensures history { self.new.entries ≡ (if is_reply result then step.next_of self.old.plan self.old.entries call else self.old.entries) }
-        ensures disk { accepts self.old.plan self.old.entries call ≡ false → self.new.disk ≡ self.old.disk }
+        ensures reply { Settles (state_of D.faults self.old) call result
+            (state_of D.faults self.new) }
+        ensures history { self.new.entries
+            ≡ (if is_reply result then step.next_of self.old.plan self.old.entries call
+            else self.old.entries) }
+        ensures disk { accepts self.old.plan self.old.entries call ≡ false
+            → self.new.disk ≡ self.old.disk }
         ensures memory { result ≡ posted.NoMemory → self.new.disk ≡ self.old.disk }
-        ensures cause { result ≡ posted.Disk → Rose (D.faults self.old.disk) (D.faults self.new.disk) }
-        ensures quiet { (result ≡ posted.Disk → ⊥) → D.faults self.new.disk ≡ D.faults self.old.disk }
+        ensures cause { result ≡ posted.Disk
+            → Rose (D.faults self.old.disk) (D.faults self.new.disk) }
+        ensures quiet { (result ≡ posted.Disk → ⊥)
+            → D.faults self.new.disk ≡ D.faults self.old.disk }
 
         // What a crash leaves at any moment of the call.
-        ensures any_moment { IsTrue D.tells → AtEachMoment D.moment D.was_image self.old.disk self.new.disk
-            (RecoversNear self.old.plan self.old.entries (IsInHand (state_of D.faults self.old) call)) }
+        ensures any_moment { IsTrue D.tells
+            → AtEachMoment D.moment D.was_image self.old.disk self.new.disk
+            (RecoversNear self.old.plan self.old.entries
+            (IsInHand (state_of D.faults self.old) call)) }
     {
         match self.archive.settle(alloc, &mut self.lines, call) {
             Settled::Kept(posted) => posted,
@@ -140,17 +152,21 @@ impl<D: Disk + Drop> Book<D> {
         }
     }
 
-    /// Takes an entry of another book's history as the next one, where this book would add the same. Only such an entry touches
-    /// the disk, and not where memory was wanting.
+    /// Takes an entry of another book's history as the next one, where this book would add the
+    /// same. Only such an entry touches the disk, and not where memory was wanting.
     pub fn admit(&mut self, entry: Entry) -> Admission
         requires { IsEntryInForm entry }
-        ensures admits { Admits (state_of D.faults self.old) entry result (state_of D.faults self.new) }
-        ensures refused { IsSome (entry_refusal self.old.plan self.old.entries entry) → self.new.disk ≡ self.old.disk }
+        ensures admits { Admits (state_of D.faults self.old) entry result
+            (state_of D.faults self.new) }
+        ensures refused { IsSome (entry_refusal self.old.plan self.old.entries entry)
+            → self.new.disk ≡ self.old.disk }
         ensures memory { result ≡ Admission.NoMemory → self.new.disk ≡ self.old.disk }
 
         // What a crash leaves at any moment of the call.
-        ensures any_moment { IsTrue D.tells → AtEachMoment D.moment D.was_image self.old.disk self.new.disk
-            (RecoversNear self.old.plan self.old.entries (IsInHand (state_of D.faults self.old) (calls.Change entry.change))) }
+        ensures any_moment { IsTrue D.tells
+            → AtEachMoment D.moment D.was_image self.old.disk self.new.disk
+            (RecoversNear self.old.plan self.old.entries
+            (IsInHand (state_of D.faults self.old) (calls.Change entry.change))) }
     {
         match self.archive.admit(&mut self.lines, entry) {
             Err(refusal) => Admission::Refused(refusal),
@@ -172,12 +188,14 @@ impl<D: Disk + Drop> Book<D> {
         (lines, archive)
     }
 
-    /// Gives the disk back. The history is sound, no entry of it posts to a closed fiscal year, and its statements articulate.
-    /// Whatever a crash leaves of the disk recovers to it, or to it and the entry in doubt, with which it is sound too.
+    /// Gives the disk back. The history is sound, no entry of it posts to a closed fiscal year, and
+    /// its statements articulate. Whatever a crash leaves of the disk recovers to it, or to it and
+    /// the entry in doubt, with which it is sound too.
     pub fn close(self) -> D
         ensures disk { result ≡ self.disk }
         ensures sound { IsSoundState (record { plan = self.plan; entries = self.entries }) }
-        ensures doubt_sound { IfSome self.doubt (λ e. IsSoundState (record { plan = self.plan; entries = self.entries ++ e ∷ [] })) }
+        ensures doubt_sound { IfSome self.doubt
+            (λ e. IsSoundState (record { plan = self.plan; entries = self.entries ++ e ∷ [] })) }
         ensures closed { ClosedYearsStay self.plan self.entries }
         ensures articulates { AllArticulate self.plan self.entries }
         ensures images { IsTrue D.tells → (image : List ℕ) → D.is_image result image

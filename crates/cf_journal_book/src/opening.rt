@@ -39,27 +39,36 @@ pub struct NotOpened<D: Drop> {
     pub why: BookRefused,
 }
 
-/// Opens the book of the journal on a disk: the chart and the entries are read, and the entries are judged again, one
-/// after another. It syncs, then reads, and writes nothing.
+/// Opens the book of the journal on a disk: the chart and the entries are read, and the entries are
+/// judged again, one after another. It syncs, then reads, and writes nothing.
 pub fn open<D: Disk + Drop>(alloc: Global, disk: D) -> Result<Book<D>, NotOpened<D>>
-    ensures ok { IfOk result (λ b. OpensBook D.tells D.content D.is_image D.moment D.was_image D.faults disk b) }
-    ensures err { IfErr result (λ e. OpensNone D.tells D.content D.is_image D.moment D.was_image D.faults disk e.disk e.why) }
+    ensures ok { IfOk result
+        (λ b. OpensBook D.tells D.content D.is_image D.moment D.was_image D.faults disk b) }
+    ensures err { IfErr result
+        (λ e. OpensNone D.tells D.content D.is_image D.moment D.was_image D.faults disk e.disk
+        e.why) }
 {
     let mut nobody = Unwatched {};
     open_watched(alloc, disk, &mut nobody)
 }
 
-/// Opens a book as `open` does, where one who has seen nothing yet sees each entry and what it posts on both bases. Where
-/// the watcher has no memory, none is opened.
+/// Opens a book as `open` does, where one who has seen nothing yet sees each entry and what it
+/// posts on both bases. Where the watcher has no memory, none is opened.
 pub fn open_watched<D: Disk + Drop, W: Watch>(
     alloc: Global,
     mut disk: D,
     watch: &mut W,
 ) -> Result<Book<D>, NotOpened<D>>
-    ensures ok { IfOk result (λ b. OpensBook D.tells D.content D.is_image D.moment D.was_image D.faults disk b) }
-    ensures sound { IfOk result (λ b. IsSoundState (record { plan = b.plan; entries = b.entries })) }
-    ensures watched { IfOk result (λ b. W.has_seen watch.old b.plan [] → W.has_seen watch.new b.plan (all_posted b.plan b.entries)) }
-    ensures err { IfErr result (λ e. OpensNone D.tells D.content D.is_image D.moment D.was_image D.faults disk e.disk e.why) }
+    ensures ok { IfOk result
+        (λ b. OpensBook D.tells D.content D.is_image D.moment D.was_image D.faults disk b) }
+    ensures sound { IfOk result
+        (λ b. IsSoundState (record { plan = b.plan; entries = b.entries })) }
+    ensures watched { IfOk result
+        (λ b. W.has_seen watch.old b.plan []
+        → W.has_seen watch.new b.plan (all_posted b.plan b.entries)) }
+    ensures err { IfErr result
+        (λ e. OpensNone D.tells D.content D.is_image D.moment D.was_image D.faults disk e.disk
+        e.why) }
 {
     match open_office(alloc, &mut disk, watch) {
         Ok((office, journal, bytes)) => {
@@ -72,16 +81,19 @@ pub fn open_watched<D: Disk + Drop, W: Watch>(
     }
 }
 
-/// Opens a book as `open` does, with a second copy of the book's chart for those who need it beside the book: its bytes are
-/// read again.
+/// Opens a book as `open` does, with a second copy of the book's chart for those who need it beside
+/// the book: its bytes are read again.
 pub fn open_with_chart<D: Disk + Drop>(
     alloc: Global,
     mut disk: D,
 ) -> Result<(Book<D>, Chart), NotOpened<D>>
-    ensures ok { IfOk result (λ x. OpensBook D.tells D.content D.is_image D.moment D.was_image D.faults disk x.0) }
+    ensures ok { IfOk result
+        (λ x. OpensBook D.tells D.content D.is_image D.moment D.was_image D.faults disk x.0) }
     ensures chart { IfOk result (λ x. x.1 ≡ x.0.plan) }
     ensures stated { IfOk result (λ x. (bytes : List ℕ) × (chart_of bytes ≡ Ok x.0.plan)) }
-    ensures err { IfErr result (λ e. OpensNone D.tells D.content D.is_image D.moment D.was_image D.faults disk e.disk e.why) }
+    ensures err { IfErr result
+        (λ e. OpensNone D.tells D.content D.is_image D.moment D.was_image D.faults disk e.disk
+        e.why) }
 {
     let mut nobody = Unwatched {};
     match open_office(alloc, &mut disk, &mut nobody) {
@@ -105,10 +117,14 @@ pub fn open_with_bytes<D: Disk + Drop>(
     alloc: Global,
     mut disk: D,
 ) -> Result<(Book<D>, Vec<u8>), NotOpened<D>>
-    ensures ok { IfOk result (λ x. OpensBook D.tells D.content D.is_image D.moment D.was_image D.faults disk x.0) }
+    ensures ok { IfOk result
+        (λ x. OpensBook D.tells D.content D.is_image D.moment D.was_image D.faults disk x.0) }
     ensures stated { IfOk result (λ x. chart_of x.1.items ≡ Ok x.0.plan) }
-    ensures bytes { IsTrue D.tells → IfOk result (λ x. frames (D.content disk) ≡ Ok (x.1.items, x.0.entries)) }
-    ensures err { IfErr result (λ e. OpensNone D.tells D.content D.is_image D.moment D.was_image D.faults disk e.disk e.why) }
+    ensures bytes { IsTrue D.tells
+        → IfOk result (λ x. frames (D.content disk) ≡ Ok (x.1.items, x.0.entries)) }
+    ensures err { IfErr result
+        (λ e. OpensNone D.tells D.content D.is_image D.moment D.was_image D.faults disk e.disk
+        e.why) }
 {
     let mut nobody = Unwatched {};
     match open_office(alloc, &mut disk, &mut nobody) {
@@ -128,13 +144,18 @@ fn open_office<D: Disk, W: Watch>(
 ) -> Result<(BookOffice, Journal, Vec<u8>), BookRefused>
     ensures answer { IsTrue D.tells → Reopens result (recovered (D.content disk.old)) }
     ensures states { IfOk result (λ x. chart_of x.2.items ≡ Ok x.0.plan) }
-    ensures bytes { IsTrue D.tells → IfOk result (λ x. frames (D.content disk.old) ≡ Ok (x.2.items, x.0.entries)) }
-    ensures watched { IfOk result (λ x. W.has_seen watch.old x.0.plan [] → W.has_seen watch.new x.0.plan (all_posted x.0.plan x.0.entries)) }
-    ensures settled { IfOk result (λ x. IsSettled D.tells D.is_image x.1 disk.new x.2.items x.0.entries) }
+    ensures bytes { IsTrue D.tells
+        → IfOk result (λ x. frames (D.content disk.old) ≡ Ok (x.2.items, x.0.entries)) }
+    ensures watched { IfOk result
+        (λ x. W.has_seen watch.old x.0.plan []
+        → W.has_seen watch.new x.0.plan (all_posted x.0.plan x.0.entries)) }
+    ensures settled { IfOk result
+        (λ x. IsSettled D.tells D.is_image x.1 disk.new x.2.items x.0.entries) }
 
     // It changes nothing, and at its end a crash leaves what a read gives.
     ensures content { IsTrue D.tells → D.content disk.new ≡ D.content disk.old }
-    ensures durable { IsTrue D.tells → OnOk result (IsOnlyImage (D.content disk.new) (D.is_image disk.new)) }
+    ensures durable { IsTrue D.tells
+        → OnOk result (IsOnlyImage (D.content disk.new) (D.is_image disk.new)) }
     ensures any_moment { AtEachMoment D.moment D.was_image disk.old disk.new (D.is_image disk.old) }
 
     ensures cause { HasDiskCause refused.Disk (D.faults disk.old) (D.faults disk.new) result }
@@ -155,11 +176,14 @@ fn open_office<D: Disk, W: Watch>(
     }
 }
 
-/// Shows the entry that is prepared, with the registers before it, what it changes and what it posts.
+/// Shows the entry that is prepared, with the registers before it, what it changes and what it
+/// posts.
 fn show<W: Watch>(office: &BookOffice, prepared: &Prepared, watch: &mut W) -> Result<(), AllocError>
     requires { (e : Entry) × IsPrepared office.now prepared.now e }
     ensures { W.has_seen watch.old office.now.plan (all_posted office.now.plan office.now.entries)
-        → IfSome office.now.ready (λ e. OnOk result (W.has_seen watch.new office.now.plan (all_posted office.now.plan (office.now.entries ++ e ∷ [])))) }
+        → IfSome office.now.ready
+        (λ e. OnOk result (W.has_seen watch.new office.now.plan
+        (all_posted office.now.plan (office.now.entries ++ e ∷ [])))) }
 {
     let Some(entry) = office.ready_entry() else {
         return Ok(());
@@ -189,8 +213,10 @@ fn add_watched<W: Watch>(
     requires { Adds office.old.plan office.old.entries entry }
     ensures plan { office.new.plan ≡ office.old.plan }
     ensures entries { OnOk result (office.new.entries ≡ office.old.entries ++ entry ∷ []) }
-    ensures watched { W.has_seen watch.old office.old.plan (all_posted office.old.plan office.old.entries)
-        → OnOk result (W.has_seen watch.new office.old.plan (all_posted office.old.plan (office.old.entries ++ entry ∷ []))) }
+    ensures watched { W.has_seen watch.old office.old.plan
+        (all_posted office.old.plan office.old.entries)
+        → OnOk result (W.has_seen watch.new office.old.plan
+        (all_posted office.old.plan (office.old.entries ++ entry ∷ []))) }
 {
     let prepared = office.reserve(entry)?;
     show(office, &prepared, watch)?;
@@ -217,9 +243,12 @@ fn readmit<W: Watch>(
     ensures plan { office.new.plan ≡ office.old.plan }
     ensures ok { OnOk result (office.new.entries ≡ office.old.entries ++ entry ∷ []) }
     ensures few { OnOk result (length office.old.entries < most_entries) }
-    ensures answer { Readmits result gate (spec.entry_refusal office.old.plan office.old.entries entry) }
-    ensures watched { W.has_seen watch.old office.old.plan (all_posted office.old.plan office.old.entries)
-        → OnOk result (W.has_seen watch.new office.old.plan (all_posted office.old.plan (office.old.entries ++ entry ∷ []))) }
+    ensures answer { Readmits result gate
+        (spec.entry_refusal office.old.plan office.old.entries entry) }
+    ensures watched { W.has_seen watch.old office.old.plan
+        (all_posted office.old.plan office.old.entries)
+        → OnOk result (W.has_seen watch.new office.old.plan
+        (all_posted office.old.plan (office.old.entries ++ entry ∷ []))) }
 {
     if let Some(refusal) = office_refusal(office, &entry) {
         return Err(BookRefused::Damaged {
@@ -233,8 +262,9 @@ fn readmit<W: Watch>(
     }
 }
 
-/// Runs the entries of a journal through the rules, one after another, from the empty history under its chart. The
-/// chart has so many bytes in the journal. The first entry that the office refuses is damage, at its gate.
+/// Runs the entries of a journal through the rules, one after another, from the empty history under
+/// its chart. The chart has so many bytes in the journal. The first entry that the office refuses
+/// is damage, at its gate.
 fn replay<W: Watch>(
     alloc: Global,
     chart: Chart,
@@ -247,7 +277,8 @@ fn replay<W: Watch>(
     ensures plan { IfOk result (λ o. o.plan ≡ chart) }
     ensures entries { IfOk result (λ o. o.entries ≡ entries.items) }
     ensures answer { Replays result (first_refused chart [] (6 + chart_len) entries.items) }
-    ensures watched { W.has_seen watch.old chart [] → OnOk result (W.has_seen watch.new chart (all_posted chart entries.items)) }
+    ensures watched { W.has_seen watch.old chart []
+        → OnOk result (W.has_seen watch.new chart (all_posted chart entries.items)) }
 {
     let mut office = BookOffice::new(alloc, chart);
     let mut gate = 6 + chart_len;

@@ -19,7 +19,8 @@ fn is_drawn(entry: &Entry, drawn: Drawn) -> bool
 /// The number of the refusal of an entry: `None` where the office takes it again.
 pub(crate) fn refusal_of(history: &History, entry: &Entry) -> Option<u8>
     requires form { IsEntryInForm entry.now }
-    requires lent { LendsTouched history.now.plan (has_line history.now.lines) entry.now.change.act }
+    requires lent { LendsTouched history.now.plan
+        (has_line history.now.lines) entry.now.change.act }
     ensures { result ≡ spec.entry_refusal history.now.plan history.now.entries entry.now }
 {
     match judge(history, &entry.change) {

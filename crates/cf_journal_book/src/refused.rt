@@ -10,12 +10,12 @@ use cf_journal::OpenRefused;
 pub enum BookRefused {
     /// A call of the disk failed.
     Disk,
-    /// There is no journal: the length of the file in bytes, and its first byte. The length is at most 1, or
-    /// the byte isn't 1.
+    /// There is no journal: the length of the file in bytes, and its first byte. The length is at
+    /// most 1, or the byte isn't 1.
     NotFounded { len: u64, byte: Option<u8> },
-    /// The file isn't what a journal leaves: the place of what is wrong in it. Where that is an entry that the
-    /// office refuses, `refusal` is the number of the refusal, from 1 to 25, or 0 where the office has the call
-    /// already or draws other numbers for it.
+    /// The file isn't what a journal leaves: the place of what is wrong in it. Where that is an
+    /// entry that the office refuses, `refusal` is the number of the refusal, from 1 to 25, or 0
+    /// where the office has the call already or draws other numbers for it.
     Damaged { offset: u64, refusal: Option<u8> },
     /// There was no memory for the chart, the entries or the office.
     NoMemory,

@@ -1,5 +1,5 @@
-//! Writing an entry to the journal, after the entry in doubt was taken back and the journal was raised where the entry needs
-//! it.
+//! Writing an entry to the journal, after the entry in doubt was taken back and the journal was
+//! raised where the entry needs it.
 
 ghost use Rattle.std.specs.Prelude.{◌≡◌, true, false, ◌+◌, ◌<◌, ◌^◌, ◌++◌, ◌∷◌, [], List, ℕ, Some, None, IsTrue, OnOk, OnErr};
 ghost use Rattle.cf_base.specs.Causes.{HasCause};
@@ -22,14 +22,17 @@ fn mend_doubt<D: Disk>(
     doubt: &mut Option<Snapshot<Entry>>,
 ) -> Result<(), Disk_>
     ensures ok { OnOk result ((chart : List ℕ) (history : List EntryOf)
-        → Keeps D.tells D.is_image journal.old disk.old chart history (doubt_of doubt.old) → IsSettled D.tells D.is_image journal.new disk.new chart history) }
+        → Keeps D.tells D.is_image journal.old disk.old chart history (doubt_of doubt.old)
+        → IsSettled D.tells D.is_image journal.new disk.new chart history) }
     ensures err { OnErr result ((chart : List ℕ) (history : List EntryOf)
-        → Keeps D.tells D.is_image journal.old disk.old chart history (doubt_of doubt.old) → Keeps D.tells D.is_image journal.new disk.new chart history (doubt_of doubt.new)) }
+        → Keeps D.tells D.is_image journal.old disk.old chart history (doubt_of doubt.old)
+        → Keeps D.tells D.is_image journal.new disk.new chart history (doubt_of doubt.new)) }
 
     // What a crash leaves at any moment of the call.
     ensures any_moment { IsTrue D.tells → (chart : List ℕ) (history : List EntryOf)
         → Keeps D.tells D.is_image journal.old disk.old chart history (doubt_of doubt.old)
-        → AtEachMoment D.moment D.was_image disk.old disk.new (FramesNear chart history (λ e. doubt_of doubt.old ≡ Some e)) }
+        → AtEachMoment D.moment D.was_image disk.old disk.new
+        (FramesNear chart history (λ e. doubt_of doubt.old ≡ Some e)) }
 
     ensures none { OnOk result (doubt_of doubt.new ≡ None) }
     ensures same { OnErr result (doubt_of doubt.new ≡ doubt_of doubt.old) }
@@ -53,7 +56,8 @@ fn mend_doubt<D: Disk>(
 fn raise_for<D: Disk>(journal: &mut Journal, disk: &mut D, act: &Act) -> Result<(), Disk_>
     requires { in_doubt journal.old ≡ false }
     ensures settled { (chart : List ℕ) (history : List EntryOf)
-        → IsSettled D.tells D.is_image journal.old disk.old chart history → IsSettled D.tells D.is_image journal.new disk.new chart history }
+        → IsSettled D.tells D.is_image journal.old disk.old chart history
+        → IsSettled D.tells D.is_image journal.new disk.new chart history }
     ensures has { OnOk result (has_act journal.new act.now ≡ true) }
 
     // What a crash leaves at any moment of the call.
@@ -63,7 +67,8 @@ fn raise_for<D: Disk>(journal: &mut Journal, disk: &mut D, act: &Act) -> Result<
 
     ensures reserved { (e : EntryOf) → Reserves journal.old e → Reserves journal.new e }
     ensures count { count_of journal.new ≡ count_of journal.old }
-    ensures version { has_act journal.old act.now ≡ true → version_of journal.new ≡ version_of journal.old }
+    ensures version { has_act journal.old act.now ≡ true
+        → version_of journal.new ≡ version_of journal.old }
     ensures clear { in_doubt journal.new ≡ false }
     ensures cause { HasCause (D.faults disk.old) (D.faults disk.new) result }
     ensures quiet { OnOk result (D.faults disk.new ≡ D.faults disk.old) }
@@ -74,7 +79,8 @@ fn raise_for<D: Disk>(journal: &mut Journal, disk: &mut D, act: &Act) -> Result<
     journal.raise(disk)
 }
 
-/// Appends the reserved entry, where nothing is in doubt. It is in doubt where that failed too late.
+/// Appends the reserved entry, where nothing is in doubt. It is in doubt where that failed too
+/// late.
 fn append<D: Disk>(
     journal: &mut Journal,
     disk: &mut D,
@@ -88,7 +94,8 @@ fn append<D: Disk>(
     requires few { count_of journal.old < 2 ^ 31 }
     ensures ok { OnOk result ((chart : List ℕ) (history : List EntryOf)
         → IsSettled D.tells D.is_image journal.old disk.old chart history
-        → Keeps D.tells D.is_image journal.new disk.new chart (history ++ entry.value ∷ []) (doubt_of doubt.new)) }
+        → Keeps D.tells D.is_image journal.new disk.new chart (history ++ entry.value ∷ [])
+        (doubt_of doubt.new)) }
     ensures err { OnErr result ((chart : List ℕ) (history : List EntryOf)
         → IsSettled D.tells D.is_image journal.old disk.old chart history
         → Keeps D.tells D.is_image journal.new disk.new chart history (doubt_of doubt.new)) }
@@ -96,7 +103,8 @@ fn append<D: Disk>(
     // What a crash leaves at any moment of the call.
     ensures any_moment { IsTrue D.tells → (chart : List ℕ) (history : List EntryOf)
         → IsSettled D.tells D.is_image journal.old disk.old chart history
-        → AtEachMoment D.moment D.was_image disk.old disk.new (FramesNear chart history (λ e. e ≡ entry.value)) }
+        → AtEachMoment D.moment D.was_image disk.old disk.new
+        (FramesNear chart history (λ e. e ≡ entry.value)) }
 
     ensures version { version_of journal.new ≡ version_of journal.old }
     ensures none { OnOk result (doubt_of doubt.new ≡ None) }
@@ -115,8 +123,9 @@ fn append<D: Disk>(
     }
 }
 
-/// Writes the reserved entry of an act, after the entry in doubt was taken back and the journal was raised where the act needs
-/// it. Where the disk fails, what was in doubt still is, or this entry, or nothing.
+/// Writes the reserved entry of an act, after the entry in doubt was taken back and the journal was
+/// raised where the act needs it. Where the disk fails, what was in doubt still is, or this entry,
+/// or nothing.
 pub fn write<D: Disk>(
     journal: &mut Journal,
     disk: &mut D,
@@ -129,7 +138,8 @@ pub fn write<D: Disk>(
     requires few { count_of journal.old < 2 ^ 31 }
     ensures ok { OnOk result ((chart : List ℕ) (history : List EntryOf)
         → Keeps D.tells D.is_image journal.old disk.old chart history (doubt_of doubt.old)
-        → Keeps D.tells D.is_image journal.new disk.new chart (history ++ entry.value ∷ []) (doubt_of doubt.new)) }
+        → Keeps D.tells D.is_image journal.new disk.new chart (history ++ entry.value ∷ [])
+        (doubt_of doubt.new)) }
     ensures err { OnErr result ((chart : List ℕ) (history : List EntryOf)
         → Keeps D.tells D.is_image journal.old disk.old chart history (doubt_of doubt.old)
         → Keeps D.tells D.is_image journal.new disk.new chart history (doubt_of doubt.new)) }
@@ -137,13 +147,16 @@ pub fn write<D: Disk>(
     // What a crash leaves at any moment of the call.
     ensures any_moment { IsTrue D.tells → (chart : List ℕ) (history : List EntryOf)
         → Keeps D.tells D.is_image journal.old disk.old chart history (doubt_of doubt.old)
-        → AtEachMoment D.moment D.was_image disk.old disk.new (FramesNear chart history (IsOneOf (doubt_of doubt.old) entry.value)) }
+        → AtEachMoment D.moment D.was_image disk.old disk.new
+        (FramesNear chart history (IsOneOf (doubt_of doubt.old) entry.value)) }
 
     // A journal of version 1 stays so until its first lease.
-    ensures version { has_act journal.old act.now ≡ true → version_of journal.new ≡ version_of journal.old }
+    ensures version { has_act journal.old act.now ≡ true
+        → version_of journal.new ≡ version_of journal.old }
 
     ensures none { OnOk result (doubt_of doubt.new ≡ None) }
-    ensures which { OnErr result (IsDoubtAfter (doubt_of doubt.old) entry.value (doubt_of doubt.new)) }
+    ensures which { OnErr result
+        (IsDoubtAfter (doubt_of doubt.old) entry.value (doubt_of doubt.new)) }
     ensures cause { HasCause (D.faults disk.old) (D.faults disk.new) result }
     ensures quiet { OnOk result (D.faults disk.new ≡ D.faults disk.old) }
 {

@@ -13,7 +13,8 @@ IsWhy Part Fault unread.NoMemory = Part 1
 IsWhy Part Fault (unread.Fault k) = Fault k
 
 -- these bytes were taken of a part that wasn't read
-pub record ReadsNone (Part : ℕ → List ℕ → Type 0) (Fault : Option (List ℕ) → List ℕ → ℕ → Type 0) (left left' : Option (List ℕ)) (why : Unread) : Type 0 where
+pub record ReadsNone (Part : ℕ → List ℕ → Type 0) (Fault : Option (List ℕ) → List ℕ → ℕ → Type 0)
+    (left left' : Option (List ℕ)) (why : Unread) : Type 0 where
   pub bytes : List ℕ
   pub took : Consumes left left' bytes
   pub is : IsWhy (λ over. Part over bytes) (Fault left' bytes) why

@@ -16,7 +16,8 @@ pub enum Unread {
     Source,
     /// There was no memory.
     NoMemory,
-    /// A field is cut short by the end of the input, or is against the form: where it begins, counted from the part's first byte.
+    /// A field is cut short by the end of the input, or is against the form: where it begins,
+    /// counted from the part's first byte.
     Fault(u8),
 }
 
@@ -37,8 +38,11 @@ fn take_some<S: Source>(
 ) -> Result<usize, Unread>
     requires chunk { 0 < length chunk.old }
     requires room { vec_len bytes.old < most }
-    ensures ok { IfOk result (λ n. Takes (S.left source.old) (S.left source.new) bytes.old.items bytes.new.items n) }
-    ensures err { IfErr result (ReadsNone (PiecePart (most - vec_len bytes.old)) NoFault (S.left source.old) (S.left source.new)) }
+    ensures ok { IfOk result
+        (λ n. Takes (S.left source.old) (S.left source.new) bytes.old.items bytes.new.items n) }
+    ensures err { IfErr result
+        (ReadsNone (PiecePart (most - vec_len bytes.old)) NoFault (S.left source.old)
+        (S.left source.new)) }
     ensures within { vec_len bytes.new ≤ most }
     ensures cause { IfErr result (IsCause (S.faults source.old) (S.faults source.new)) }
     ensures quiet { OnOk result (S.faults source.new ≡ S.faults source.old) }
@@ -61,7 +65,8 @@ fn take_piece<S: Source>(
 ) -> Result<(), Unread>
     requires chunk { 0 < length chunk.old }
     ensures ok { OnOk result (IsRead most (S.left source.old) (S.left source.new) bytes.new.items) }
-    ensures err { IfErr result (ReadsNone (PiecePart most) NoFault (S.left source.old) (S.left source.new)) }
+    ensures err { IfErr result
+        (ReadsNone (PiecePart most) NoFault (S.left source.old) (S.left source.new)) }
     ensures cause { IfErr result (IsCause (S.faults source.old) (S.faults source.new)) }
     ensures quiet { OnOk result (S.faults source.new ≡ S.faults source.old) }
 {
@@ -97,8 +102,10 @@ impl Reader {
 
     /// Takes `most` bytes of the source, or all that it has where these are fewer.
     pub(crate) fn take<S: Source>(&mut self, source: &mut S, most: usize) -> Result<(), Unread>
-        ensures ok { OnOk result (IsRead most (S.left source.old) (S.left source.new) (piece_of self.new)) }
-        ensures err { IfErr result (ReadsNone (PiecePart most) NoFault (S.left source.old) (S.left source.new)) }
+        ensures ok { OnOk result
+            (IsRead most (S.left source.old) (S.left source.new) (piece_of self.new)) }
+        ensures err { IfErr result
+            (ReadsNone (PiecePart most) NoFault (S.left source.old) (S.left source.new)) }
         ensures cause { IfErr result (IsCause (S.faults source.old) (S.faults source.new)) }
         ensures quiet { OnOk result (S.faults source.new ≡ S.faults source.old) }
     {

@@ -42,7 +42,8 @@ fn long_in(bytes: &[u8]) -> Option<u64>
 /// A number of eight bytes; `None` where the input ends before the last of them.
 fn take_long<S: Source>(reader: &mut Reader, source: &mut S) -> Result<Option<u64>, Unread>
     ensures ok { IfOk result (ReadsLong (S.left source.old) (S.left source.new)) }
-    ensures err { IfErr result (ReadsNone (PiecePart 8) NoFault (S.left source.old) (S.left source.new)) }
+    ensures err { IfErr result
+        (ReadsNone (PiecePart 8) NoFault (S.left source.old) (S.left source.new)) }
     ensures cause { IfErr result (IsCause (S.faults source.old) (S.faults source.new)) }
     ensures quiet { OnOk result (S.faults source.new ≡ S.faults source.old) }
 {
@@ -56,7 +57,8 @@ fn take_long<S: Source>(reader: &mut Reader, source: &mut S) -> Result<Option<u6
 /// A number of four bytes; `None` where the input ends before the last of them.
 fn take_word<S: Source>(reader: &mut Reader, source: &mut S) -> Result<Option<u32>, Unread>
     ensures ok { IfOk result (ReadsWord (S.left source.old) (S.left source.new)) }
-    ensures err { IfErr result (ReadsNone (PiecePart 4) NoFault (S.left source.old) (S.left source.new)) }
+    ensures err { IfErr result
+        (ReadsNone (PiecePart 4) NoFault (S.left source.old) (S.left source.new)) }
     ensures cause { IfErr result (IsCause (S.faults source.old) (S.faults source.new)) }
     ensures quiet { OnOk result (S.faults source.new ≡ S.faults source.old) }
 {
@@ -73,7 +75,8 @@ fn take_word<S: Source>(reader: &mut Reader, source: &mut S) -> Result<Option<u3
 /// One byte; `None` at the end of the input.
 fn take_byte<S: Source>(reader: &mut Reader, source: &mut S) -> Result<Option<u8>, Unread>
     ensures ok { IfOk result (ReadsByte (S.left source.old) (S.left source.new)) }
-    ensures err { IfErr result (ReadsNone (PiecePart 1) NoFault (S.left source.old) (S.left source.new)) }
+    ensures err { IfErr result
+        (ReadsNone (PiecePart 1) NoFault (S.left source.old) (S.left source.new)) }
     ensures cause { IfErr result (IsCause (S.faults source.old) (S.faults source.new)) }
     ensures quiet { OnOk result (S.faults source.new ≡ S.faults source.old) }
 {
@@ -84,7 +87,8 @@ fn take_byte<S: Source>(reader: &mut Reader, source: &mut S) -> Result<Option<u8
     Ok(reader.piece().first().copied())
 }
 
-/// A length of at most `most`, which stands at this place of the part, and so many bytes, which are the reader's piece then.
+/// A length of at most `most`, which stands at this place of the part, and so many bytes, which are
+/// the reader's piece then.
 fn take_text<S: Source>(
     reader: &mut Reader,
     source: &mut S,
@@ -92,8 +96,10 @@ fn take_text<S: Source>(
     most: usize,
 ) -> Result<(), Unread>
     requires { at < 16 }
-    ensures ok { OnOk result (ReadsText most (S.left source.old) (S.left source.new) (piece_of reader.new)) }
-    ensures err { IfErr result (ReadsNone (TextPart most) (TextFault at most) (S.left source.old) (S.left source.new)) }
+    ensures ok { OnOk result
+        (ReadsText most (S.left source.old) (S.left source.new) (piece_of reader.new)) }
+    ensures err { IfErr result
+        (ReadsNone (TextPart most) (TextFault at most) (S.left source.old) (S.left source.new)) }
     ensures cause { IfErr result (IsCause (S.faults source.old) (S.faults source.new)) }
     ensures quiet { OnOk result (S.faults source.new ≡ S.faults source.old) }
 {
@@ -117,8 +123,10 @@ fn take_text<S: Source>(
 
 /// The front of a stream: FROM, and the chart, which is the reader's piece then.
 pub fn read_head<S: Source>(reader: &mut Reader, source: &mut S) -> Result<u64, Unread>
-    ensures ok { IfOk result (λ from. ReadsHead (S.left source.old) (S.left source.new) from (piece_of reader.new)) }
-    ensures err { IfErr result (ReadsNone HeadPart HeadFault (S.left source.old) (S.left source.new)) }
+    ensures ok { IfOk result
+        (λ from. ReadsHead (S.left source.old) (S.left source.new) from (piece_of reader.new)) }
+    ensures err { IfErr result
+        (ReadsNone HeadPart HeadFault (S.left source.old) (S.left source.new)) }
     ensures cause { IfErr result (IsCause (S.faults source.old) (S.faults source.new)) }
     ensures quiet { OnOk result (S.faults source.new ≡ S.faults source.old) }
 {
@@ -133,12 +141,14 @@ pub fn read_head<S: Source>(reader: &mut Reader, source: &mut S) -> Result<u64, 
     }
 }
 
-/// The next record, whose payload is the reader's piece then: whether there is one, and not the closing byte. What the payload is
-/// isn't asked.
+/// The next record, whose payload is the reader's piece then: whether there is one, and not the
+/// closing byte. What the payload is isn't asked.
 pub fn read_frame<S: Source>(reader: &mut Reader, source: &mut S) -> Result<bool, Unread>
-    ensures record { result ≡ Ok true → ReadsFrame (S.left source.old) (S.left source.new) (piece_of reader.new) }
+    ensures record { result ≡ Ok true
+        → ReadsFrame (S.left source.old) (S.left source.new) (piece_of reader.new) }
     ensures closed { result ≡ Ok false → Consumes (S.left source.old) (S.left source.new) (0 ∷ []) }
-    ensures err { IfErr result (ReadsNone RecordPart RecordFault (S.left source.old) (S.left source.new)) }
+    ensures err { IfErr result
+        (ReadsNone RecordPart RecordFault (S.left source.old) (S.left source.new)) }
     ensures cause { IfErr result (IsCause (S.faults source.old) (S.faults source.new)) }
     ensures quiet { OnOk result (S.faults source.new ≡ S.faults source.old) }
 {

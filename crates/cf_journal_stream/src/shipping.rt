@@ -56,10 +56,13 @@ fn put_record(entry: &Entry, out: &mut Vec<u8>) -> Result<(), AllocError>
 
 /// Writes what gathered.
 fn flush<O: Sink>(out: &mut O, pending: &mut Vec<u8>) -> Result<(), ShipEnd>
-    ensures ok { OnOk result (Wrote (O.held out.old) (O.held out.new) pending.old.items pending.new.items) }
+    ensures ok { OnOk result
+        (Wrote (O.held out.old) (O.held out.new) pending.old.items pending.new.items) }
     ensures all { OnOk result (pending.new.items ≡ []) }
-    ensures err { OnErr result ((rest : List ℕ) × Wrote (O.held out.old) (O.held out.new) pending.old.items rest) }
-    ensures write { IfErr result (λ end. (end ≡ ShipEnd.WriteFault) × Rose (O.faults out.old) (O.faults out.new)) }
+    ensures err { OnErr result
+        ((rest : List ℕ) × Wrote (O.held out.old) (O.held out.new) pending.old.items rest) }
+    ensures write { IfErr result
+        (λ end. (end ≡ ShipEnd.WriteFault) × Rose (O.faults out.old) (O.faults out.new)) }
     ensures quiet { OnOk result (O.faults out.new ≡ O.faults out.old) }
 {
     match write_all(out, pending.as_slice()) {
@@ -73,10 +76,13 @@ fn flush<O: Sink>(out: &mut O, pending: &mut Vec<u8>) -> Result<(), ShipEnd>
 
 /// Writes what is pending where it is a chunk or more.
 fn flush_full<O: Sink>(out: &mut O, pending: &mut Vec<u8>) -> Result<(), ShipEnd>
-    ensures ok { OnOk result (Wrote (O.held out.old) (O.held out.new) pending.old.items pending.new.items) }
+    ensures ok { OnOk result
+        (Wrote (O.held out.old) (O.held out.new) pending.old.items pending.new.items) }
     ensures little { OnOk result (length pending.new.items < 65536) }
-    ensures err { OnErr result ((rest : List ℕ) × Wrote (O.held out.old) (O.held out.new) pending.old.items rest) }
-    ensures write { IfErr result (λ end. (end ≡ ShipEnd.WriteFault) × Rose (O.faults out.old) (O.faults out.new)) }
+    ensures err { OnErr result
+        ((rest : List ℕ) × Wrote (O.held out.old) (O.held out.new) pending.old.items rest) }
+    ensures write { IfErr result
+        (λ end. (end ≡ ShipEnd.WriteFault) × Rose (O.faults out.old) (O.faults out.new)) }
     ensures quiet { OnOk result (O.faults out.new ≡ O.faults out.old) }
 {
     if pending.len() < CHUNK {
@@ -95,10 +101,15 @@ fn ship_records<O: Sink>(
     out: &mut O,
 ) -> Result<(), ShipEnd>
     requires { All IsEntryInForm entries.now }
-    ensures ok { OnOk result (Wrote (O.held out.old) (O.held out.new) (pending.old.items ++ records_of entries.now) pending.new.items) }
+    ensures ok { OnOk result
+        (Wrote (O.held out.old) (O.held out.new)
+        (pending.old.items ++ records_of entries.now) pending.new.items) }
     ensures little { OnOk result (entries.now ≢ [] → length pending.new.items < 65536) }
-    ensures err { OnErr result ((rest : List ℕ) × Wrote (O.held out.old) (O.held out.new) (pending.old.items ++ records_of entries.now) rest) }
-    ensures write { IfErr result (λ end. end ≡ ShipEnd.WriteFault → Rose (O.faults out.old) (O.faults out.new)) }
+    ensures err { OnErr result
+        ((rest : List ℕ) × Wrote (O.held out.old) (O.held out.new)
+        (pending.old.items ++ records_of entries.now) rest) }
+    ensures write { IfErr result
+        (λ end. end ≡ ShipEnd.WriteFault → Rose (O.faults out.old) (O.faults out.new)) }
     ensures unwritten { IfErr result (λ end. end ≢ ShipEnd.WriteFault → O.faults out.new ≡ O.faults out.old) }
     ensures done { IfErr result (λ end. end ≢ ShipEnd.Done) }
     ensures quiet { OnOk result (O.faults out.new ≡ O.faults out.old) }
@@ -119,7 +130,8 @@ fn ship_records<O: Sink>(
 /// Writes the records of entries behind the head that gathered, and the closing byte.
 fn ship_rest<O: Sink>(entries: &[Entry], pending: &mut Vec<u8>, out: &mut O) -> ShipEnd
     requires { All IsEntryInForm entries.now }
-    ensures ships { Ships (pending.old.items ++ (records_of entries.now ++ 0 ∷ [])) (O.held out.old) (O.held out.new) result }
+    ensures ships { Ships (pending.old.items ++ (records_of entries.now ++ 0 ∷ [])) (O.held out.old)
+        (O.held out.new) result }
     ensures write { result ≡ ShipEnd.WriteFault → Rose (O.faults out.old) (O.faults out.new) }
     ensures quiet { result ≢ ShipEnd.WriteFault → O.faults out.new ≡ O.faults out.old }
 {
@@ -147,8 +159,8 @@ fn behind(entries: &[Entry], from: u64) -> &[Entry]
     rest
 }
 
-/// Writes the stream of a history from a place on: `from` entries are left out. It holds one piece of the stream at a time. The
-/// chart has at most 1,048,576 bytes.
+/// Writes the stream of a history from a place on: `from` entries are left out. It holds one piece
+/// of the stream at a time. The chart has at most 1,048,576 bytes.
 pub fn ship<O: Sink>(
     alloc: Global,
     chart: &[u8],
@@ -158,7 +170,8 @@ pub fn ship<O: Sink>(
 ) -> ShipEnd
     requires chart { length chart.now ≤ most_chart }
     requires entries { All IsEntryInForm entries.now }
-    ensures ships { Ships (stream_of chart.now entries.now from) (O.held out.old) (O.held out.new) result }
+    ensures ships { Ships (stream_of chart.now entries.now from) (O.held out.old)
+        (O.held out.new) result }
     ensures write { result ≡ ShipEnd.WriteFault → Rose (O.faults out.old) (O.faults out.new) }
     ensures quiet { result ≢ ShipEnd.WriteFault → O.faults out.new ≡ O.faults out.old }
 {

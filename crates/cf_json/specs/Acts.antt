@@ -77,7 +77,8 @@ order_change_of d = do
   dept ← field as_n16 (codes "dept") d
   object ← field as_n16 (codes "object") d
   by ← field as_by (codes "by") d
-  Ok (ChangeOrder (record { order = order; item = item; fund = fund; dept = dept; object = object; by = by }))
+  Ok (ChangeOrder (record
+      { order = order; item = item; fund = fund; dept = dept; object = object; by = by }))
 
 -- an absent `back` is false
 abbrev pub new_voucher_of : Data → Result Act FormFault
@@ -133,7 +134,8 @@ asset_act_by asset.Dispose d = disposal_of d
 abbrev pub asset_act_of : Data → Result Act FormFault
 asset_act_of d = field (as_word asset_words) (codes "what") d >>= (λ what. asset_act_by what d)
 
--- an amount's rate and payments: the principals come to the amount, and the last payment is due by the end of 2199
+-- an amount's rate and payments: the principals come to the amount, and the last payment is due by
+-- the end of 2199
 abbrev pub schedule_of : Day → ℕ → ℕ → Data → Result BondIssue FormFault
 schedule_of on fund amount d = do
   rate_bp ← field as_n16 (codes "rate_bp") d
@@ -142,8 +144,16 @@ schedule_of on fund amount d = do
   _ ← must (is_period every) (codes "every")
   principals ← field as_principals (codes "principals") d
   _ ← must (sum principals == amount) (codes "principals")
-  _ ← must (nat_le (month_number on.year on.month + every * length principals) (month_number last_year 12)) (codes "principals")
-  Ok (record { fund = fund; amount = amount; rate_bp = rate_bp; every = every; principals = principals })
+  _ ← must (nat_le (month_number on.year on.month + every * length principals)
+      (month_number last_year 12)) (codes "principals")
+  Ok (record {
+    fund = fund;
+    amount = amount;
+    rate_bp = rate_bp;
+    every = every;
+    principals =
+        principals;
+  })
 
 -- the day of the month is at most 28
 abbrev pub issue_of : Day → Data → Result Act FormFault
@@ -154,7 +164,8 @@ issue_of on d = do
   issue ← schedule_of on fund amount d
   Ok (Issue issue)
 
--- the same, and the term is above 12 months (GASB Statement 87: a shorter lease is no lease liability)
+-- the same, and the term is above 12 months (GASB Statement 87: a shorter lease is no lease
+-- liability)
 abbrev pub lease_of : Day → Data → Result Act FormFault
 lease_of on d = do
   _ ← must (nat_le on.day 28) (codes "on")
@@ -165,7 +176,15 @@ lease_of on d = do
   amount ← field as_count (codes "amount") d
   s ← schedule_of on fund amount d
   _ ← must (nat_lt 12 (s.every * length s.principals)) (codes "principals")
-  Ok (Lease (record { vendor = vendor; account = record { fund = s.fund; dept = dept; object = object; amount = s.amount }; rate_bp = s.rate_bp; every = s.every; principals = s.principals }))
+  Ok (Lease (record {
+    vendor = vendor;
+    account =
+        record { fund = s.fund; dept = dept; object = object; amount = s.amount };
+    rate_bp =
+        s.rate_bp;
+    every = s.every;
+    principals = s.principals;
+  }))
 
 abbrev pub debt_payment_of : Data → Result Act FormFault
 debt_payment_of d = do
@@ -174,7 +193,14 @@ debt_payment_of d = do
   dept ← field as_n16 (codes "dept") d
   principal ← field as_n16 (codes "principal") d
   interest ← field as_n16 (codes "interest") d
-  Ok (PayDue (record { bond = bond; fund = fund; dept = dept; principal = principal; interest = interest }))
+  Ok (PayDue (record {
+    bond = bond;
+    fund = fund;
+    dept = dept;
+    principal = principal;
+    interest =
+        interest;
+  }))
 
 abbrev pub leave_amount_of : Data → Result LeaveAmount FormFault
 leave_amount_of d = do
@@ -244,11 +270,13 @@ act_of word.Lease on d = lease_of on d
 abbrev pub own_names : Act → List (List ℕ)
 own_names (Adopt a) = codes "fund" ∷ codes "year" ∷ codes "lines" ∷ codes "estimates" ∷ []
 own_names (Amend a) = codes "fund" ∷ codes "year" ∷ codes "line" ∷ codes "by" ∷ []
-own_names (Transfer t) = codes "fund" ∷ codes "year" ∷ codes "from" ∷ codes "to" ∷ codes "amount" ∷ []
+own_names (Transfer t) =
+    codes "fund" ∷ codes "year" ∷ codes "from" ∷ codes "to" ∷ codes "amount" ∷ []
 own_names (Requisition r) = codes "items" ∷ []
 own_names (Withdraw n) = codes "requisition" ∷ []
 own_names (Order p) = codes "vendor" ∷ codes "requisition" ∷ codes "items" ∷ []
-own_names (ChangeOrder c) = codes "order" ∷ codes "item" ∷ codes "fund" ∷ codes "dept" ∷ codes "object" ∷ codes "by" ∷ []
+own_names (ChangeOrder c) =
+    codes "order" ∷ codes "item" ∷ codes "fund" ∷ codes "dept" ∷ codes "object" ∷ codes "by" ∷ []
 own_names (CancelOrder n) = codes "order" ∷ []
 own_names (Voucher i) = codes "vendor" ∷ codes "back" ∷ codes "items" ∷ []
 own_names (VoidVoucher n) = codes "voucher" ∷ []
@@ -259,12 +287,17 @@ own_names (Receive r) = codes "source" ∷ codes "amount" ∷ []
 own_names (WriteOff b) = codes "bill" ∷ codes "amount" ∷ []
 own_names (Asset (Donate a)) = codes "what" ∷ codes "dept" ∷ codes "object" ∷ codes "amount" ∷ []
 own_names (Asset (Dispose a)) = codes "what" ∷ codes "asset" ∷ codes "fund" ∷ codes "proceeds" ∷ []
-own_names (Issue i) = codes "fund" ∷ codes "amount" ∷ codes "rate_bp" ∷ codes "every" ∷ codes "principals" ∷ []
-own_names (PayDue p) = codes "bond" ∷ codes "fund" ∷ codes "dept" ∷ codes "principal" ∷ codes "interest" ∷ []
+own_names (Issue i) =
+    codes "fund" ∷ codes "amount" ∷ codes "rate_bp" ∷ codes "every" ∷ codes "principals" ∷ []
+own_names (PayDue p) =
+    codes "bond" ∷ codes "fund" ∷ codes "dept" ∷ codes "principal" ∷ codes "interest" ∷ []
 own_names (Leave (Earn a)) = codes "what" ∷ codes "fund" ∷ codes "dept" ∷ codes "amount" ∷ []
 own_names (Leave (Use a)) = codes "what" ∷ codes "fund" ∷ codes "dept" ∷ codes "amount" ∷ []
-own_names (Leave (Mature m)) = codes "what" ∷ codes "fund" ∷ codes "dept" ∷ codes "object" ∷ codes "amount" ∷ []
+own_names (Leave (Mature m)) =
+    codes "what" ∷ codes "fund" ∷ codes "dept" ∷ codes "object" ∷ codes "amount" ∷ []
 own_names (Interfund m) = codes "what" ∷ codes "from" ∷ codes "to" ∷ codes "amount" ∷ []
 own_names (Close (period.Month m)) = codes "what" ∷ codes "month" ∷ []
 own_names (Close (period.Year y)) = codes "what" ∷ codes "year" ∷ []
-own_names (Lease l) = codes "vendor" ∷ codes "fund" ∷ codes "dept" ∷ codes "object" ∷ codes "amount" ∷ codes "rate_bp" ∷ codes "every" ∷ codes "principals" ∷ []
+own_names (Lease l) =
+    codes "vendor" ∷ codes "fund" ∷ codes "dept" ∷ codes "object" ∷ codes "amount" ∷ codes "rate_bp"
+    ∷ codes "every" ∷ codes "principals" ∷ []

@@ -44,7 +44,8 @@ look_of w d = do
 
 -- a field that changing calls alone have
 abbrev pub has_hand : Data → Bool
-has_hand d = is_some (get (codes "desk") d) || is_some (get (codes "key") d) || is_some (get (codes "on") d)
+has_hand d = is_some (get (codes "desk") d) || is_some (get (codes "key") d)
+    || is_some (get (codes "on") d)
 
 -- a word of both tables is the look where no such field is there
 abbrev pub call_by : Option ActKind → Option LookWord → Data → Result Call FormFault
@@ -54,7 +55,8 @@ call_by None (Some l) d = look_of l d
 call_by (Some w) (Some l) d = if has_hand d then change_of w d else look_of l d
 
 abbrev pub named_call_of : Data → Result Call FormFault
-named_call_of d = call_by (option_and_then as_change (get (codes "call") d)) (option_and_then (as_word look_words) (get (codes "call") d)) d
+named_call_of d = call_by (option_and_then as_change (get (codes "call") d))
+    (option_and_then (as_word look_words) (get (codes "call") d)) d
 
 abbrev pub object_call_of : Data → Result Call FormFault
 object_call_of d = if is_none (as_object d) then Err fault.Json else named_call_of d

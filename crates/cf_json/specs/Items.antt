@@ -37,13 +37,15 @@ abbrev pub as_line_amount : Data → Option LineAmount
 as_line_amount d = do
   line ← part as_n16 (codes "line") d
   amount ← part as_count (codes "amount") d
-  kept (λ _. has_only (codes "line" ∷ codes "amount" ∷ []) d) (record { line = line; amount = amount })
+  kept (λ _. has_only (codes "line" ∷ codes "amount" ∷ []) d)
+      (record { line = line; amount = amount })
 
 abbrev pub as_source_amount : Data → Option SourceAmount
 as_source_amount d = do
   source ← part as_n16 (codes "source") d
   amount ← part as_count (codes "amount") d
-  kept (λ _. has_only (codes "source" ∷ codes "amount" ∷ []) d) (record { source = source; amount = amount })
+  kept (λ _. has_only (codes "source" ∷ codes "amount" ∷ []) d)
+      (record { source = source; amount = amount })
 
 -- an account with its amount, where other fields may stand beside
 abbrev pub as_account : Data → Option AccountItem
@@ -57,7 +59,8 @@ as_account d = do
 abbrev pub as_account_item : Data → Option AccountItem
 as_account_item d = do
   account ← as_account d
-  kept (λ _. has_only (codes "fund" ∷ codes "dept" ∷ codes "object" ∷ codes "amount" ∷ []) d) account
+  kept (λ _. has_only (codes "fund" ∷ codes "dept" ∷ codes "object" ∷ codes "amount" ∷ []) d)
+      account
 
 -- how much is liquidated: at most one of `recorded` and a true `final`
 abbrev pub liquidation_of : Option ℕ → Bool → Option Liquidation
@@ -69,7 +72,8 @@ liquidation_of (Some r) true = None
 -- what is charged: `order` and `item` together, and `recorded` or a true `final` only with them
 abbrev pub charge_of : Option ℕ → Option ℕ → Option ℕ → Bool → Option Charge
 charge_of None None recorded final = if is_none recorded && not final then Some Direct else None
-charge_of (Some o) (Some i) recorded final = option_map (OnOrder i o) (liquidation_of recorded final)
+charge_of (Some o) (Some i) recorded final =
+    option_map (OnOrder i o) (liquidation_of recorded final)
 charge_of _ _ recorded final = None
 
 -- an absent `final` is false
@@ -86,7 +90,9 @@ as_charge d = do
   charge_of order place recorded (is_final final)
 
 abbrev pub voucher_item_names : List (List ℕ)
-voucher_item_names = codes "fund" ∷ codes "dept" ∷ codes "object" ∷ codes "amount" ∷ codes "order" ∷ codes "item" ∷ codes "recorded" ∷ codes "final" ∷ []
+voucher_item_names =
+    codes "fund" ∷ codes "dept" ∷ codes "object" ∷ codes "amount" ∷ codes "order" ∷ codes "item"
+    ∷ codes "recorded" ∷ codes "final" ∷ []
 
 abbrev pub as_voucher_item : Data → Option VoucherItem
 as_voucher_item d = do

@@ -35,8 +35,10 @@ as_statement d = option_and_then statement_of (as_str d)
 -- the words of the looks
 abbrev pub look_words : List (List ℕ × LookWord)
 look_words =
-    (codes "line", look.Line) ∷ (codes "requisition", look.Requisition) ∷ (codes "order", look.Order) ∷ (codes "voucher", look.Voucher) ∷ (codes "bill", look.Bill)
-    ∷ (codes "asset", look.Asset) ∷ (codes "bond", look.Bond) ∷ (codes "leave", look.Leave) ∷ (codes "account", look.Account) ∷ (codes "reconcile", look.Reconcile)
+    (codes "line", look.Line) ∷ (codes "requisition", look.Requisition)
+    ∷ (codes "order", look.Order) ∷ (codes "voucher", look.Voucher) ∷ (codes "bill", look.Bill)
+    ∷ (codes "asset", look.Asset) ∷ (codes "bond", look.Bond) ∷ (codes "leave", look.Leave)
+    ∷ (codes "account", look.Account) ∷ (codes "reconcile", look.Reconcile)
     ∷ (codes "report", look.Report) ∷ []
 
 -- what is done with an asset
@@ -45,11 +47,13 @@ asset_words = (codes "donate", asset.Donate) ∷ (codes "dispose", asset.Dispose
 
 -- what is done with leave
 abbrev pub leave_words : List (List ℕ × LeaveWord)
-leave_words = (codes "earn", leave.Earn) ∷ (codes "use", leave.Use) ∷ (codes "mature", leave.Mature) ∷ []
+leave_words = (codes "earn", leave.Earn) ∷ (codes "use", leave.Use) ∷ (codes "mature", leave.Mature)
+    ∷ []
 
 -- how cash moves between funds
 abbrev pub move_words : List (List ℕ × FundMoveKind)
-move_words = (codes "transfer", move.Transfer) ∷ (codes "loan", move.Loan) ∷ (codes "repay", move.Repay) ∷ []
+move_words = (codes "transfer", move.Transfer) ∷ (codes "loan", move.Loan)
+    ∷ (codes "repay", move.Repay) ∷ []
 
 -- what is closed
 abbrev pub period_words : List (List ℕ × PeriodWord)

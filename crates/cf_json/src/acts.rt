@@ -1,4 +1,5 @@
-//! The readers of the changing calls: the fields of each in order, with the rules of form where they speak.
+//! The readers of the changing calls: the fields of each in order, with the rules of form where
+//! they speak.
 
 ghost use Rattle.std.specs.Prelude.{◌≡◌, ◌≤◌, ◌+◌, ◌*◌, nat_le, nat_lt, sum, length, map, IfOk};
 ghost use Rattle.cf_base.specs.Limits.{last_year};
@@ -226,7 +227,8 @@ fn total(principals: &[u64]) -> u128
 /// Whether the last of so many payments, `every` months apart, is due by the end of 2199.
 fn is_due_in_time(on: Day, every: u16, payments: usize) -> bool
     requires { payments ≤ 120 }
-    ensures { result ≡ nat_le (month_number on.year on.month + every * payments) (month_number last_year 12) }
+    ensures { result ≡ nat_le (month_number on.year on.month + every * payments)
+        (month_number last_year 12) }
 {
     let first = 12 * u32::from(on.year) + u32::from(on.month);
     first + u32::from(every) * (payments as u32) <= 12 * u32::from(LAST_YEAR) + 12

@@ -167,7 +167,8 @@ fn liquidation(recorded: Option<u64>, is_final: bool) -> Option<Liquidation>
     }
 }
 
-/// What a voucher item is charged against: order and item are given together, and the rest only with them.
+/// What a voucher item is charged against: order and item are given together, and the rest only
+/// with them.
 fn charge_of(
     order: Option<u32>,
     item: Option<u16>,

@@ -1,4 +1,5 @@
-//! The words of calls and of their fields, each set a table: that of changing calls is the table of calls.
+//! The words of calls and of their fields, each set a table: that of changing calls is the table of
+//! calls.
 
 ghost use Rattle.std.specs.Prelude.{◌≡◌, find, option_copied};
 ghost use Rattle.std.specs.Str.{bytes_eq};

@@ -28,7 +28,8 @@ is_short (negative (pos n)) = false
 is_short (negative (negsuc n)) = nat_lt n (2 ^ 63)
 is_short (float x) = false
 
--- a value whose text is read back: its integers have at most 64 bits, its texts are ASCII, and it nests at most so deep
+-- a value whose text is read back: its integers have at most 64 bits, its texts are ASCII, and it
+-- nests at most so deep
 abbrev mutual
   pub can_read : ℕ → Data → Bool
   can_read depth null = true

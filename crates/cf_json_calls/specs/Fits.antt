@@ -71,7 +71,8 @@ ActFits (Transfer t) = IsN16 t.fund × IsN16 t.from × IsN16 t.to × IsN64 t.amo
 ActFits (Requisition r) = All AccountFits r.items
 ActFits (Withdraw n) = IsN32 n
 ActFits (Order o) = IsN32 o.vendor × HasFit IsN32 o.requisition × All AccountFits o.items
-ActFits (ChangeOrder c) = IsN32 c.order × IsN16 c.item × IsN16 c.fund × IsN16 c.dept × IsN16 c.object × FitsSigned w64 c.by
+ActFits (ChangeOrder c) = IsN32 c.order × IsN16 c.item × IsN16 c.fund × IsN16 c.dept
+    × IsN16 c.object × FitsSigned w64 c.by
 ActFits (CancelOrder n) = IsN32 n
 ActFits (Voucher v) = IsN32 v.vendor × All VoucherItemFits v.items
 ActFits (VoidVoucher n) = IsN32 n
@@ -81,12 +82,15 @@ ActFits (Collect a) = IsN32 a.bill × IsN64 a.amount
 ActFits (Receive r) = SourceAmountFits r
 ActFits (WriteOff a) = IsN32 a.bill × IsN64 a.amount
 ActFits (Asset a) = AssetFits a
-ActFits (Issue i) = IsN16 i.fund × IsN64 i.amount × IsN16 i.rate_bp × IsN16 i.every × All IsN64 i.principals
-ActFits (PayDue p) = IsN32 p.bond × IsN16 p.fund × IsN16 p.dept × IsN16 p.principal × IsN16 p.interest
+ActFits (Issue i) = IsN16 i.fund × IsN64 i.amount × IsN16 i.rate_bp × IsN16 i.every
+    × All IsN64 i.principals
+ActFits (PayDue p) = IsN32 p.bond × IsN16 p.fund × IsN16 p.dept × IsN16 p.principal
+    × IsN16 p.interest
 ActFits (Leave l) = LeaveFits l
 ActFits (Interfund m) = IsN16 m.from × IsN16 m.to × IsN64 m.amount
 ActFits (Close p) = Unit {0}
-ActFits (Lease l) = IsN32 l.vendor × AccountFits l.account × IsN16 l.rate_bp × IsN16 l.every × All IsN64 l.principals
+ActFits (Lease l) = IsN32 l.vendor × AccountFits l.account × IsN16 l.rate_bp × IsN16 l.every
+    × All IsN64 l.principals
 
 pub record ChangeFits (c : Change) : Type 0 where
   pub desk : IsN16 c.desk

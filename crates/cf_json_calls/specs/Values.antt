@@ -20,10 +20,12 @@ abbrev pub line_amount_data : LineAmount → Data
 line_amount_data i = fields ((codes "line", count i.line) ∷ (codes "amount", count i.amount) ∷ [])
 
 abbrev pub source_amount_data : SourceAmount → Data
-source_amount_data i = fields ((codes "source", count i.source) ∷ (codes "amount", count i.amount) ∷ [])
+source_amount_data i =
+    fields ((codes "source", count i.source) ∷ (codes "amount", count i.amount) ∷ [])
 
 abbrev pub account_fields : AccountItem → List (List ℕ × Data)
-account_fields i = (codes "fund", count i.fund) ∷ (codes "dept", count i.dept) ∷ (codes "object", count i.object) ∷ (codes "amount", count i.amount) ∷ []
+account_fields i = (codes "fund", count i.fund) ∷ (codes "dept", count i.dept)
+    ∷ (codes "object", count i.object) ∷ (codes "amount", count i.amount) ∷ []
 
 abbrev pub account_item_data : AccountItem → Data
 account_item_data i = fields (account_fields i)
@@ -37,7 +39,8 @@ liquidation_fields Final = (codes "final", boolean true) ∷ []
 -- a charge to the appropriation itself is not said
 abbrev pub charge_fields : Charge → List (List ℕ × Data)
 charge_fields Direct = []
-charge_fields (OnOrder item order how) = (codes "order", count order) ∷ (codes "item", count item) ∷ liquidation_fields how
+charge_fields (OnOrder item order how) =
+    (codes "order", count order) ∷ (codes "item", count item) ∷ liquidation_fields how
 
 abbrev pub voucher_item_data : VoucherItem → Data
 voucher_item_data i = fields (account_fields i.account ++ charge_fields i.charge)

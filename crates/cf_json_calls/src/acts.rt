@@ -25,7 +25,9 @@ use std::alloc::AllocError;
 /// Appends a further field that is a list.
 fn put_list_field<T: Item>(out: &mut Vec<u8>, name: &str, items: &[T]) -> Result<(), AllocError>
     requires { list_all is_plain name.now ≡ true }
-    ensures text { OnOk result (out.new.items ≡ out.old.items ++ fields_text true ((name.now, list_of T.value items.now) ∷ [])) }
+    ensures text { OnOk result
+        (out.new.items ≡ out.old.items
+        ++ fields_text true ((name.now, list_of T.value items.now) ∷ [])) }
     ensures fits { OnOk result (All T.fits items.now) }
 {
     put_name(out, name)?;
@@ -35,7 +37,8 @@ fn put_list_field<T: Item>(out: &mut Vec<u8>, name: &str, items: &[T]) -> Result
 /// Appends a further field that is a number.
 fn put_number_field(out: &mut Vec<u8>, name: &str, n: u64) -> Result<(), AllocError>
     requires { list_all is_plain name.now ≡ true }
-    ensures { OnOk result (out.new.items ≡ out.old.items ++ fields_text true (spec.number_field name.now n)) }
+    ensures { OnOk result
+        (out.new.items ≡ out.old.items ++ fields_text true (spec.number_field name.now n)) }
 {
     put_fields(out, true, &[(name, Number(n))])
 }
@@ -43,7 +46,8 @@ fn put_number_field(out: &mut Vec<u8>, name: &str, n: u64) -> Result<(), AllocEr
 /// Appends a further field that is a number, where there is one.
 fn put_optional_word(out: &mut Vec<u8>, name: &str, number: Option<u32>) -> Result<(), AllocError>
     requires { list_all is_plain name.now ≡ true }
-    ensures text { OnOk result (out.new.items ≡ out.old.items ++ fields_text true (spec.optional_field name.now number)) }
+    ensures text { OnOk result
+        (out.new.items ≡ out.old.items ++ fields_text true (spec.optional_field name.now number)) }
     ensures fits { HasFit IsN32 number }
 {
     match number {
@@ -54,7 +58,8 @@ fn put_optional_word(out: &mut Vec<u8>, name: &str, number: Option<u32>) -> Resu
 
 /// Appends that a voucher is of the fiscal year before, where it is.
 fn put_back(out: &mut Vec<u8>, back: bool) -> Result<(), AllocError>
-    ensures { OnOk result (out.new.items ≡ out.old.items ++ fields_text true (spec.back_field back)) }
+    ensures { OnOk result
+        (out.new.items ≡ out.old.items ++ fields_text true (spec.back_field back)) }
 {
     if back {
         put_fields(out, true, &[("back", True)])?;
@@ -64,7 +69,8 @@ fn put_back(out: &mut Vec<u8>, back: bool) -> Result<(), AllocError>
 
 /// Appends the fields of an adoption.
 fn put_adoption(out: &mut Vec<u8>, adoption: &Adoption) -> Result<(), AllocError>
-    ensures text { OnOk result (out.new.items ≡ out.old.items ++ fields_text true (spec.adoption_fields adoption.now)) }
+    ensures text { OnOk result
+        (out.new.items ≡ out.old.items ++ fields_text true (spec.adoption_fields adoption.now)) }
     ensures fits { OnOk result (ActFits (act.Adopt adoption.now)) }
 {
     put_fields(
@@ -81,7 +87,8 @@ fn put_adoption(out: &mut Vec<u8>, adoption: &Adoption) -> Result<(), AllocError
 
 /// Appends the fields of an amendment.
 fn put_amendment(out: &mut Vec<u8>, amendment: &Amendment) -> Result<(), AllocError>
-    ensures text { OnOk result (out.new.items ≡ out.old.items ++ fields_text true (spec.amendment_fields amendment.now)) }
+    ensures text { OnOk result
+        (out.new.items ≡ out.old.items ++ fields_text true (spec.amendment_fields amendment.now)) }
     ensures fits { OnOk result (ActFits (act.Amend amendment.now)) }
 {
     put_fields(
@@ -98,7 +105,8 @@ fn put_amendment(out: &mut Vec<u8>, amendment: &Amendment) -> Result<(), AllocEr
 
 /// Appends the fields of a transfer between lines.
 fn put_transfer(out: &mut Vec<u8>, transfer: &LineTransfer) -> Result<(), AllocError>
-    ensures text { OnOk result (out.new.items ≡ out.old.items ++ fields_text true (spec.transfer_fields transfer.now)) }
+    ensures text { OnOk result
+        (out.new.items ≡ out.old.items ++ fields_text true (spec.transfer_fields transfer.now)) }
     ensures fits { OnOk result (ActFits (act.Transfer transfer.now)) }
 {
     let LineTransfer {
@@ -123,7 +131,8 @@ fn put_transfer(out: &mut Vec<u8>, transfer: &LineTransfer) -> Result<(), AllocE
 
 /// Appends the fields of an order.
 fn put_order(out: &mut Vec<u8>, order: &NewOrder) -> Result<(), AllocError>
-    ensures text { OnOk result (out.new.items ≡ out.old.items ++ fields_text true (spec.order_fields order.now)) }
+    ensures text { OnOk result
+        (out.new.items ≡ out.old.items ++ fields_text true (spec.order_fields order.now)) }
     ensures fits { OnOk result (ActFits (act.Order order.now)) }
 {
     put_number_field(out, "vendor", order.vendor as u64)?;
@@ -133,7 +142,8 @@ fn put_order(out: &mut Vec<u8>, order: &NewOrder) -> Result<(), AllocError>
 
 /// Appends the fields of a change of an order.
 fn put_order_change(out: &mut Vec<u8>, change: &OrderChange) -> Result<(), AllocError>
-    ensures text { OnOk result (out.new.items ≡ out.old.items ++ fields_text true (spec.order_change_fields change.now)) }
+    ensures text { OnOk result
+        (out.new.items ≡ out.old.items ++ fields_text true (spec.order_change_fields change.now)) }
     ensures fits { OnOk result (ActFits (act.ChangeOrder change.now)) }
 {
     put_fields(
@@ -152,7 +162,8 @@ fn put_order_change(out: &mut Vec<u8>, change: &OrderChange) -> Result<(), Alloc
 
 /// Appends the fields of a voucher.
 fn put_voucher(out: &mut Vec<u8>, voucher: &NewVoucher) -> Result<(), AllocError>
-    ensures text { OnOk result (out.new.items ≡ out.old.items ++ fields_text true (spec.voucher_fields voucher.now)) }
+    ensures text { OnOk result
+        (out.new.items ≡ out.old.items ++ fields_text true (spec.voucher_fields voucher.now)) }
     ensures fits { OnOk result (ActFits (act.Voucher voucher.now)) }
 {
     put_number_field(out, "vendor", voucher.vendor as u64)?;
@@ -162,7 +173,8 @@ fn put_voucher(out: &mut Vec<u8>, voucher: &NewVoucher) -> Result<(), AllocError
 
 /// Appends the fields of a bill.
 fn put_bill(out: &mut Vec<u8>, bill: &NewBill) -> Result<(), AllocError>
-    ensures text { OnOk result (out.new.items ≡ out.old.items ++ fields_text true (spec.bill_fields bill.now)) }
+    ensures text { OnOk result
+        (out.new.items ≡ out.old.items ++ fields_text true (spec.bill_fields bill.now)) }
     ensures fits { OnOk result (ActFits (act.Bill bill.now)) }
 {
     let NewBill {
@@ -185,7 +197,8 @@ fn put_bill(out: &mut Vec<u8>, bill: &NewBill) -> Result<(), AllocError>
 
 /// Appends an amount of a bill.
 fn put_bill_amount(out: &mut Vec<u8>, settled: &BillAmount) -> Result<(), AllocError>
-    ensures text { OnOk result (out.new.items ≡ out.old.items ++ fields_text true (spec.bill_amount_fields settled.now)) }
+    ensures text { OnOk result
+        (out.new.items ≡ out.old.items ++ fields_text true (spec.bill_amount_fields settled.now)) }
     ensures fits { OnOk result (IsN32 settled.now.bill × IsN64 settled.now.amount) }
 {
     let BillAmount { bill, amount } = settled;
@@ -198,7 +211,8 @@ fn put_bill_amount(out: &mut Vec<u8>, settled: &BillAmount) -> Result<(), AllocE
 
 /// Appends the fields of a receipt.
 fn put_receipt(out: &mut Vec<u8>, receipt: &SourceAmount) -> Result<(), AllocError>
-    ensures text { OnOk result (out.new.items ≡ out.old.items ++ fields_text true (spec.receipt_fields receipt.now)) }
+    ensures text { OnOk result
+        (out.new.items ≡ out.old.items ++ fields_text true (spec.receipt_fields receipt.now)) }
     ensures fits { OnOk result (ActFits (act.Receive receipt.now)) }
 {
     let SourceAmount { source, amount } = receipt;
@@ -214,7 +228,8 @@ fn put_receipt(out: &mut Vec<u8>, receipt: &SourceAmount) -> Result<(), AllocErr
 
 /// Appends the fields of what is done with a capital asset.
 fn put_asset(out: &mut Vec<u8>, act: &AssetAct) -> Result<(), AllocError>
-    ensures text { OnOk result (out.new.items ≡ out.old.items ++ fields_text true (spec.asset_fields act.now)) }
+    ensures text { OnOk result
+        (out.new.items ≡ out.old.items ++ fields_text true (spec.asset_fields act.now)) }
     ensures fits { OnOk result (AssetFits act.now) }
 {
     match act {
@@ -255,7 +270,8 @@ fn put_asset(out: &mut Vec<u8>, act: &AssetAct) -> Result<(), AllocError>
 
 /// Appends the fields of a bond's issue.
 fn put_issue(out: &mut Vec<u8>, issue: &BondIssue) -> Result<(), AllocError>
-    ensures text { OnOk result (out.new.items ≡ out.old.items ++ fields_text true (spec.issue_fields issue.now)) }
+    ensures text { OnOk result
+        (out.new.items ≡ out.old.items ++ fields_text true (spec.issue_fields issue.now)) }
     ensures fits { OnOk result (ActFits (act.Issue issue.now)) }
 {
     let BondIssue {
@@ -280,7 +296,8 @@ fn put_issue(out: &mut Vec<u8>, issue: &BondIssue) -> Result<(), AllocError>
 
 /// Appends the fields of a payment of debt.
 fn put_debt_payment(out: &mut Vec<u8>, payment: &DebtPayment) -> Result<(), AllocError>
-    ensures text { OnOk result (out.new.items ≡ out.old.items ++ fields_text true (spec.debt_payment_fields payment.now)) }
+    ensures text { OnOk result
+        (out.new.items ≡ out.old.items ++ fields_text true (spec.debt_payment_fields payment.now)) }
     ensures fits { OnOk result (ActFits (act.PayDue payment.now)) }
 {
     put_fields(
@@ -299,8 +316,11 @@ fn put_debt_payment(out: &mut Vec<u8>, payment: &DebtPayment) -> Result<(), Allo
 /// Appends the fields of an amount of leave that is earned or used.
 fn put_leave_amount(out: &mut Vec<u8>, what: &str, leave: &LeaveAmount) -> Result<(), AllocError>
     requires { list_all is_plain what.now ≡ true }
-    ensures text { OnOk result (out.new.items ≡ out.old.items ++ fields_text true (spec.leave_amount_fields what.now leave.now)) }
-    ensures fits { OnOk result (IsN16 leave.now.fund × IsN16 leave.now.dept × IsN64 leave.now.amount) }
+    ensures text { OnOk result
+        (out.new.items ≡ out.old.items
+        ++ fields_text true (spec.leave_amount_fields what.now leave.now)) }
+    ensures fits { OnOk result
+        (IsN16 leave.now.fund × IsN16 leave.now.dept × IsN64 leave.now.amount) }
 {
     let LeaveAmount { fund, dept, amount } = leave;
     put_fields(
@@ -317,7 +337,8 @@ fn put_leave_amount(out: &mut Vec<u8>, what: &str, leave: &LeaveAmount) -> Resul
 
 /// Appends the fields of leave that is paid out.
 fn put_maturity(out: &mut Vec<u8>, maturity: &LeaveMaturity) -> Result<(), AllocError>
-    ensures text { OnOk result (out.new.items ≡ out.old.items ++ fields_text true (spec.maturity_fields maturity.now)) }
+    ensures text { OnOk result
+        (out.new.items ≡ out.old.items ++ fields_text true (spec.maturity_fields maturity.now)) }
     ensures fits { OnOk result (LeaveFits (leave.Mature maturity.now)) }
 {
     let LeaveMaturity {
@@ -341,7 +362,8 @@ fn put_maturity(out: &mut Vec<u8>, maturity: &LeaveMaturity) -> Result<(), Alloc
 
 /// Appends the fields of what is done with leave.
 fn put_leave(out: &mut Vec<u8>, act: &LeaveAct) -> Result<(), AllocError>
-    ensures text { OnOk result (out.new.items ≡ out.old.items ++ fields_text true (spec.leave_fields act.now)) }
+    ensures text { OnOk result
+        (out.new.items ≡ out.old.items ++ fields_text true (spec.leave_fields act.now)) }
     ensures fits { OnOk result (LeaveFits act.now) }
 {
     match act {
@@ -365,7 +387,8 @@ fn move_word(kind: FundMoveKind) -> &'static str
 
 /// Appends the fields of a movement of cash between funds.
 fn put_fund_move(out: &mut Vec<u8>, cash: &FundMove) -> Result<(), AllocError>
-    ensures text { OnOk result (out.new.items ≡ out.old.items ++ fields_text true (spec.fund_move_fields cash.now)) }
+    ensures text { OnOk result
+        (out.new.items ≡ out.old.items ++ fields_text true (spec.fund_move_fields cash.now)) }
     ensures fits { OnOk result (ActFits (act.Interfund cash.now)) }
 {
     let FundMove {
@@ -388,7 +411,8 @@ fn put_fund_move(out: &mut Vec<u8>, cash: &FundMove) -> Result<(), AllocError>
 
 /// Appends the fields of what is closed.
 fn put_period(out: &mut Vec<u8>, period: &Period) -> Result<(), AllocError>
-    ensures { OnOk result (out.new.items ≡ out.old.items ++ fields_text true (spec.period_fields period.now)) }
+    ensures { OnOk result
+        (out.new.items ≡ out.old.items ++ fields_text true (spec.period_fields period.now)) }
 {
     match period {
         Period::Month(month) => put_fields(
@@ -406,7 +430,8 @@ fn put_period(out: &mut Vec<u8>, period: &Period) -> Result<(), AllocError>
 
 /// Appends the fields of a lease.
 fn put_lease(out: &mut Vec<u8>, lease: &NewLease) -> Result<(), AllocError>
-    ensures text { OnOk result (out.new.items ≡ out.old.items ++ fields_text true (spec.lease_fields lease.now)) }
+    ensures text { OnOk result
+        (out.new.items ≡ out.old.items ++ fields_text true (spec.lease_fields lease.now)) }
     ensures fits { OnOk result (ActFits (act.Lease lease.now)) }
 {
     put_number_field(out, "vendor", lease.vendor as u64)?;
@@ -424,7 +449,8 @@ fn put_lease(out: &mut Vec<u8>, lease: &NewLease) -> Result<(), AllocError>
 
 /// Appends the fields of an act.
 pub fn put_own(out: &mut Vec<u8>, act: &Act) -> Result<(), AllocError>
-    ensures text { OnOk result (out.new.items ≡ out.old.items ++ fields_text true (spec.own_fields act.now)) }
+    ensures text { OnOk result
+        (out.new.items ≡ out.old.items ++ fields_text true (spec.own_fields act.now)) }
     ensures fits { OnOk result (ActFits act.now) }
 {
     match act {

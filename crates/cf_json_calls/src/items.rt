@@ -83,9 +83,11 @@ impl Item for AccountItem {
     }
 }
 
-/// Appends the fields of an account with its amount, behind a comma where others stand before them in their object.
+/// Appends the fields of an account with its amount, behind a comma where others stand before them
+/// in their object.
 pub fn put_account(out: &mut Vec<u8>, later: bool, account: &AccountItem) -> Result<(), AllocError>
-    ensures text { OnOk result (out.new.items ≡ out.old.items ++ fields_text later (spec.account_fields account.now)) }
+    ensures text { OnOk result
+        (out.new.items ≡ out.old.items ++ fields_text later (spec.account_fields account.now)) }
     ensures fits { OnOk result (AccountFits account.now) }
 {
     let AccountItem {
@@ -108,7 +110,8 @@ pub fn put_account(out: &mut Vec<u8>, later: bool, account: &AccountItem) -> Res
 
 /// Appends how much is liquidated, where it isn't the lesser amount.
 fn put_liquidation(out: &mut Vec<u8>, how: Liquidation) -> Result<(), AllocError>
-    ensures text { OnOk result (out.new.items ≡ out.old.items ++ fields_text true (spec.liquidation_fields how)) }
+    ensures text { OnOk result
+        (out.new.items ≡ out.old.items ++ fields_text true (spec.liquidation_fields how)) }
     ensures fits { OnOk result (LiquidationFits how) }
 {
     match how {
@@ -120,7 +123,8 @@ fn put_liquidation(out: &mut Vec<u8>, how: Liquidation) -> Result<(), AllocError
 
 /// Appends the order item that is charged, where one is.
 fn put_charge(out: &mut Vec<u8>, charge: Charge) -> Result<(), AllocError>
-    ensures text { OnOk result (out.new.items ≡ out.old.items ++ fields_text true (spec.charge_fields charge)) }
+    ensures text { OnOk result
+        (out.new.items ≡ out.old.items ++ fields_text true (spec.charge_fields charge)) }
     ensures fits { OnOk result (ChargeFits charge) }
 {
     match charge {
@@ -177,7 +181,8 @@ impl Item for u64 {
 
 /// Appends an item, after a comma where others stand before it.
 fn put_item<T: Item>(out: &mut Vec<u8>, later: bool, item: &T) -> Result<(), AllocError>
-    ensures text { OnOk result (out.new.items ≡ out.old.items ++ (comma_if later ++ text_of (T.value item.now))) }
+    ensures text { OnOk result
+        (out.new.items ≡ out.old.items ++ (comma_if later ++ text_of (T.value item.now))) }
     ensures fits { OnOk result (T.fits item.now) }
 {
     put_comma(out, later)?;
@@ -187,7 +192,8 @@ fn put_item<T: Item>(out: &mut Vec<u8>, later: bool, item: &T) -> Result<(), All
 /// Appends a list.
 #[tactic(auto, unfolding(cf_json_members::specs::Objects::text_of))]
 pub fn put_list<T: Item>(out: &mut Vec<u8>, items: &[T]) -> Result<(), AllocError>
-    ensures text { OnOk result (out.new.items ≡ out.old.items ++ text_of (list_of T.value items.now)) }
+    ensures text { OnOk result
+        (out.new.items ≡ out.old.items ++ text_of (list_of T.value items.now)) }
     ensures fits { OnOk result (All T.fits items.now) }
 {
     out.push(b'[')?;

@@ -27,7 +27,8 @@ pub fn call_word(act: &Act) -> &'static str
 /// Appends the fields that every changing call has.
 fn put_front(out: &mut Vec<u8>, change: &Change) -> Result<(), AllocError>
     requires { is_key change.now.key ≡ true }
-    ensures text { OnOk result (out.new.items ≡ out.old.items ++ fields_text false (spec.first_fields change.now)) }
+    ensures text { OnOk result
+        (out.new.items ≡ out.old.items ++ fields_text false (spec.first_fields change.now)) }
     ensures fits { OnOk result (IsN16 change.now.desk) }
 {
     put_fields(
@@ -44,7 +45,9 @@ fn put_front(out: &mut Vec<u8>, change: &Change) -> Result<(), AllocError>
 
 /// Appends the length of the history that the caller has seen, where the change states one.
 fn put_after(out: &mut Vec<u8>, after: Option<u64>) -> Result<(), AllocError>
-    ensures text { OnOk result (out.new.items ≡ out.old.items ++ fields_text true (spec.optional_field (codes "after") after)) }
+    ensures text { OnOk result
+        (out.new.items ≡ out.old.items
+        ++ fields_text true (spec.optional_field (codes "after") after)) }
     ensures fits { HasFit IsN64 after }
 {
     match after {
@@ -67,9 +70,9 @@ fn put_call(out: &mut Vec<u8>, change: &Change) -> Result<(), AllocError>
     Ok(())
 }
 
-/// Appends the line that a desk sends for a change, with no newline: compact, its fields in the order of the call, and
-/// a field that may be absent only where it says something. What is read of it is this change again. Where there is no
-/// memory a part of the line may be appended.
+/// Appends the line that a desk sends for a change, with no newline: compact, its fields in the
+/// order of the call, and a field that may be absent only where it says something. What is read of
+/// it is this change again. Where there is no memory a part of the line may be appended.
 pub fn write_call(change: &Change, out: &mut Vec<u8>) -> Result<(), AllocError>
     requires { IsChangeInForm change.now }
     ensures text { OnOk result (out.new.items ≡ out.old.items ++ call_text change.now) }

@@ -33,7 +33,8 @@ pub fn put_fields(
     fields: &[(&str, Part<'_>)],
 ) -> Result<(), AllocError>
     requires { list_all is_plain_field fields.now ≡ true }
-    ensures { OnOk result (out.new.items ≡ out.old.items ++ fields_text later (fields_of fields.now)) }
+    ensures { OnOk result
+        (out.new.items ≡ out.old.items ++ fields_text later (fields_of fields.now)) }
 {
     let mut later = later;
     for field in fields {
@@ -98,7 +99,8 @@ fn put_key(out: &mut Vec<u8>, key: &[u8]) -> Result<(), AllocError>
 pub fn put_key_field(out: &mut Vec<u8>, name: &str, key: &[u8]) -> Result<(), AllocError>
     requires name { list_all is_plain name.now ≡ true }
     requires key { list_all is_key_byte key.now ≡ true }
-    ensures { OnOk result (out.new.items ≡ out.old.items ++ fields_text true ((name.now, string key.now) ∷ [])) }
+    ensures { OnOk result
+        (out.new.items ≡ out.old.items ++ fields_text true ((name.now, string key.now) ∷ [])) }
 {
     put_name(out, name)?;
     put_key(out, key)
@@ -107,7 +109,8 @@ pub fn put_key_field(out: &mut Vec<u8>, name: &str, key: &[u8]) -> Result<(), Al
 /// Appends a further field that is a number which may be negative.
 pub fn put_signed_field(out: &mut Vec<u8>, name: &str, n: i64) -> Result<(), AllocError>
     requires { list_all is_plain name.now ≡ true }
-    ensures { OnOk result (out.new.items ≡ out.old.items ++ fields_text true ((name.now, signed n) ∷ [])) }
+    ensures { OnOk result
+        (out.new.items ≡ out.old.items ++ fields_text true ((name.now, signed n) ∷ [])) }
 {
     put_name(out, name)?;
     put_signed(out, n)

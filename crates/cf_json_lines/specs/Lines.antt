@@ -20,13 +20,16 @@ change_of h a = record { desk = h.desk; key = h.key; on = h.on; after = None; ac
 
 abbrev pub receipt_data : Hand → SourceAmount → Data
 receipt_data h r =
-    fields ((codes "amount", count r.amount) ∷ (codes "call", string (codes "receive")) ∷ (codes "desk", count h.desk) ∷ (codes "key", string h.key)
+    fields ((codes "amount", count r.amount) ∷ (codes "call", string (codes "receive"))
+    ∷ (codes "desk", count h.desk) ∷ (codes "key", string h.key)
     ∷ (codes "on", day h.on) ∷ (codes "source", count r.source) ∷ [])
 
 abbrev pub bill_data : Hand → NewBill → Data
 bill_data h b =
-    fields ((codes "amount", count b.amount) ∷ (codes "call", string (codes "bill")) ∷ (codes "desk", count h.desk) ∷ (codes "key", string h.key)
-    ∷ (codes "levy_year", count b.levy_year) ∷ (codes "on", day h.on) ∷ (codes "payer", count b.payer) ∷ (codes "source", count b.source) ∷ [])
+    fields ((codes "amount", count b.amount) ∷ (codes "call", string (codes "bill"))
+    ∷ (codes "desk", count h.desk) ∷ (codes "key", string h.key)
+    ∷ (codes "levy_year", count b.levy_year) ∷ (codes "on", day h.on)
+    ∷ (codes "payer", count b.payer) ∷ (codes "source", count b.source) ∷ [])
 
 -- a line ends with a newline
 abbrev pub receipt_line : Hand → SourceAmount → List ℕ

@@ -11,8 +11,8 @@ use cf_json_members::parts::Part::{Date, Number, Word};
 use cf_json_members::parts::put_object;
 use std::alloc::AllocError;
 
-/// Appends the line that a desk sends to receive an amount on a revenue source, with its newline. Where there is no memory a
-/// part of the line may be appended.
+/// Appends the line that a desk sends to receive an amount on a revenue source, with its newline.
+/// Where there is no memory a part of the line may be appended.
 pub fn put_receipt(
     out: &mut Vec<u8>,
     desk: u16,
@@ -21,7 +21,9 @@ pub fn put_receipt(
     receipt: SourceAmount,
 ) -> Result<(), AllocError>
     requires { list_all is_plain key.now ≡ true }
-    ensures { OnOk result (out.new.items ≡ out.old.items ++ receipt_line (record { desk = desk; key = key.now; on = on }) receipt) }
+    ensures { OnOk result
+        (out.new.items ≡ out.old.items
+        ++ receipt_line (record { desk = desk; key = key.now; on = on }) receipt) }
 {
     put_object(
         out,
@@ -38,8 +40,8 @@ pub fn put_receipt(
     Ok(())
 }
 
-/// Appends the line that a desk sends to bill a payer, with its newline. Where there is no memory a part of the line may be
-/// appended.
+/// Appends the line that a desk sends to bill a payer, with its newline. Where there is no memory a
+/// part of the line may be appended.
 pub fn put_bill(
     out: &mut Vec<u8>,
     desk: u16,
@@ -48,7 +50,9 @@ pub fn put_bill(
     bill: NewBill,
 ) -> Result<(), AllocError>
     requires { list_all is_plain key.now ≡ true }
-    ensures { OnOk result (out.new.items ≡ out.old.items ++ bill_line (record { desk = desk; key = key.now; on = on }) bill) }
+    ensures { OnOk result
+        (out.new.items ≡ out.old.items
+        ++ bill_line (record { desk = desk; key = key.now; on = on }) bill) }
 {
     put_object(
         out,

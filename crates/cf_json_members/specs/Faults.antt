@@ -7,7 +7,8 @@ use Rattle.cf_json_members.specs.declared.fault.CallRefused.TheVariants.{Form, N
 
 -- goes on with the value; the first fault speaks
 infixl 10 ◌>>=◌
-abbrev pub ◌>>=◌ : {A B : Type 0} → Result A FormFault → (A → Result B FormFault) → Result B FormFault
+abbrev pub ◌>>=◌ : {A B : Type 0} → Result A FormFault → (A → Result B FormFault)
+    → Result B FormFault
 (Ok a) >>= f = f a
 (Err e) >>= f = Err e
 

@@ -25,7 +25,8 @@ optional kind name d = or_fault (maybe kind (get name d)) (Fields name)
 
 -- a name of neither list
 abbrev pub is_stranger : List (List ℕ) → List (List ℕ) → List ℕ → Bool
-is_stranger shared own k = not (list_any (λ n. bytes_eq n k) shared || list_any (λ n. bytes_eq n k) own)
+is_stranger shared own k =
+    not (list_any (λ n. bytes_eq n k) shared || list_any (λ n. bytes_eq n k) own)
 
 abbrev pub names_in : Members → List (List ℕ)
 names_in no_members = []

@@ -49,4 +49,5 @@ text_of d = compact_text d
 
 -- the text of an object of two fields, up to the second one's value
 abbrev pub head_text : List ℕ → Data → List ℕ → List ℕ
-head_text first value second = 123 ∷ (quoted first ++ 58 ∷ (text_of value ++ 44 ∷ (quoted second ++ 58 ∷ [])))
+head_text first value second =
+    123 ∷ (quoted first ++ 58 ∷ (text_of value ++ 44 ∷ (quoted second ++ 58 ∷ [])))

@@ -12,8 +12,8 @@ pub enum FormFault {
     /// `call` is missing or isn't the word of a call.
     #[error("the line names no call")]
     Call,
-    /// The first field, in the order of its call, that is missing, of another type or against a rule of
-    /// form. Where there is none, the least name, by bytes, that the call doesn't have.
+    /// The first field, in the order of its call, that is missing, of another type or against a
+    /// rule of form. Where there is none, the least name, by bytes, that the call doesn't have.
     #[error("the field `{}` is missing or malformed", .name.as_str())]
     Fields { name: Label },
     /// The line is longer than a line may be.

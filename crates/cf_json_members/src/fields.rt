@@ -111,7 +111,8 @@ fn is_listed(names: &[&str], key: &str) -> bool
 
 #[tactic(auto, using(crate::proofs::Names::listed_names))]
 fn is_stranger(shared: &[&str], own: &[&str], key: &str) -> bool
-    ensures { result ≡ spec.is_stranger (map (λ n. n.now) shared.now) (map (λ n. n.now) own.now) key.now }
+    ensures { result ≡ spec.is_stranger (map (λ n. n.now) shared.now)
+        (map (λ n. n.now) own.now) key.now }
 {
     !(is_listed(shared, key) || is_listed(own, key))
 }
@@ -123,7 +124,8 @@ fn strange_key<'a>(
     own: &[&str],
 ) -> Option<&'a String>
     ensures found { option_map (λ k. k.now) result
-        ≡ find (λ k. spec.is_stranger (map (λ n. n.now) shared.now) (map (λ n. n.now) own.now) (string_bytes k)) (keys fields.now) }
+        ≡ find (λ k. spec.is_stranger (map (λ n. n.now) shared.now) (map (λ n. n.now) own.now)
+        (string_bytes k)) (keys fields.now) }
     ensures ordered { IsStrictlySortedBy string_cmp (keys fields.now) }
 {
     fields
@@ -151,7 +153,8 @@ pub fn has_only(value: &Value, names: &[&str]) -> bool
 
 /// Refuses a field that neither list has.
 pub fn only(alloc: Global, value: &Value, shared: &[&str], own: &[&str]) -> Result<(), CallRefused>
-    ensures { Gives result (spec.only (map (λ n. n.now) shared.now) (map (λ n. n.now) own.now) (view value.now)) }
+    ensures { Gives result
+        (spec.only (map (λ n. n.now) shared.now) (map (λ n. n.now) own.now) (view value.now)) }
 {
     match stranger(value, shared, own) {
         None => Ok(()),

@@ -1,4 +1,5 @@
-//! The members of JSON objects: reading them one by one, each by its kind, lists of them, and writing them.
+//! The members of JSON objects: reading them one by one, each by its kind, lists of them, and
+//! writing them.
 #![tactic(auto)]
 
 mod fault;

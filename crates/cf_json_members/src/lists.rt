@@ -35,7 +35,8 @@ pub trait Item: FieldKind {
 
 /// The items of the values, or `None` where one of them is no item.
 fn read_all<T: Item>(alloc: Global, values: &[Value]) -> Result<Option<Vec<T::Out>>, AllocError>
-    ensures answer { IfOk result (λ o. option_map (λ v. v.items) o ≡ each T.FieldKind.kind (items_view values.now)) }
+    ensures answer { IfOk result
+        (λ o. option_map (λ v. v.items) o ≡ each T.FieldKind.kind (items_view values.now)) }
     ensures form { IfOk result (λ o. IfSome o (λ v. All T.FieldKind.fits v.items)) }
 {
     let mut items = Vec::with_capacity(alloc, values.len())?;
@@ -65,7 +66,9 @@ fn is_list<T: Item>(
     least: usize,
     most: usize,
 ) -> Result<bool, AllocError>
-    ensures { IfOk result (λ b. b ≡ (nat_le least (length items.now) && nat_le (length items.now) most && is_distinct T.clash items.now)) }
+    ensures { IfOk result
+        (λ b. b ≡ (nat_le least (length items.now) && nat_le (length items.now) most
+        && is_distinct T.clash items.now)) }
 {
     let count = items.len();
     if count < least || most < count {
@@ -82,7 +85,8 @@ pub fn list<T: Item>(
     least: usize,
     most: usize,
 ) -> Result<List<T::Out>, CallRefused>
-    ensures answer { Gives result (field (as_list T.FieldKind.kind T.clash least most) name.now (view value.now)) }
+    ensures answer { Gives result
+        (field (as_list T.FieldKind.kind T.clash least most) name.now (view value.now)) }
     ensures form { IfOk result (IsListOf T.FieldKind.fits T.clash least most) }
 {
     let Some(values) = value.get(name).and_then(Value::as_array) else {

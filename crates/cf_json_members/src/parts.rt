@@ -100,9 +100,12 @@ fn put_part(out: &mut Vec<u8>, part: &Part<'_>) -> Result<(), AllocError>
 pub fn put_field(out: &mut Vec<u8>, name: &str, part: &Part<'_>) -> Result<(), AllocError>
     requires name { list_all is_plain name.now ≡ true }
     requires part { is_plain_part part.now ≡ true }
-    ensures text { OnOk result (out.new.items ≡ out.old.items ++ (quoted name.now ++ 58 ∷ text_of (part_data part.now))) }
-    ensures longer { vec_len out.new ≤ vec_len out.old + (length name.now + part_room part.now + 3) }
-    ensures room { vec_len out.old + (length name.now + part_room part.now + 3) ≤ vec_capacity out.old → IsOk result }
+    ensures text { OnOk result
+        (out.new.items ≡ out.old.items ++ (quoted name.now ++ 58 ∷ text_of (part_data part.now))) }
+    ensures longer { vec_len out.new
+        ≤ vec_len out.old + (length name.now + part_room part.now + 3) }
+    ensures room { vec_len out.old + (length name.now + part_room part.now + 3)
+        ≤ vec_capacity out.old → IsOk result }
     ensures capacity { vec_capacity out.old ≤ vec_capacity out.new }
 {
     put_quoted(out, name.as_bytes())?;
@@ -120,9 +123,13 @@ fn put_next_field(
 ) -> Result<(), AllocError>
     requires name { list_all is_plain name.now ≡ true }
     requires part { is_plain_part part.now ≡ true }
-    ensures text { OnOk result (out.new.items ≡ out.old.items ++ (comma_if later ++ (quoted name.now ++ 58 ∷ text_of (part_data part.now)))) }
-    ensures longer { vec_len out.new ≤ vec_len out.old + (length name.now + part_room part.now + 4) }
-    ensures room { vec_len out.old + (length name.now + part_room part.now + 4) ≤ vec_capacity out.old → IsOk result }
+    ensures text { OnOk result
+        (out.new.items ≡ out.old.items
+        ++ (comma_if later ++ (quoted name.now ++ 58 ∷ text_of (part_data part.now)))) }
+    ensures longer { vec_len out.new
+        ≤ vec_len out.old + (length name.now + part_room part.now + 4) }
+    ensures room { vec_len out.old + (length name.now + part_room part.now + 4)
+        ≤ vec_capacity out.old → IsOk result }
     ensures capacity { vec_capacity out.old ≤ vec_capacity out.new }
 {
     if later {
@@ -135,9 +142,11 @@ fn put_next_field(
 #[tactic(auto, unfolding(crate::specs::Objects::text_of))]
 pub fn put_object(out: &mut Vec<u8>, fields: &[(&str, Part<'_>)]) -> Result<(), AllocError>
     requires { list_all is_plain_field fields.now ≡ true }
-    ensures text { OnOk result (out.new.items ≡ out.old.items ++ text_of (object_of (fields_of fields.now))) }
+    ensures text { OnOk result
+        (out.new.items ≡ out.old.items ++ text_of (object_of (fields_of fields.now))) }
     ensures longer { vec_len out.new ≤ vec_len out.old + (fields_room fields.now + 2) }
-    ensures room { vec_len out.old + (fields_room fields.now + 2) ≤ vec_capacity out.old → IsOk result }
+    ensures room { vec_len out.old + (fields_room fields.now + 2) ≤ vec_capacity out.old
+        → IsOk result }
     ensures capacity { vec_capacity out.old ≤ vec_capacity out.new }
 {
     out.push(b'{')?;
@@ -161,9 +170,12 @@ pub fn put_head(
     requires first { list_all is_plain first.now ≡ true }
     requires part { is_plain_part part.now ≡ true }
     requires second { list_all is_plain second.now ≡ true }
-    ensures text { OnOk result (out.new.items ≡ out.old.items ++ head_text first.now (part_data part.now) second.now) }
-    ensures longer { vec_len out.new ≤ vec_len out.old + (length first.now + part_room part.now + length second.now + 8) }
-    ensures room { vec_len out.old + (length first.now + part_room part.now + length second.now + 8) ≤ vec_capacity out.old → IsOk result }
+    ensures text { OnOk result
+        (out.new.items ≡ out.old.items ++ head_text first.now (part_data part.now) second.now) }
+    ensures longer { vec_len out.new
+        ≤ vec_len out.old + (length first.now + part_room part.now + length second.now + 8) }
+    ensures room { vec_len out.old + (length first.now + part_room part.now + length second.now + 8)
+        ≤ vec_capacity out.old → IsOk result }
     ensures capacity { vec_capacity out.old ≤ vec_capacity out.new }
 {
     out.push(b'{')?;
@@ -190,7 +202,8 @@ fn put_next_number(out: &mut Vec<u8>, later: bool, n: u64) -> Result<(), AllocEr
 /// Appends `count` numbers from `first` on, as an array.
 #[tactic(auto, unfolding(crate::specs::Objects::text_of))]
 pub fn put_numbers(out: &mut Vec<u8>, first: u32, count: u16) -> Result<(), AllocError>
-    ensures text { OnOk result (out.new.items ≡ out.old.items ++ text_of (array (numbers_from first count))) }
+    ensures text { OnOk result
+        (out.new.items ≡ out.old.items ++ text_of (array (numbers_from first count))) }
     ensures longer { vec_len out.new ≤ vec_len out.old + (21 * count + 2) }
     ensures room { vec_len out.old + (21 * count + 2) ≤ vec_capacity out.old → IsOk result }
     ensures capacity { vec_capacity out.old ≤ vec_capacity out.new }

@@ -76,30 +76,42 @@ named r = (codes "name", string (name_of r))
 -- the fields of a refusal, in the order of their names, with these two among them
 abbrev pub fields_of : List ℕ × Data → List ℕ × Data → Refusal → List (List ℕ × Data)
 fields_of code name (DeskUnknown desk) = code ∷ (codes "desk", count desk) ∷ name ∷ []
-fields_of code name (Ahead after len) = (codes "after", count after) ∷ code ∷ (codes "length", count len) ∷ name ∷ []
+fields_of code name (Ahead after len) =
+    (codes "after", count after) ∷ code ∷ (codes "length", count len) ∷ name ∷ []
 fields_of code name (KeyReused was) = code ∷ name ∷ (codes "was", count was) ∷ []
 fields_of code name (NotThisDesk r) = code ∷ name ∷ (codes "role", string (role_word r)) ∷ []
 fields_of code name (HistoryFull limit) = code ∷ (codes "limit", count limit) ∷ name ∷ []
 fields_of code name (AmountRange amount) = (codes "amount", cents amount) ∷ code ∷ name ∷ []
-fields_of code name (UnknownName kind id) = code ∷ (codes "id", count id) ∷ (codes "kind", string (name_word kind)) ∷ name ∷ []
+fields_of code name (UnknownName kind id) =
+    code ∷ (codes "id", count id) ∷ (codes "kind", string (name_word kind)) ∷ name ∷ []
 fields_of code name (PeriodClosed m) = code ∷ (codes "month", month m) ∷ name ∷ []
 fields_of code name (YearNotOpen year) = code ∷ name ∷ (codes "year", count year) ∷ []
 fields_of code name (YearClosed year) = code ∷ name ∷ (codes "year", count year) ∷ []
 fields_of code name (Adopted was) = code ∷ name ∷ (codes "was", count was) ∷ []
-fields_of code name (NotAdopted fund year) = code ∷ (codes "fund", count fund) ∷ name ∷ (codes "year", count year) ∷ []
-fields_of code name (DocState kind number state) = code ∷ (codes "kind", string (document_word kind)) ∷ name ∷ (codes "number", count number) ∷ (codes "state", string (state_word state)) ∷ []
+fields_of code name (NotAdopted fund year) =
+    code ∷ (codes "fund", count fund) ∷ name ∷ (codes "year", count year) ∷ []
+fields_of code name (DocState kind number state) =
+    code ∷ (codes "kind", string (document_word kind)) ∷ name ∷ (codes "number", count number)
+    ∷ (codes "state", string (state_word state)) ∷ []
 fields_of code name (SameHand desk) = code ∷ (codes "desk", count desk) ∷ name ∷ []
-fields_of code name (NotOnOrder order place) = code ∷ (codes "item", count place) ∷ name ∷ (codes "order", count order) ∷ []
+fields_of code name (NotOnOrder order place) =
+    code ∷ (codes "item", count place) ∷ name ∷ (codes "order", count order) ∷ []
 fields_of code name (OverOpen open_cents) = code ∷ name ∷ (codes "open", cents open_cents) ∷ []
 fields_of code name (OverReceivable left) = code ∷ (codes "left", cents left) ∷ name ∷ []
-fields_of code name (AssetState asset state) = (codes "asset", count asset) ∷ code ∷ name ∷ (codes "state", string (fault_word state)) ∷ []
+fields_of code name (AssetState asset state) =
+    (codes "asset", count asset) ∷ code ∷ name ∷ (codes "state", string (fault_word state)) ∷ []
 fields_of code name (NotDue next) = code ∷ name ∷ (codes "next", day next) ∷ []
 fields_of code name (LeaveShort left) = code ∷ (codes "left", cents left) ∷ name ∷ []
 fields_of code name (MonthOrder next) = code ∷ name ∷ (codes "next", month next) ∷ []
-fields_of code name (DebtDue bond d) = (codes "bond", count bond) ∷ code ∷ (codes "day", day d) ∷ name ∷ []
+fields_of code name (DebtDue bond d) =
+    (codes "bond", count bond) ∷ code ∷ (codes "day", day d) ∷ name ∷ []
 fields_of code name (WindowOpen m) = code ∷ (codes "month", month m) ∷ name ∷ []
-fields_of code name (Exceeds line asked room) = (codes "asked", signed_cents asked) ∷ code ∷ (codes "line", count line) ∷ name ∷ (codes "room", signed_cents room) ∷ []
-fields_of code name (CashShort fund cash asked) = (codes "asked", signed_cents asked) ∷ (codes "cash", signed_cents cash) ∷ code ∷ (codes "fund", count fund) ∷ name ∷ []
+fields_of code name (Exceeds line asked room) =
+    (codes "asked", signed_cents asked) ∷ code ∷ (codes "line", count line) ∷ name
+    ∷ (codes "room", signed_cents room) ∷ []
+fields_of code name (CashShort fund cash asked) =
+    (codes "asked", signed_cents asked) ∷ (codes "cash", signed_cents cash) ∷ code
+    ∷ (codes "fund", count fund) ∷ name ∷ []
 
 abbrev pub refusal_data : Refusal → Data
 refusal_data r = fields (fields_of (numbered r) (named r) r)

@@ -19,13 +19,17 @@ abbrev pub made_data : Made → Data
 made_data Nothing = fields []
 made_data (Requisition number) = fields ((codes "requisition", count number) ∷ [])
 made_data (Order number) = fields ((codes "order", count number) ∷ [])
-made_data (Voucher number first_asset assets) = fields ((codes "assets", array (numbers_from first_asset assets)) ∷ (codes "voucher", count number) ∷ [])
+made_data (Voucher number first_asset assets) =
+    fields ((codes "assets", array (numbers_from first_asset assets))
+    ∷ (codes "voucher", count number) ∷ [])
 made_data (Bill number) = fields ((codes "bill", count number) ∷ [])
 made_data (Year year) = fields ((codes "year", count year) ∷ [])
 made_data (Asset number) = fields ((codes "asset", count number) ∷ [])
 made_data (Bond number) = fields ((codes "bond", count number) ∷ [])
-made_data (Lease asset bond) = fields ((codes "asset", count asset) ∷ (codes "bond", count bond) ∷ [])
-made_data (Paid interest principal) = fields ((codes "interest", cents interest) ∷ (codes "principal", cents principal) ∷ [])
+made_data (Lease asset bond) =
+    fields ((codes "asset", count asset) ∷ (codes "bond", count bond) ∷ [])
+made_data (Paid interest principal) =
+    fields ((codes "interest", cents interest) ∷ (codes "principal", cents principal) ∷ [])
 
 -- how many assets a result lists
 abbrev pub assets_of : Made → ℕ
@@ -72,7 +76,8 @@ IsBrief posted.NoMemory = ⊤
 abbrev pub form_fields : FormFault → List (List ℕ × Data)
 form_fields fault.Json = (codes "form", string (codes "json")) ∷ []
 form_fields fault.Call = (codes "form", string (codes "call")) ∷ []
-form_fields (fault.Fields name) = (codes "form", string (codes "fields")) ∷ (codes "name", string name) ∷ []
+form_fields (fault.Fields name) =
+    (codes "form", string (codes "fields")) ∷ (codes "name", string name) ∷ []
 form_fields fault.Long = (codes "form", string (codes "long")) ∷ []
 
 -- the text that answers a line that is no call

@@ -26,7 +26,8 @@ pub fn quoted(alloc: Global, text: &str) -> Result<String, AllocError>
 fn write_word(out: &mut Vec<u8>, word: &str) -> Result<(), AllocError>
     requires plain { list_all is_plain word.now ≡ true }
     requires short { length word.now ≤ 100 }
-    ensures text { OnOk result (out.new.items ≡ out.old.items ++ text_of (fields ((codes "form", string word.now) ∷ []))) }
+    ensures text { OnOk result
+        (out.new.items ≡ out.old.items ++ text_of (fields ((codes "form", string word.now) ∷ []))) }
     ensures room { vec_len out.old + 1024 ≤ vec_capacity out.old → IsOk result }
     ensures err { OnErr result (out.new.items ≡ out.old.items) }
     ensures capacity { vec_capacity out.old ≤ vec_capacity out.new }
@@ -39,7 +40,10 @@ fn write_word(out: &mut Vec<u8>, word: &str) -> Result<(), AllocError>
 /// Appends the form reply that names a field, whose name is already JSON.
 #[tactic(auto, unfolding(cf_json_members::specs::Objects::text_of))]
 fn put_name(out: &mut Vec<u8>, json: &str) -> Result<(), AllocError>
-    ensures text { OnOk result (out.new.items ≡ out.old.items ++ (head_text (codes "form") (string (codes "fields")) (codes "name") ++ (json.now ++ 125 ∷ []))) }
+    ensures text { OnOk result
+        (out.new.items ≡ out.old.items
+        ++ (head_text (codes "form") (string (codes "fields")) (codes "name")
+        ++ (json.now ++ 125 ∷ []))) }
     ensures longer { vec_len out.new ≤ vec_len out.old + (length json.now + 32) }
     ensures room { vec_len out.old + (length json.now + 32) ≤ vec_capacity out.old → IsOk result }
     ensures capacity { vec_capacity out.old ≤ vec_capacity out.new }
@@ -53,7 +57,10 @@ fn put_name(out: &mut Vec<u8>, json: &str) -> Result<(), AllocError>
 /// Appends the form reply that names a field, and keeps room for one byte more.
 #[tactic(auto, unfolding(cf_json_members::specs::Objects::text_of))]
 fn write_fields(alloc: Global, name: &str, out: &mut Vec<u8>) -> Result<(), AllocError>
-    ensures text { OnOk result (out.new.items ≡ out.old.items ++ text_of (fields ((codes "form", string (codes "fields")) ∷ (codes "name", string name.now) ∷ []))) }
+    ensures text { OnOk result
+        (out.new.items ≡ out.old.items
+        ++ text_of (fields ((codes "form", string (codes "fields"))
+        ∷ (codes "name", string name.now) ∷ []))) }
     ensures err { OnErr result (out.new.items ≡ out.old.items) }
     ensures capacity { vec_capacity out.old ≤ vec_capacity out.new }
     ensures newline { OnOk result (vec_len out.new + 1 ≤ vec_capacity out.new) }
@@ -63,11 +70,12 @@ fn write_fields(alloc: Global, name: &str, out: &mut Vec<u8>) -> Result<(), Allo
     put_name(out, json.as_str())
 }
 
-/// Appends the form reply of a fault, and keeps room for one byte more. Where there is no memory `out`
-/// stays. A name takes memory; the other faults take none where 1,024 bytes are free.
+/// Appends the form reply of a fault, and keeps room for one byte more. Where there is no memory
+/// `out` stays. A name takes memory; the other faults take none where 1,024 bytes are free.
 pub fn write_form(alloc: Global, fault: &FormFault, out: &mut Vec<u8>) -> Result<(), AllocError>
     ensures text { OnOk result (out.new.items ≡ out.old.items ++ spec.form_text fault.now) }
-    ensures room { vec_len out.old + 1024 ≤ vec_capacity out.old → spec.IsNameless fault.now → IsOk result }
+    ensures room { vec_len out.old + 1024 ≤ vec_capacity out.old → spec.IsNameless fault.now
+        → IsOk result }
     ensures err { OnErr result (out.new.items ≡ out.old.items) }
     ensures capacity { vec_capacity out.old ≤ vec_capacity out.new }
     ensures newline { OnOk result (vec_len out.new + 1 ≤ vec_capacity out.new) }

@@ -11,8 +11,10 @@ use cf_calls::{Body, Posted, Reply};
 use std::alloc::{AllocError, Global};
 
 fn write_reply(alloc: Global, reply: &Reply, out: &mut Vec<u8>) -> Result<(), AllocError>
-    ensures text { OnOk result (out.new.items ≡ out.old.items ++ text_of (spec.reply_data reply.now)) }
-    ensures room { vec_len out.old + 1024 ≤ vec_capacity out.old → spec.IsBriefBody reply.now.body → IsOk result }
+    ensures text { OnOk result
+        (out.new.items ≡ out.old.items ++ text_of (spec.reply_data reply.now)) }
+    ensures room { vec_len out.old + 1024 ≤ vec_capacity out.old → spec.IsBriefBody reply.now.body
+        → IsOk result }
     ensures err { OnErr result (out.new.items ≡ out.old.items) }
     ensures capacity { vec_capacity out.old ≤ vec_capacity out.new }
     ensures newline { OnOk result (vec_len out.new + 1 ≤ vec_capacity out.new) }
@@ -24,12 +26,13 @@ fn write_reply(alloc: Global, reply: &Reply, out: &mut Vec<u8>) -> Result<(), Al
     }
 }
 
-/// Appends the text that answers a call, and keeps room for one byte more, such as a newline. Where there
-/// is no memory `out` stays. The answer of a look takes memory. Every other one takes none where 1,024
-/// bytes are free, since a voucher has at most 32 items and so at most 32 assets.
+/// Appends the text that answers a call, and keeps room for one byte more, such as a newline. Where
+/// there is no memory `out` stays. The answer of a look takes memory. Every other one takes none
+/// where 1,024 bytes are free, since a voucher has at most 32 items and so at most 32 assets.
 pub fn write_posted(alloc: Global, posted: &Posted, out: &mut Vec<u8>) -> Result<(), AllocError>
     ensures text { OnOk result (out.new.items ≡ out.old.items ++ spec.text posted.now) }
-    ensures room { vec_len out.old + 1024 ≤ vec_capacity out.old → IsBrief posted.now → IsOk result }
+    ensures room { vec_len out.old + 1024 ≤ vec_capacity out.old → IsBrief posted.now
+        → IsOk result }
     ensures err { OnErr result (out.new.items ≡ out.old.items) }
     ensures capacity { vec_capacity out.old ≤ vec_capacity out.new }
     ensures newline { OnOk result (vec_len out.new + 1 ≤ vec_capacity out.new) }

@@ -122,9 +122,14 @@ fn put_middle<'a>(
 ) -> Result<(), AllocError>
     requires field { list_all is_plain field.now ≡ true }
     requires part { is_plain_part part.now ≡ true }
-    ensures text { OnOk result (out.new.items ≡ out.old.items ++ text_of (fields (spec.numbered refusal.now ∷ (field.now, part_data part.now) ∷ spec.named refusal.now ∷ []))) }
-    ensures longer { vec_len out.new ≤ vec_len out.old + (length field.now + part_room part.now + 78) }
-    ensures room { vec_len out.old + (length field.now + part_room part.now + 78) ≤ vec_capacity out.old → IsOk result }
+    ensures text { OnOk result
+        (out.new.items ≡ out.old.items
+        ++ text_of (fields (spec.numbered refusal.now ∷ (field.now, part_data part.now)
+        ∷ spec.named refusal.now ∷ []))) }
+    ensures longer { vec_len out.new
+        ≤ vec_len out.old + (length field.now + part_room part.now + 78) }
+    ensures room { vec_len out.old + (length field.now + part_room part.now + 78)
+        ≤ vec_capacity out.old → IsOk result }
     ensures capacity { vec_capacity out.old ≤ vec_capacity out.new }
 {
     put_object(
@@ -146,9 +151,14 @@ fn put_last<'a>(
 ) -> Result<(), AllocError>
     requires field { list_all is_plain field.now ≡ true }
     requires part { is_plain_part part.now ≡ true }
-    ensures text { OnOk result (out.new.items ≡ out.old.items ++ text_of (fields (spec.numbered refusal.now ∷ spec.named refusal.now ∷ (field.now, part_data part.now) ∷ []))) }
-    ensures longer { vec_len out.new ≤ vec_len out.old + (length field.now + part_room part.now + 78) }
-    ensures room { vec_len out.old + (length field.now + part_room part.now + 78) ≤ vec_capacity out.old → IsOk result }
+    ensures text { OnOk result
+        (out.new.items ≡ out.old.items
+        ++ text_of (fields (spec.numbered refusal.now ∷ spec.named refusal.now
+        ∷ (field.now, part_data part.now) ∷ []))) }
+    ensures longer { vec_len out.new
+        ≤ vec_len out.old + (length field.now + part_room part.now + 78) }
+    ensures room { vec_len out.old + (length field.now + part_room part.now + 78)
+        ≤ vec_capacity out.old → IsOk result }
     ensures capacity { vec_capacity out.old ≤ vec_capacity out.new }
 {
     put_object(
@@ -162,7 +172,8 @@ fn put_last<'a>(
 }
 
 fn put_ahead(out: &mut Vec<u8>, after: u64, seen: u64) -> Result<(), AllocError>
-    ensures text { OnOk result (out.new.items ≡ out.old.items ++ text_of (spec.refusal_data (refused.Ahead after seen))) }
+    ensures text { OnOk result
+        (out.new.items ≡ out.old.items ++ text_of (spec.refusal_data (refused.Ahead after seen))) }
     ensures longer { vec_len out.new ≤ vec_len out.old + 256 }
     ensures room { vec_len out.old + 256 ≤ vec_capacity out.old → IsOk result }
     ensures capacity { vec_capacity out.old ≤ vec_capacity out.new }
@@ -183,7 +194,9 @@ fn put_ahead(out: &mut Vec<u8>, after: u64, seen: u64) -> Result<(), AllocError>
 }
 
 fn put_amount_range(out: &mut Vec<u8>, amount: u64) -> Result<(), AllocError>
-    ensures text { OnOk result (out.new.items ≡ out.old.items ++ text_of (spec.refusal_data (refused.AmountRange amount))) }
+    ensures text { OnOk result
+        (out.new.items ≡ out.old.items
+        ++ text_of (spec.refusal_data (refused.AmountRange amount))) }
     ensures longer { vec_len out.new ≤ vec_len out.old + 256 }
     ensures room { vec_len out.old + 256 ≤ vec_capacity out.old → IsOk result }
     ensures capacity { vec_capacity out.old ≤ vec_capacity out.new }
@@ -200,7 +213,9 @@ fn put_amount_range(out: &mut Vec<u8>, amount: u64) -> Result<(), AllocError>
 }
 
 fn put_unknown_name(out: &mut Vec<u8>, kind: NameKind, id: u32) -> Result<(), AllocError>
-    ensures text { OnOk result (out.new.items ≡ out.old.items ++ text_of (spec.refusal_data (refused.UnknownName kind id))) }
+    ensures text { OnOk result
+        (out.new.items ≡ out.old.items
+        ++ text_of (spec.refusal_data (refused.UnknownName kind id))) }
     ensures longer { vec_len out.new ≤ vec_len out.old + 256 }
     ensures room { vec_len out.old + 256 ≤ vec_capacity out.old → IsOk result }
     ensures capacity { vec_capacity out.old ≤ vec_capacity out.new }
@@ -218,7 +233,9 @@ fn put_unknown_name(out: &mut Vec<u8>, kind: NameKind, id: u32) -> Result<(), Al
 }
 
 fn put_not_adopted(out: &mut Vec<u8>, fund: u16, year: u16) -> Result<(), AllocError>
-    ensures text { OnOk result (out.new.items ≡ out.old.items ++ text_of (spec.refusal_data (refused.NotAdopted fund year))) }
+    ensures text { OnOk result
+        (out.new.items ≡ out.old.items
+        ++ text_of (spec.refusal_data (refused.NotAdopted fund year))) }
     ensures longer { vec_len out.new ≤ vec_len out.old + 256 }
     ensures room { vec_len out.old + 256 ≤ vec_capacity out.old → IsOk result }
     ensures capacity { vec_capacity out.old ≤ vec_capacity out.new }
@@ -241,7 +258,9 @@ fn put_document_state(
     number: u32,
     state: DocumentState,
 ) -> Result<(), AllocError>
-    ensures text { OnOk result (out.new.items ≡ out.old.items ++ text_of (spec.refusal_data (refused.DocState kind number state))) }
+    ensures text { OnOk result
+        (out.new.items ≡ out.old.items
+        ++ text_of (spec.refusal_data (refused.DocState kind number state))) }
     ensures longer { vec_len out.new ≤ vec_len out.old + 256 }
     ensures room { vec_len out.old + 256 ≤ vec_capacity out.old → IsOk result }
     ensures capacity { vec_capacity out.old ≤ vec_capacity out.new }
@@ -264,7 +283,9 @@ fn put_document_state(
 }
 
 fn put_not_on_order(out: &mut Vec<u8>, order: u32, item: u16) -> Result<(), AllocError>
-    ensures text { OnOk result (out.new.items ≡ out.old.items ++ text_of (spec.refusal_data (refused.NotOnOrder order item))) }
+    ensures text { OnOk result
+        (out.new.items ≡ out.old.items
+        ++ text_of (spec.refusal_data (refused.NotOnOrder order item))) }
     ensures longer { vec_len out.new ≤ vec_len out.old + 256 }
     ensures room { vec_len out.old + 256 ≤ vec_capacity out.old → IsOk result }
     ensures capacity { vec_capacity out.old ≤ vec_capacity out.new }
@@ -282,7 +303,9 @@ fn put_not_on_order(out: &mut Vec<u8>, order: u32, item: u16) -> Result<(), Allo
 }
 
 fn put_asset_state(out: &mut Vec<u8>, asset: u32, state: AssetFault) -> Result<(), AllocError>
-    ensures text { OnOk result (out.new.items ≡ out.old.items ++ text_of (spec.refusal_data (refused.AssetState asset state))) }
+    ensures text { OnOk result
+        (out.new.items ≡ out.old.items
+        ++ text_of (spec.refusal_data (refused.AssetState asset state))) }
     ensures longer { vec_len out.new ≤ vec_len out.old + 256 }
     ensures room { vec_len out.old + 256 ≤ vec_capacity out.old → IsOk result }
     ensures capacity { vec_capacity out.old ≤ vec_capacity out.new }
@@ -300,7 +323,8 @@ fn put_asset_state(out: &mut Vec<u8>, asset: u32, state: AssetFault) -> Result<(
 }
 
 fn put_debt_due(out: &mut Vec<u8>, bond: u32, day: Day) -> Result<(), AllocError>
-    ensures text { OnOk result (out.new.items ≡ out.old.items ++ text_of (spec.refusal_data (refused.DebtDue bond day))) }
+    ensures text { OnOk result
+        (out.new.items ≡ out.old.items ++ text_of (spec.refusal_data (refused.DebtDue bond day))) }
     ensures longer { vec_len out.new ≤ vec_len out.old + 256 }
     ensures room { vec_len out.old + 256 ≤ vec_capacity out.old → IsOk result }
     ensures capacity { vec_capacity out.old ≤ vec_capacity out.new }
@@ -318,7 +342,9 @@ fn put_debt_due(out: &mut Vec<u8>, bond: u32, day: Day) -> Result<(), AllocError
 }
 
 fn put_exceeds(out: &mut Vec<u8>, line: u16, asked: i128, room: i128) -> Result<(), AllocError>
-    ensures text { OnOk result (out.new.items ≡ out.old.items ++ text_of (spec.refusal_data (refused.Exceeds line asked room))) }
+    ensures text { OnOk result
+        (out.new.items ≡ out.old.items
+        ++ text_of (spec.refusal_data (refused.Exceeds line asked room))) }
     ensures longer { vec_len out.new ≤ vec_len out.old + 256 }
     ensures room { vec_len out.old + 256 ≤ vec_capacity out.old → IsOk result }
     ensures capacity { vec_capacity out.old ≤ vec_capacity out.new }
@@ -337,7 +363,9 @@ fn put_exceeds(out: &mut Vec<u8>, line: u16, asked: i128, room: i128) -> Result<
 }
 
 fn put_cash_short(out: &mut Vec<u8>, fund: u16, cash: i128, asked: i128) -> Result<(), AllocError>
-    ensures text { OnOk result (out.new.items ≡ out.old.items ++ text_of (spec.refusal_data (refused.CashShort fund cash asked))) }
+    ensures text { OnOk result
+        (out.new.items ≡ out.old.items
+        ++ text_of (spec.refusal_data (refused.CashShort fund cash asked))) }
     ensures longer { vec_len out.new ≤ vec_len out.old + 256 }
     ensures room { vec_len out.old + 256 ≤ vec_capacity out.old → IsOk result }
     ensures capacity { vec_capacity out.old ≤ vec_capacity out.new }
@@ -357,7 +385,8 @@ fn put_cash_short(out: &mut Vec<u8>, fund: u16, cash: i128, asked: i128) -> Resu
 
 /// Appends a refusal: its number and name, and the values that it states.
 pub fn put_refusal(out: &mut Vec<u8>, refusal: &Refusal) -> Result<(), AllocError>
-    ensures text { OnOk result (out.new.items ≡ out.old.items ++ text_of (spec.refusal_data refusal.now)) }
+    ensures text { OnOk result
+        (out.new.items ≡ out.old.items ++ text_of (spec.refusal_data refusal.now)) }
     ensures longer { vec_len out.new ≤ vec_len out.old + 256 }
     ensures room { vec_len out.old + 256 ≤ vec_capacity out.old → IsOk result }
     ensures capacity { vec_capacity out.old ≤ vec_capacity out.new }

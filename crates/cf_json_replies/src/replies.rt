@@ -18,7 +18,8 @@ use std::alloc::AllocError;
 /// Appends an object of one number.
 fn put_one(out: &mut Vec<u8>, name: &str, n: u64) -> Result<(), AllocError>
     requires { list_all is_plain name.now ≡ true }
-    ensures text { OnOk result (out.new.items ≡ out.old.items ++ text_of (fields ((name.now, count n) ∷ []))) }
+    ensures text { OnOk result
+        (out.new.items ≡ out.old.items ++ text_of (fields ((name.now, count n) ∷ []))) }
     ensures longer { vec_len out.new ≤ vec_len out.old + (length name.now + 26) }
     ensures room { vec_len out.old + (length name.now + 26) ≤ vec_capacity out.old → IsOk result }
     ensures capacity { vec_capacity out.old ≤ vec_capacity out.new }
@@ -29,7 +30,10 @@ fn put_one(out: &mut Vec<u8>, name: &str, n: u64) -> Result<(), AllocError>
 /// Appends the numbers of a voucher and of its assets.
 #[tactic(auto, unfolding(cf_json_members::specs::Objects::text_of))]
 fn put_voucher(out: &mut Vec<u8>, number: u32, first: u32, assets: u16) -> Result<(), AllocError>
-    ensures text { OnOk result (out.new.items ≡ out.old.items ++ text_of (fields ((codes "assets", array (numbers_from first assets)) ∷ (codes "voucher", count number) ∷ []))) }
+    ensures text { OnOk result
+        (out.new.items ≡ out.old.items
+        ++ text_of (fields ((codes "assets", array (numbers_from first assets))
+        ∷ (codes "voucher", count number) ∷ []))) }
     ensures longer { vec_len out.new ≤ vec_len out.old + (80 + 21 * assets) }
     ensures room { vec_len out.old + (80 + 21 * assets) ≤ vec_capacity out.old → IsOk result }
     ensures capacity { vec_capacity out.old ≤ vec_capacity out.new }
@@ -48,7 +52,8 @@ fn put_voucher(out: &mut Vec<u8>, number: u32, first: u32, assets: u16) -> Resul
 fn put_made(out: &mut Vec<u8>, made: &Made) -> Result<(), AllocError>
     ensures text { OnOk result (out.new.items ≡ out.old.items ++ text_of (made_data made.now)) }
     ensures longer { vec_len out.new ≤ vec_len out.old + (80 + 21 * assets_of made.now) }
-    ensures room { vec_len out.old + (80 + 21 * assets_of made.now) ≤ vec_capacity out.old → IsOk result }
+    ensures room { vec_len out.old + (80 + 21 * assets_of made.now) ≤ vec_capacity out.old
+        → IsOk result }
     ensures capacity { vec_capacity out.old ≤ vec_capacity out.new }
 {
     match *made {
@@ -87,7 +92,8 @@ fn put_made(out: &mut Vec<u8>, made: &Made) -> Result<(), AllocError>
 /// Appends the place of the earlier entry, where the call is a repeat, and the end of the reply.
 #[tactic(auto, unfolding(cf_json_members::specs::Objects::text_of))]
 fn put_was(out: &mut Vec<u8>, was: Option<u64>) -> Result<(), AllocError>
-    ensures text { OnOk result (out.new.items ≡ out.old.items ++ members_text true (members (was_fields was))) }
+    ensures text { OnOk result
+        (out.new.items ≡ out.old.items ++ members_text true (members (was_fields was))) }
     ensures longer { vec_len out.new ≤ vec_len out.old + 32 }
     ensures room { vec_len out.old + 32 ≤ vec_capacity out.old → IsOk result }
     ensures capacity { vec_capacity out.old ≤ vec_capacity out.new }
@@ -109,9 +115,12 @@ fn put_was(out: &mut Vec<u8>, was: Option<u64>) -> Result<(), AllocError>
 /// Appends the reply to an accepted change.
 #[tactic(auto, unfolding(cf_json_members::specs::Objects::text_of))]
 fn put_done(out: &mut Vec<u8>, at: u64, made: &Made, was: Option<u64>) -> Result<(), AllocError>
-    ensures text { OnOk result (out.new.items ≡ out.old.items ++ text_of (reply_data (record { at = at; body = body.Done made.now was }))) }
+    ensures text { OnOk result
+        (out.new.items ≡ out.old.items
+        ++ text_of (reply_data (record { at = at; body = body.Done made.now was }))) }
     ensures longer { vec_len out.new ≤ vec_len out.old + (160 + 21 * assets_of made.now) }
-    ensures room { vec_len out.old + (160 + 21 * assets_of made.now) ≤ vec_capacity out.old → IsOk result }
+    ensures room { vec_len out.old + (160 + 21 * assets_of made.now) ≤ vec_capacity out.old
+        → IsOk result }
     ensures capacity { vec_capacity out.old ≤ vec_capacity out.new }
 {
     put_head(out, "at", &Number(at), "ok")?;
@@ -122,7 +131,9 @@ fn put_done(out: &mut Vec<u8>, at: u64, made: &Made, was: Option<u64>) -> Result
 /// Appends the reply to a refused call.
 #[tactic(auto, unfolding(cf_json_members::specs::Objects::text_of))]
 fn put_refused(out: &mut Vec<u8>, at: u64, refusal: &Refusal) -> Result<(), AllocError>
-    ensures text { OnOk result (out.new.items ≡ out.old.items ++ text_of (reply_data (record { at = at; body = body.Refused refusal.now }))) }
+    ensures text { OnOk result
+        (out.new.items ≡ out.old.items
+        ++ text_of (reply_data (record { at = at; body = body.Refused refusal.now }))) }
     ensures longer { vec_len out.new ≤ vec_len out.old + 300 }
     ensures room { vec_len out.old + 300 ≤ vec_capacity out.old → IsOk result }
     ensures capacity { vec_capacity out.old ≤ vec_capacity out.new }
@@ -150,8 +161,11 @@ pub fn write_done(
     made: &Made,
     was: Option<u64>,
 ) -> Result<(), AllocError>
-    ensures text { OnOk result (out.new.items ≡ out.old.items ++ text_of (reply_data (record { at = at; body = body.Done made.now was }))) }
-    ensures room { vec_len out.old + 1024 ≤ vec_capacity out.old → assets_of made.now ≤ 32 → IsOk result }
+    ensures text { OnOk result
+        (out.new.items ≡ out.old.items
+        ++ text_of (reply_data (record { at = at; body = body.Done made.now was }))) }
+    ensures room { vec_len out.old + 1024 ≤ vec_capacity out.old → assets_of made.now ≤ 32
+        → IsOk result }
     ensures err { OnErr result (out.new.items ≡ out.old.items) }
     ensures capacity { vec_capacity out.old ≤ vec_capacity out.new }
     ensures newline { OnOk result (vec_len out.new + 1 ≤ vec_capacity out.new) }
@@ -162,7 +176,9 @@ pub fn write_done(
 
 /// Appends the reply to a refused call, and keeps room for one byte more.
 pub fn write_refused(out: &mut Vec<u8>, at: u64, refusal: &Refusal) -> Result<(), AllocError>
-    ensures text { OnOk result (out.new.items ≡ out.old.items ++ text_of (reply_data (record { at = at; body = body.Refused refusal.now }))) }
+    ensures text { OnOk result
+        (out.new.items ≡ out.old.items
+        ++ text_of (reply_data (record { at = at; body = body.Refused refusal.now }))) }
     ensures room { vec_len out.old + 1024 ≤ vec_capacity out.old → IsOk result }
     ensures err { OnErr result (out.new.items ≡ out.old.items) }
     ensures capacity { vec_capacity out.old ≤ vec_capacity out.new }
@@ -176,7 +192,8 @@ pub fn write_refused(out: &mut Vec<u8>, at: u64, refusal: &Refusal) -> Result<()
 pub fn write_true(out: &mut Vec<u8>, name: &str) -> Result<(), AllocError>
     requires plain { list_all is_plain name.now ≡ true }
     requires short { length name.now ≤ 100 }
-    ensures text { OnOk result (out.new.items ≡ out.old.items ++ text_of (fields ((name.now, boolean true) ∷ []))) }
+    ensures text { OnOk result
+        (out.new.items ≡ out.old.items ++ text_of (fields ((name.now, boolean true) ∷ []))) }
     ensures room { vec_len out.old + 1024 ≤ vec_capacity out.old → IsOk result }
     ensures err { OnErr result (out.new.items ≡ out.old.items) }
     ensures capacity { vec_capacity out.old ≤ vec_capacity out.new }

@@ -145,7 +145,8 @@ fn put_element<T: Element>(
     later: bool,
     element: &T,
 ) -> Result<(), AllocError>
-    ensures { OnOk result (out.new.items ≡ out.old.items ++ (comma_if later ++ text_of (T.value element.now))) }
+    ensures { OnOk result
+        (out.new.items ≡ out.old.items ++ (comma_if later ++ text_of (T.value element.now))) }
 {
     if later {
         out.push(b',')?;
@@ -153,7 +154,8 @@ fn put_element<T: Element>(
     element.put(alloc, out)
 }
 
-/// Appends the elements of an array and its end. Before the first stands a comma where others are written.
+/// Appends the elements of an array and its end. Before the first stands a comma where others are
+/// written.
 #[tactic(auto, unfolding(cf_json_members::specs::Objects::text_of))]
 fn put_elements<T: Element>(
     alloc: Global,
@@ -161,7 +163,8 @@ fn put_elements<T: Element>(
     later: bool,
     elements: &[T],
 ) -> Result<(), AllocError>
-    ensures { OnOk result (out.new.items ≡ out.old.items ++ items_text later (items_of (map T.value elements.now))) }
+    ensures { OnOk result
+        (out.new.items ≡ out.old.items ++ items_text later (items_of (map T.value elements.now))) }
 {
     let mut later = later;
     for element in elements {
@@ -175,7 +178,8 @@ fn put_elements<T: Element>(
 /// Appends an array.
 #[tactic(auto, unfolding(cf_json_members::specs::Objects::text_of))]
 fn put_array<T: Element>(alloc: Global, out: &mut Vec<u8>, elements: &[T]) -> Result<(), AllocError>
-    ensures { OnOk result (out.new.items ≡ out.old.items ++ text_of (list_of T.value elements.now)) }
+    ensures { OnOk result
+        (out.new.items ≡ out.old.items ++ text_of (list_of T.value elements.now)) }
 {
     out.push(b'[')?;
     put_elements(alloc, out, false, elements)
@@ -189,7 +193,9 @@ fn put_first<T: Element>(
     elements: &[T],
 ) -> Result<(), AllocError>
     requires { list_all is_plain name.now ≡ true }
-    ensures { OnOk result (out.new.items ≡ out.old.items ++ (123 ∷ (json.quoted name.now ++ 58 ∷ text_of (list_of T.value elements.now)))) }
+    ensures { OnOk result
+        (out.new.items ≡ out.old.items
+        ++ (123 ∷ (json.quoted name.now ++ 58 ∷ text_of (list_of T.value elements.now)))) }
 {
     out.push(b'{')?;
     put_quoted(out, name.as_bytes())?;
@@ -221,7 +227,9 @@ fn put_requisition(
     state: RequisitionState,
     year: u16,
 ) -> Result<(), AllocError>
-    ensures { OnOk result (out.new.items ≡ out.old.items ++ text_of (spec.shown_data (variant.Requisition items.now state year))) }
+    ensures { OnOk result
+        (out.new.items ≡ out.old.items
+        ++ text_of (spec.shown_data (variant.Requisition items.now state year))) }
 {
     put_first(alloc, out, "items", items)?;
     out.push(b',')?;
@@ -239,7 +247,9 @@ fn put_order(
     items: &[OrderItemShown],
     vendor: u32,
 ) -> Result<(), AllocError>
-    ensures { OnOk result (out.new.items ≡ out.old.items ++ text_of (spec.shown_data (variant.Order items.now vendor))) }
+    ensures { OnOk result
+        (out.new.items ≡ out.old.items
+        ++ text_of (spec.shown_data (variant.Order items.now vendor))) }
 {
     put_first(alloc, out, "items", items)?;
     out.push(b',')?;
@@ -254,7 +264,9 @@ fn put_voucher(
     state: VoucherState,
     year: u16,
 ) -> Result<(), AllocError>
-    ensures { OnOk result (out.new.items ≡ out.old.items ++ text_of (spec.shown_data (variant.Voucher amount state year))) }
+    ensures { OnOk result
+        (out.new.items ≡ out.old.items
+        ++ text_of (spec.shown_data (variant.Voucher amount state year))) }
 {
     put_object(
         out,
@@ -267,7 +279,9 @@ fn put_voucher(
 }
 
 fn put_bill(out: &mut Vec<u8>, left: u64, levy_year: u16, source: u16) -> Result<(), AllocError>
-    ensures { OnOk result (out.new.items ≡ out.old.items ++ text_of (spec.shown_data (variant.Bill left levy_year source))) }
+    ensures { OnOk result
+        (out.new.items ≡ out.old.items
+        ++ text_of (spec.shown_data (variant.Bill left levy_year source))) }
 {
     put_object(
         out,
@@ -285,7 +299,9 @@ fn put_asset(
     depreciation: u64,
     state: AssetState,
 ) -> Result<(), AllocError>
-    ensures { OnOk result (out.new.items ≡ out.old.items ++ text_of (spec.shown_data (variant.Asset cost depreciation state))) }
+    ensures { OnOk result
+        (out.new.items ≡ out.old.items
+        ++ text_of (spec.shown_data (variant.Asset cost depreciation state))) }
 {
     put_object(
         out,
@@ -303,7 +319,9 @@ fn put_bond(
     next: Option<Day>,
     outstanding: u64,
 ) -> Result<(), AllocError>
-    ensures { OnOk result (out.new.items ≡ out.old.items ++ text_of (spec.shown_data (variant.Bond accrued next outstanding))) }
+    ensures { OnOk result
+        (out.new.items ≡ out.old.items
+        ++ text_of (spec.shown_data (variant.Bond accrued next outstanding))) }
 {
     let next = match next {
         Some(day) => Date(day),
@@ -340,7 +358,9 @@ fn put_recon(out: &mut Vec<u8>, recon: ReconShown) -> Result<(), AllocError>
 
 #[tactic(auto, unfolding(cf_json_members::specs::Objects::text_of))]
 fn put_report(alloc: Global, out: &mut Vec<u8>, rows: &[Row], title: &str) -> Result<(), AllocError>
-    ensures { OnOk result (out.new.items ≡ out.old.items ++ text_of (spec.shown_data (variant.Report rows.now title.now))) }
+    ensures { OnOk result
+        (out.new.items ≡ out.old.items
+        ++ text_of (spec.shown_data (variant.Report rows.now title.now))) }
 {
     put_first(alloc, out, "rows", rows)?;
     out.push(b',')?;
@@ -390,7 +410,8 @@ fn put_shown(alloc: Global, out: &mut Vec<u8>, shown: &Shown) -> Result<(), Allo
 /// The reply with the answer of a look.
 #[tactic(auto, unfolding(cf_json_members::specs::Objects::text_of))]
 fn reply(alloc: Global, at: u64, shown: &Shown) -> Result<Vec<u8>, AllocError>
-    ensures { IfOk result (λ v. v.items ≡ text_of (reply_data (record { at = at; body = body.Shown shown.now }))) }
+    ensures { IfOk result
+        (λ v. v.items ≡ text_of (reply_data (record { at = at; body = body.Shown shown.now }))) }
 {
     let mut text = Vec::new(alloc);
     put_head(&mut text, "at", &Number(at), "is")?;
@@ -406,7 +427,9 @@ pub fn write_shown(
     at: u64,
     shown: &Shown,
 ) -> Result<(), AllocError>
-    ensures text { OnOk result (out.new.items ≡ out.old.items ++ text_of (reply_data (record { at = at; body = body.Shown shown.now }))) }
+    ensures text { OnOk result
+        (out.new.items ≡ out.old.items
+        ++ text_of (reply_data (record { at = at; body = body.Shown shown.now }))) }
     ensures err { OnErr result (out.new.items ≡ out.old.items) }
     ensures capacity { vec_capacity out.old ≤ vec_capacity out.new }
     ensures newline { OnOk result (vec_len out.new + 1 ≤ vec_capacity out.new) }

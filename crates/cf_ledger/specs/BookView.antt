@@ -18,4 +18,5 @@ pub record IsSound (a : Inside) : Type 0 where
   pub count : length a.totals ≡ 231
   pub totals : StandsFor is_in_total a.history.items a.totals
   pub counted : AreCounted a.rows.entries
-  pub rows : (fund account : ℕ) → StandsFor (is_of fund account) a.history.items (cells_at a.rows.entries fund account)
+  pub rows : (fund account : ℕ)
+      → StandsFor (is_of fund account) a.history.items (cells_at a.rows.entries fund account)

@@ -6,7 +6,8 @@ use Rattle.cf_calls.specs.declared.read.Basis.TheVariants.{Fund, Gov}
 use Rattle.cf_ledger.specs.declared.places.Place.{Place}
 use Rattle.cf_ledger.specs.declared.post.Post.{Post}
 
--- a book of one basis: the posts that were added, oldest first, and the places that are reserved for more
+-- a book of one basis: the posts that were added, oldest first, and the places that are reserved
+-- for more
 pub record Posted : Type 0 where
   pub posts : List Post
   pub places : List Place
@@ -37,7 +38,8 @@ HasPlaces book posts = All (λ p. has_place book p.fund p.account ≡ true) post
 
 -- no place goes
 abbrev pub KeepsPlaces : Posted → Posted → Type 0
-KeepsPlaces old new = (fund account : ℕ) → has_place old fund account ≡ true → has_place new fund account ≡ true
+KeepsPlaces old new = (fund account : ℕ) → has_place old fund account ≡ true
+    → has_place new fund account ≡ true
 
 -- adding these posts on a basis takes no memory
 abbrev pub AreReserved : Books → Basis → List Post → Type 0

@@ -33,11 +33,13 @@ cells_at rows fund account = cells_of (row_of rows fund account)
 
 -- each row has a cell for each year
 abbrev pub AreCounted : Rows → Type 0
-AreCounted rows = (fund account : ℕ) → has_row rows fund account ≡ true → length (cells_at rows fund account) ≡ 231
+AreCounted rows = (fund account : ℕ) → has_row rows fund account ≡ true
+    → length (cells_at rows fund account) ≡ 231
 
 -- no row goes
 abbrev pub KeepsRows : Rows → Rows → Type 0
-KeepsRows old new = (fund account : ℕ) → has_row old fund account ≡ true → has_row new fund account ≡ true
+KeepsRows old new = (fund account : ℕ) → has_row old fund account ≡ true
+    → has_row new fund account ≡ true
 
 -- no row comes or goes
 abbrev pub SameRows : Rows → Rows → Type 0
@@ -45,9 +47,11 @@ SameRows old new = (fund account : ℕ) → has_row new fund account ≡ has_row
 
 -- each cell reads the same, where a missing one reads as zero
 abbrev pub ReadsSame : Rows → Rows → Type 0
-ReadsSame old new = (fund account k : ℕ) → get_or (cells_at new fund account) k (pos 0) ≡ get_or (cells_at old fund account) k (pos 0)
+ReadsSame old new = (fund account k : ℕ)
+    → get_or (cells_at new fund account) k (pos 0) ≡ get_or (cells_at old fund account) k (pos 0)
 
 -- the cells of this fund and account are those given, and the others stay
 abbrev pub PutsCells : Rows → Rows → ℕ → ℕ → List ℤ → Type 0
 PutsCells old new fund account cells =
-    (f a : ℕ) → cells_at new f a ≡ (if (fund == f) && (account == a) then cells else cells_at old f a)
+    (f a : ℕ) → cells_at new f a
+    ≡ (if (fund == f) && (account == a) then cells else cells_at old f a)

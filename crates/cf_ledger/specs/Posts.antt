@@ -11,8 +11,8 @@ sum_where test (p ∷ posts) = (if test p then p.amount else pos 0) +ℤ sum_whe
 abbrev pub is_of : ℕ → ℕ → Post → Bool
 is_of fund account p = (p.fund == fund) && (p.account == account)
 
--- the accounts that make up fund balance and net position: assets, liabilities and unavailable revenue (own rule: the
--- codes below 300000)
+-- the accounts that make up fund balance and net position: assets, liabilities and unavailable
+-- revenue (own rule: the codes below 300000)
 abbrev pub is_in_total : Post → Bool
 is_in_total p = nat_lt p.account 300000
 

@@ -32,4 +32,5 @@ raised cells year amount = set cells (year - 1970) (cell_of cells year +ℤ amou
 
 -- each cell is the sum of its year's posts that pass a test, where a missing one reads as zero
 abbrev pub StandsFor : (Post → Bool) → List Post → List ℤ → Type 0
-StandsFor test posts cells = (k : ℕ) → get_or cells k (pos 0) ≡ sum_where (λ p. test p && (p.year == k + 1970)) posts
+StandsFor test posts cells = (k : ℕ)
+    → get_or cells k (pos 0) ≡ sum_where (λ p. test p && (p.year == k + 1970)) posts

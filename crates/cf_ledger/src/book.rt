@@ -16,8 +16,8 @@ use std::marker::Model;
 /// The codes below this one make up fund balance and net position.
 const IN_TOTAL: u32 = 300_000;
 
-/// Sums by account and year, and of all accounts of fund balance or net position by year. They don't grow with the
-/// number of posts; the posts themselves are kept for proofs alone.
+/// Sums by account and year, and of all accounts of fund balance or net position by year. They
+/// don't grow with the number of posts; the posts themselves are kept for proofs alone.
 #[derive(Drop)]
 pub struct Book {
     rows: BTreeMap<Place, Vec<i128>>,

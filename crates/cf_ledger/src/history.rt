@@ -1,6 +1,6 @@
-//! A list that only proofs read. It takes no memory, and its methods do nothing at run time. Only a proof by hand can
-//! set such a list, so these two methods have one. What it says is tied to what the program answers by the invariant of
-//! the struct that holds it.
+//! A list that only proofs read. It takes no memory, and its methods do nothing at run time. Only a
+//! proof by hand can set such a list, so these two methods have one. What it says is tied to what
+//! the program answers by the invariant of the struct that holds it.
 
 ghost use Rattle.std.specs.Prelude.{◌≡◌, List, [], ◌∷◌, ◌++◌};
 ghost use Rattle.std.specs.Borrow.{ftrue};

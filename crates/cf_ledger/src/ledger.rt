@@ -12,8 +12,9 @@ use cf_calls::Basis;
 use std::alloc::{AllocError, Global};
 use std::marker::Model;
 
-/// The balances of accounts on both bases: what all posts that were added come to (GASB Statement 34: fund statements on
-/// the modified accrual basis, government-wide statements on the accrual basis).
+/// The balances of accounts on both bases: what all posts that were added come to (GASB Statement
+/// 34: fund statements on the modified accrual basis, government-wide statements on the accrual
+/// basis).
 #[derive(Drop)]
 pub struct Ledger {
     fund: Book,
@@ -39,8 +40,9 @@ impl Ledger {
         }
     }
 
-    /// Makes room for posts on a basis, so that adding them takes no memory: about 4 KB for each account of a fund that
-    /// is named for the first time. No post is added, whatever the answer, and what was reserved before stays so.
+    /// Makes room for posts on a basis, so that adding them takes no memory: about 4 KB for each
+    /// account of a fund that is named for the first time. No post is added, whatever the answer,
+    /// and what was reserved before stays so.
     pub fn reserve(&mut self, basis: Basis, posts: &[Post]) -> Result<(), AllocError>
         ensures reserved { OnOk result (AreReserved self.new basis posts.now) }
         ensures keeps { KeepsReserved self.old self.new }
@@ -52,8 +54,9 @@ impl Ledger {
         }
     }
 
-    /// Adds posts on a basis, after those that were added before. Their years are 1971 to 2200, and the sizes of all
-    /// amounts of the basis sum to less than 2^127 cents, so that each sum of them fits. It takes no memory.
+    /// Adds posts on a basis, after those that were added before. Their years are 1971 to 2200, and
+    /// the sizes of all amounts of the basis sum to less than 2^127 cents, so that each sum of them
+    /// fits. It takes no memory.
     pub fn add(&mut self, basis: Basis, posts: &[Post])
         requires reserved { AreReserved self.old basis posts.now }
         requires years { All IsInYears posts.now }
@@ -68,8 +71,9 @@ impl Ledger {
         }
     }
 
-    /// The balance of an account of a fund through a fiscal year, in cents: zero where nothing was posted. On the
-    /// government-wide basis the fund is 0. It takes no memory, and no longer with more posts.
+    /// The balance of an account of a fund through a fiscal year, in cents: zero where nothing was
+    /// posted. On the government-wide basis the fund is 0. It takes no memory, and no longer with
+    /// more posts.
     pub fn balance(&self, basis: Basis, year: u16, fund: u16, account: u32) -> i128
         ensures { result ≡ balance (posts_of self.now basis) year fund account }
     {
@@ -79,8 +83,8 @@ impl Ledger {
         }
     }
 
-    /// The fund balances of all funds, or net position, through a fiscal year, in cents. It takes no memory, and no
-    /// longer with more posts.
+    /// The fund balances of all funds, or net position, through a fiscal year, in cents. It takes
+    /// no memory, and no longer with more posts.
     pub fn total(&self, basis: Basis, year: u16) -> i128
         ensures { result ≡ total (posts_of self.now basis) year }
     {
@@ -90,10 +94,11 @@ impl Ledger {
         }
     }
 
-    /// By how much fund balances, or net position, changed in a fiscal year, in cents. It takes no memory, and no longer
-    /// with more posts or for an earlier year.
+    /// By how much fund balances, or net position, changed in a fiscal year, in cents. It takes no
+    /// memory, and no longer with more posts or for an earlier year.
     pub fn change(&self, basis: Basis, year: u16) -> i128
-        ensures { result ≡ total (posts_of self.now basis) year -ℤ total (posts_of self.now basis) (year - 1) }
+        ensures { result ≡ total (posts_of self.now basis) year -ℤ total (posts_of self.now basis)
+            (year - 1) }
     {
         match basis {
             Basis::Fund => self.fund.change(year),

@@ -18,7 +18,8 @@ pub struct Place {
 
 /// The sum of the cells of a place in the years up to this one; zero where it has no row.
 pub fn sum_at(rows: &BTreeMap<Place, Vec<i128>>, place: Place, year: u16) -> i128
-    requires { (n : ℕ) → FitsSigned w128 (sum_of n (cells_at rows.now.entries place.fund place.account)) }
+    requires { (n : ℕ) → FitsSigned w128
+        (sum_of n (cells_at rows.now.entries place.fund place.account)) }
     ensures { result ≡ sum_through (cells_at rows.now.entries place.fund place.account) year }
 {
     match rows.get(&place) {
@@ -51,7 +52,8 @@ pub fn reserve_at(
 pub fn raise_at(rows: &mut BTreeMap<Place, Vec<i128>>, place: Place, year: u16, amount: i128)
     requires reserved { has_row rows.old.entries place.fund place.account ≡ true }
     requires fits { CanRaise (cells_at rows.old.entries place.fund place.account) year amount }
-    ensures cells { PutsCells rows.old.entries rows.new.entries place.fund place.account (raised (cells_at rows.old.entries place.fund place.account) year amount) }
+    ensures cells { PutsCells rows.old.entries rows.new.entries place.fund place.account
+        (raised (cells_at rows.old.entries place.fund place.account) year amount) }
     ensures same { SameRows rows.old.entries rows.new.entries }
 {
     if let Some(cells) = rows.get_mut(&place) {

@@ -1,4 +1,5 @@
--- The assets of a legal history are numbered 1, 2, 3 .. in the order in which they are acquired, so a number names at most one.
+-- The assets of a legal history are numbered 1, 2, 3 .. in the order in which they are acquired, so
+-- a number names at most one.
 use Rattle.std.proofs.Common.{◌≡◌, ℕ, suc, ◌+◌, ◌≤◌, Bool, true, false, if◌then◌else◌, ◌==◌, List, [], ◌∷◌, ◌++◌, map, length, Option, Some, None, refl, sym, subst, ap, ◌∙◌, arith}
 use Rattle.std.specs.List.{filter}
 use Rattle.std.proofs.lemmas.Grind.{common_steps}

@@ -1,4 +1,5 @@
--- The bonds and leases of a legal history are numbered 1, 2, 3 .. in the order of their issue, so a number names at most one.
+-- The bonds and leases of a legal history are numbered 1, 2, 3 .. in the order of their issue, so a
+-- number names at most one.
 use Rattle.std.proofs.Common.{◌≡◌, ℕ, suc, ◌+◌, ◌≤◌, Bool, true, false, if◌then◌else◌, ◌==◌, List, [], ◌∷◌, ◌++◌, map, length, Option, Some, None, refl, sym, subst, ap, ◌∙◌, arith}
 use Rattle.std.specs.List.{filter}
 use Rattle.std.proofs.lemmas.Grind.{common_steps}

@@ -67,7 +67,8 @@ timely_new plan on _ drawn c from form = tt
 
 -- ---- the years of each act
 
--- what the rules and the registers give: the day's year is one of the books, and so is each other that the act posts in
+-- what the rules and the registers give: the day's year is one of the books, and so is each other
+-- that the act posts in
 abbrev pub HasYears : Plan → Registers → Day → Act → Type 0
 HasYears plan s on (act.Voucher v) = IsBookYear (document_year plan on (act.Voucher v))
 HasYears plan s on (act.VoidVoucher n) = AllByRecursion (λ (x : Expenditure). IsBookYear x.year) s.documents.expenditures

@@ -101,7 +101,8 @@ accounts_after plan s (e ∷ h) =
 
 -- ---- their sum
 
--- what a post adds to an account of a fund through a year, by the tests of its fund, its account and its year
+-- what a post adds to an account of a fund through a year, by the tests of its fund, its account
+-- and its year
 abbrev part : Bool → Bool → Bool → ℤ → ℤ
 part fund account year x = if (fund && account) && year then x else pos 0
 

@@ -1,4 +1,5 @@
--- What the acts of a legal history enter in the registers of assets and bonds: few of each an entry, of amounts within bounds.
+-- What the acts of a legal history enter in the registers of assets and bonds: few of each an
+-- entry, of amounts within bounds.
 use Rattle.std.proofs.Common.{◌≡◌, ℕ, zero, suc, ◌+◌, ◌-◌, ◌*◌, ◌≤◌, Bool, true, false, if◌then◌else◌, ◌==◌, List, [], ◌∷◌, ◌++◌, map, length, Some, None, slice_get, refl, sym, ap, subst, arith, length-append}
 use Rattle.std.specs.List.{AllByRecursion}
 use Rattle.std.proofs.lemmas.Grind.{common_steps}

@@ -366,7 +366,8 @@ on_kept plan closed on (act.Asset (Dispose d)) a dated = by_test (a.number == d.
     by_test false = dated
 on_kept plan closed on _ a dated = dated
 
--- an entry that no rule refuses keeps all that holds of a legal history: the reconciliation is among it
+-- an entry that no rule refuses keeps all that holds of a legal history: the reconciliation is
+-- among it
 pub lawful_push : (plan : Plan) (h : List Entry) (e : Entry) → IsWhole plan → IsLawful plan h → IsUnbroken plan h e → IsLawful plan (h ++ e ∷ [])
 lawful_push plan h e whole is ok =
     let s = registers_of plan h in
@@ -401,7 +402,8 @@ lawful_after plan seen [] whole is unbroken = subst (IsLawful plan) (sym (append
 lawful_after plan seen (e ∷ later) whole is unbroken =
     subst (IsLawful plan) (append_assoc seen (e ∷ []) later) (lawful_after plan (seen ++ e ∷ []) later whole (lawful_push plan seen e whole is unbroken.0) unbroken.1)
 
--- the theorem: in every year fund balances and the items come to net position, and the rows of changes to its change
+-- the theorem: in every year fund balances and the items come to net position, and the rows of
+-- changes to its change
 pub reconciles_always : (plan : Plan) (history : List Entry) → IsWhole plan → AreUnbroken plan [] history → Reconciles plan history × ChangesAddUp plan history
 reconciles_always plan history whole unbroken =
     let is = lawful_after plan [] history whole (lawful_first plan whole) unbroken in (is.reconciled.reconciles, changes_add_up plan history is.reconciled)

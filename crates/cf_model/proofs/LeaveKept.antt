@@ -1,4 +1,5 @@
--- No department's leave is ever below zero: no entry of a legal history takes more leave of a fund's department than it has.
+-- No department's leave is ever below zero: no entry of a legal history takes more leave of a
+-- fund's department than it has.
 use Rattle.std.proofs.Common.{◌≡◌, ◌⊎◌, inl, inr, ℕ, ◌≤◌, Bool, true, false, if◌then◌else◌, ◌==◌, ◌&&◌, nat_lt, List, ◌++◌, None, ℤ, pos, negsuc, ◌+ℤ◌, ◌-ℤ◌, ◌≤ℤ◌, unsigned_abs, sym, subst, arith}
 use Rattle.std.proofs.lemmas.Bool.Decides.{eqb_tells}
 use Rattle.std.proofs.lemmas.Grind.{common_steps}

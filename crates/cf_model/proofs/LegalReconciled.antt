@@ -1,4 +1,5 @@
--- Each legal history is lawful: its months close in order, and fund balances and the items come to net position.
+-- Each legal history is lawful: its months close in order, and fund balances and the items come to
+-- net position.
 use Rattle.std.proofs.Common.{◌≡◌, ℕ, List, take, None, sym, subst, ap}
 use Rattle.cf_calls.specs.declared.acts.Act.{Act}
 use Rattle.cf_calls.specs.declared.acts.Act.TheVariants as act
@@ -43,7 +44,8 @@ pub is_lawful : (plan : Plan) (history : List Entry) → IsWhole plan → IsLega
 is_lawful plan history whole legal =
     legal_induction plan (IsLawful plan) (lawful_first plan whole) (λ h e is adds. lawful_push plan h e whole is (unbroken plan h e adds)) history legal
 
--- the theorem: after a legal history, in every year, fund balances and the items come to net position ..
+-- the theorem: after a legal history, in every year, fund balances and the items come to net
+-- position ..
 pub reconciles_always : (plan : Plan) (history : List Entry) → IsWhole plan → IsLegal plan history → Reconciles plan history
 reconciles_always plan history whole legal = (is_lawful plan history whole legal).reconciled.reconciles
 

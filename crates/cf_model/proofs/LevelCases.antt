@@ -1,5 +1,5 @@
--- A fund that is controlled at another level from a fiscal year on, on literal histories: what is carried into that year goes onto lines of
--- the later level, and lapses where there is none.
+-- A fund that is controlled at another level from a fiscal year on, on literal histories: what is
+-- carried into that year goes onto lines of the later level, and lapses where there is none.
 use Rattle.std.proofs.Common.{◌≡◌, ℕ, true, false, List, [], ◌∷◌, Option, Some, None, refl, pos}
 use Rattle.cf_base.specs.declared.calendar.Day.{Day}
 use Rattle.cf_calls.specs.declared.acts.Act.{Act}
@@ -31,7 +31,8 @@ use Rattle.cf_model.specs.Stripes.{touches}
 abbrev by_object : ℕ → ℕ → Line
 by_object dept object = record { fund = 1; dept = dept; part = part.Object object; later = false }
 
--- Rivertown's general fund, which carries, and from 2027 on is controlled by department: line 8 is the Streets department's then
+-- Rivertown's general fund, which carries, and from 2027 on is controlled by department: line 8 is
+-- the Streets department's then
 abbrev city : Plan
 city = record blank_plan {
   first_year = 2026;
@@ -72,7 +73,8 @@ year_closes =
 abbrev carried : List Entry
 carried = adopts 3 10000 ∷ orders 20 4000 ∷ year_closes
 
--- after fourteen entries nothing of 2026 is encumbered, its appropriation stays as it was, and line 8 has what was open, with as much appropriation
+-- after fourteen entries nothing of 2026 is encumbered, its appropriation stays as it was, and line
+-- 8 has what was open, with as much appropriation
 next_line : (numbers city 3 2026 carried ≡ record { original = pos 10000; appropriated = pos 10000; held = pos 0; encumbered = pos 0; expended = pos 0; room = pos 10000 })
     × (numbers city 8 2027 carried ≡ record { original = pos 0; appropriated = pos 4000; held = pos 0; encumbered = pos 4000; expended = pos 0; room = pos 0 })
     × (numbers city 3 2027 carried ≡ record { original = pos 0; appropriated = pos 0; held = pos 0; encumbered = pos 0; expended = pos 0; room = pos 0 })
@@ -108,7 +110,8 @@ changes item = ChangeOrder (record { order = 1; item = item; fund = 1; dept = 20
 abbrev asks : ℕ → Act
 asks dept = Requisition (record { items = account dept 1 ∷ [] })
 
--- a line is one of the year that the act states, and an account has one in the year that the act holds in
+-- a line is one of the year that the act states, and an account has one in the year that the act
+-- holds in
 in_years : (names [] (on 2025 7 1) (amends 3 2026) ≡ None)
     × (names [] (on 2025 7 1) (amends 3 2027) ≡ Some (refusal.UnknownName kind.Line 3))
     × (names [] (on 2025 7 1) (amends 8 2027) ≡ None)
@@ -118,8 +121,8 @@ in_years : (names [] (on 2025 7 1) (amends 3 2026) ≡ None)
     × (names [] (on 2026 7 1) (asks 20) ≡ None)
 in_years = (refl, refl, refl, refl, refl, refl, refl)
 
--- an order's change names its account in the item's year: a day of 2026 changes what is carried into 2027; where there is no such item, in
--- the year of the day
+-- an order's change names its account in the item's year: a day of 2026 changes what is carried
+-- into 2027; where there is no such item, in the year of the day
 changed : (names carried (on 2026 6 30) (changes 1) ≡ None)
     × (names (adopts 3 10000 ∷ orders 20 4000 ∷ []) (on 2026 7 1) (changes 1) ≡ None)
     × (line_of city 1 20 510 2026 ≡ Some 3)

@@ -1,4 +1,5 @@
--- What an entry makes of documents and of receivables, and which line numbers it moves, does not depend on a number that another register draws.
+-- What an entry makes of documents and of receivables, and which line numbers it moves, does not
+-- depend on a number that another register draws.
 use Rattle.std.proofs.Common.{◌≡◌, List, refl, subst}
 use Rattle.cf_base.specs.declared.calendar.Day.{Day}
 use Rattle.cf_calls.specs.declared.acts.Act.{Act}

@@ -1,4 +1,5 @@
--- The deeds of each act fit the posting table: only the close of a month makes deeds of sums, over at most as many assets and bonds as entries allow.
+-- The deeds of each act fit the posting table: only the close of a month makes deeds of sums, over
+-- at most as many assets and bonds as entries allow.
 use Rattle.std.proofs.Common.{ℕ, ◌≤◌, ◌<◌, ◌^◌, ◌==◌, Bool, not, List, [], ◌∷◌, map, length, All, Option, Some, None, arith}
 use Rattle.std.specs.List.{filter, AllByRecursion}
 use Rattle.std.proofs.lemmas.List.Elements.{All-from_recursion}

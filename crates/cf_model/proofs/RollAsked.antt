@@ -1,4 +1,5 @@
--- The roll of a fiscal year asks nothing of any line: what it carries raises the next year's appropriation by as much.
+-- The roll of a fiscal year asks nothing of any line: what it carries raises the next year's
+-- appropriation by as much.
 use Rattle.std.proofs.Common.{◌≡◌, ℕ, ◌+◌, Bool, true, false, not, ◌&&◌, if◌then◌else◌, List, [], ◌∷◌, ◌++◌, map, Some, None, ℤ, pos, ◌+ℤ◌, ◌-ℤ◌, ◌≤ℤ◌, refl, sym, subst, ap, ◌∙◌, arith}
 use Rattle.std.specs.List.{filter}
 use Rattle.std.proofs.lemmas.Int.{ints}

@@ -1,5 +1,6 @@
--- What the roll of a fiscal year makes of a line's numbers: nothing of the year stays held or encumbered, and in the year after its line, which
--- may be of another level, is encumbered by what is carried onto it, with as much appropriation.
+-- What the roll of a fiscal year makes of a line's numbers: nothing of the year stays held or
+-- encumbered, and in the year after its line, which may be of another level, is encumbered by what
+-- is carried onto it, with as much appropriation.
 use Rattle.std.proofs.Common.{◌≡◌, ℕ, ◌+◌, ◌<◌, ◌≤◌, Bool, true, false, not, if◌then◌else◌, ◌==◌, ◌&&◌, List, [], ◌∷◌, ◌++◌, length, map, Option, Some, None, ℤ, pos, ◌+ℤ◌, ◌-ℤ◌, ◌-◌, refl, sym, ap, ◌∙◌, arith}
 use Rattle.std.specs.List.{filter, position}
 use Rattle.std.proofs.lemmas.Grind.{common_steps}
@@ -30,7 +31,8 @@ next_eq a b c e = grind (arith, common_steps)
 not_live : (i : OrderItem) → is_live i ≡ false → open_of i ≡ 0
 not_live i e = ap (λ (b : Bool). if b then i.base - liquidated_sum i.taken else 0) e
 
--- what the roll of a year makes of an amount that is encumbered in it, and of one that is carried into the year after
+-- what the roll of a year makes of an amount that is encumbered in it, and of one that is carried
+-- into the year after
 abbrev pub encumbers_to : Bool → ℕ → ℕ → ℤ
 encumbers_to at_year gone came = pos came -ℤ pos (if at_year then gone else 0)
 

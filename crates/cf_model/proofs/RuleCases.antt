@@ -1,4 +1,5 @@
--- The rules on assets, debt, leave and months on literal histories: which refusal each gives, and which speaks first.
+-- The rules on assets, debt, leave and months on literal histories: which refusal each gives, and
+-- which speaks first.
 use Rattle.std.proofs.Common.{◌≡◌, ℕ, List, [], ◌∷◌, None, refl, false}
 use Rattle.cf_base.specs.declared.calendar.Day.{Day}
 use Rattle.cf_calls.specs.declared.acts.Act.{Act}
@@ -25,7 +26,8 @@ use Rattle.cf_chart.specs.Plan.{Plan}
 use Rattle.cf_model.specs.State.{blank_plan}
 use Rattle.cf_model.specs.Step.{verdict_of}
 
--- the fiscal year 2026 begins in July 2025; fund 1 and department 10 have a line, and fund 2 has none
+-- the fiscal year 2026 begins in July 2025; fund 1 and department 10 have a line, and fund 2 has
+-- none
 abbrev plan : Plan
 plan = record blank_plan {
   first_year = 2026;
@@ -83,7 +85,8 @@ given = entry 2 0 (day 2025 8 10) (act.Asset (Donate (record { dept = 10; object
 abbrev sells : ℕ → ℕ → Act
 sells asset fund = act.Asset (Dispose (record { asset = asset; fund = fund; proceeds = 0 }))
 
--- a voucher isn't voided once something is charged for its asset, or once that is sold; its own state speaks before
+-- a voucher isn't voided once something is charged for its asset, or once that is sold; its own
+-- state speaks before
 voids : (says (bought ∷ closes 2025 7 ∷ []) (day 2025 8 5) (act.VoidVoucher 1) ≡ Refuse (refusal.AssetState 1 fault.Charged))
     × (says (bought ∷ entry 0 0 (day 2025 7 11) (sells 1 1) ∷ []) (day 2025 7 12) (act.VoidVoucher 1) ≡ Refuse (refusal.AssetState 1 fault.Disposed))
     × (says (bought ∷ closes 2025 7 ∷ entry 0 0 (day 2025 8 1) (sells 1 1) ∷ []) (day 2025 8 5) (act.VoidVoucher 1) ≡ Refuse (refusal.AssetState 1 fault.Charged))
@@ -122,7 +125,8 @@ payment_names : (says [] (day 2026 1 2) (pays 1 9 810 820) ≡ Refuse (refusal.U
     × (says (issued ∷ []) (day 2026 1 2) (pays 1 1 810 810) ≡ Refuse (refusal.UnknownName kind.Object 810))
 payment_names = (refl, refl, refl, refl, refl)
 
--- the budget is that of the year of the due date, and speaks before the date; a bond that is paid off has no such year
+-- the budget is that of the year of the due date, and speaks before the date; a bond that is paid
+-- off has no such year
 payments : (says (issued ∷ []) (day 2025 12 31) (pays 1 1 810 820) ≡ Refuse (refusal.NotAdopted 1 2026))
     × (says (issued ∷ adopts 1 2026 ∷ []) (day 2026 1 1) (pays 1 1 810 820) ≡ Refuse (refusal.NotDue (day 2026 1 2)))
     × (says (issued ∷ adopts 1 2026 ∷ paid 1 ∷ []) (day 2026 7 1) (pays 1 1 810 820) ≡ Refuse (refusal.NotAdopted 1 2027))

@@ -11,7 +11,8 @@ use Rattle.cf_chart.specs.Plan.{Plan}
 use Rattle.cf_model.specs.LineNumbers.{expended}
 use Rattle.cf_model.specs.State.{blank_plan}
 
--- the fiscal year 2026 begins in July 2025; a department has one line for its people, and one each for principal and interest
+-- the fiscal year 2026 begins in July 2025; a department has one line for its people, and one each
+-- for principal and interest
 abbrev city : Plan
 city = record blank_plan {
   first_year = 2026;
@@ -34,14 +35,16 @@ entry number year month day act =
 abbrev expended_of : List Entry → ℕ → List ℕ
 expended_of h year = expended city 0 year h ∷ expended city 1 year h ∷ expended city 2 year h ∷ []
 
--- a bond of 100000000 at 4.25 per cent, of two payments half a year apart: the second is due on the first day of the next fiscal year
+-- a bond of 100000000 at 4.25 per cent, of two payments half a year apart: the second is due on the
+-- first day of the next fiscal year
 abbrev issued : Entry
 issued = entry 1 2025 7 1 (act.Issue (record { fund = 3; amount = 100000000; rate_bp = 425; every = 6; principals = 50000000 ∷ 50000000 ∷ [] }))
 
 abbrev pays : ℕ → ℕ → ℕ → ℕ → Entry
 pays number year month day = entry number year month day (act.PayDue (record { bond = 1; fund = 1; dept = 10; principal = 810; interest = 820 }))
 
--- a payment is spent in the year in which it is due, by the principal before it, also where it is paid in a later one
+-- a payment is spent in the year in which it is due, by the principal before it, also where it is
+-- paid in a later one
 paid : (expended_of (issued ∷ pays 1 2026 1 1 ∷ []) 2026 ≡ 0 ∷ 50000000 ∷ 2125000 ∷ [])
     × (expended_of (issued ∷ pays 1 2026 7 2 ∷ []) 2026 ≡ 0 ∷ 50000000 ∷ 2125000 ∷ [])
     × (expended_of (issued ∷ pays 1 2026 7 2 ∷ []) 2027 ≡ 0 ∷ 0 ∷ 0 ∷ [])
@@ -53,7 +56,8 @@ unspent : (expended_of (pays 0 2026 1 1 ∷ []) 2026 ≡ 0 ∷ 0 ∷ 0 ∷ [])
     × (expended_of (issued ∷ pays 1 2026 1 1 ∷ pays 2 2026 7 1 ∷ pays 0 2026 7 1 ∷ []) 2027 ≡ 0 ∷ 50000000 ∷ 1062500 ∷ [])
 unspent = (refl, refl)
 
--- leave is spent where it matures, in the year of the day, beside what vouchers spend; earned and used leave is not
+-- leave is spent where it matures, in the year of the day, beside what vouchers spend; earned and
+-- used leave is not
 abbrev matured : List Entry
 matured =
     entry 0 2025 8 1 (act.Leave (Earn (record { fund = 1; dept = 10; amount = 900 })))
@@ -66,7 +70,8 @@ matured =
 leave_spent : (expended_of matured 2026 ≡ 450 ∷ 0 ∷ 0 ∷ []) × (expended_of matured 2027 ≡ 200 ∷ 0 ∷ 0 ∷ [])
 leave_spent = (refl, refl)
 
--- a lease is spent whole, in the year of its day, and its payments in the years in which they are due
+-- a lease is spent whole, in the year of its day, and its payments in the years in which they are
+-- due
 abbrev leases : Entry
 leases =
     entry 1 2026 6 1 (act.Lease (record { vendor = 7; account = record { fund = 1; dept = 10; object = 520; amount = 36000 }; rate_bp = 1000; every = 12; principals = 18000 ∷ 18000 ∷ [] }))

@@ -14,4 +14,6 @@ state_of (disposed year closed) = state.Disposed
 
 -- an asset's cost, its depreciation of closed months, and its state
 abbrev pub asset_shown : ℕ → ℕ → List Asset → Option Shown
-asset_shown number closed assets = option_map (λ a. shown.Asset a.cost (depreciation closed a) (state_of a.stage)) (asset_at number assets)
+asset_shown number closed assets =
+    option_map (λ a. shown.Asset a.cost (depreciation closed a) (state_of a.stage))
+    (asset_at number assets)

@@ -18,7 +18,9 @@ outstanding b = b.amount - sum_by (λ p. p.principal) (paid_dues b)
 
 -- a bond: its accrued interest, the day of its next payment, and what is owed
 abbrev pub bond_shown : Plan → ℕ → ℕ → List Bond → Option Shown
-bond_shown plan number closed bonds = option_map (λ b. shown.Bond (accrued_by closed b) (option_map (due_day plan b) (next_due b)) (outstanding b)) (bond_at number bonds)
+bond_shown plan number closed bonds =
+    option_map (λ b. shown.Bond (accrued_by closed b) (option_map (due_day plan b) (next_due b))
+    (outstanding b)) (bond_at number bonds)
 
 -- the leave of a fund's department that is left
 abbrev pub leave_shown : ℕ → ℕ → List LeaveChange → Shown

@@ -1,4 +1,5 @@
--- The estimates of revenue sources (GASB Codification 1700: the adopted budget estimates revenues too), as sums over the whole history.
+-- The estimates of revenue sources (GASB Codification 1700: the adopted budget estimates revenues
+-- too), as sums over the whole history.
 use Rattle.std.specs.Prelude.{ℕ, if◌then◌else◌, ◌==◌, List, Option, Some, None, find, sum_by}
 use Rattle.cf_calls.specs.declared.acts.Act.{Act}
 use Rattle.cf_calls.specs.declared.acts.Act.TheVariants.{Adopt}

@@ -1,4 +1,5 @@
--- What a look at the reconciliation of a fiscal year shows (GASB Statement 34: the summary reconciliation).
+-- What a look at the reconciliation of a fiscal year shows (GASB Statement 34: the summary
+-- reconciliation).
 use Rattle.std.specs.Prelude.{ℕ, List, ℤ, pos, ◌-ℤ◌}
 use Rattle.cf_calls.specs.declared.entry.Entry.{Entry}
 use Rattle.cf_calls.specs.declared.shown.ReconShown.{ReconShown}
@@ -21,4 +22,6 @@ recon_between plan year s fund gov = record {
 }
 
 abbrev pub recon_shown : Plan → ℕ → List Entry → ReconShown
-recon_shown plan year history = recon_between plan year (registers_of plan history) (fund_balances plan year history) (net_position plan year history)
+recon_shown plan year history =
+    recon_between plan year (registers_of plan history) (fund_balances plan year history)
+    (net_position plan year history)

@@ -27,7 +27,9 @@ use Rattle.cf_statements.specs.Titles.{title_of}
 
 -- the fund balance of a fund through a fiscal year: its accounts below 300000
 abbrev pub fund_balance : Plan → ℕ → ℕ → List Entry → ℤ
-fund_balance plan year fund history = sum_where (λ p. ((p.fund == fund) && is_in_total p) && nat_le p.year year) (posts_in FundBasis plan history)
+fund_balance plan year fund history =
+    sum_where (λ p. ((p.fund == fund) && is_in_total p) && nat_le p.year year)
+    (posts_in FundBasis plan history)
 
 -- the sums that statements are made of; government-wide posts are of fund 0
 abbrev pub sums_of : Plan → List Entry → Sums
@@ -76,7 +78,8 @@ change_rows fund c gov =
 
 abbrev pub year_change_rows : Plan → List Entry → ℕ → List Row
 year_change_rows plan history year =
-    change_rows (fund_balances plan year history -ℤ fund_balances plan (year - 1) history) (changes_of plan year (registers_of plan history))
+    change_rows (fund_balances plan year history -ℤ fund_balances plan (year - 1) history)
+    (changes_of plan year (registers_of plan history))
     (net_position plan year history -ℤ net_position plan (year - 1) history)
 
 -- the rows of a statement
@@ -91,4 +94,5 @@ report_rows plan history year kind.Changes = year_change_rows plan history year
 
 -- what a look at a statement shows
 abbrev pub report_shown : Plan → List Entry → ℕ → Kind → Shown
-report_shown plan history year kind = shown.Report (report_rows plan history year kind) (title_of kind)
+report_shown plan history year kind =
+    shown.Report (report_rows plan history year kind) (title_of kind)

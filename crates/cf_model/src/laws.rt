@@ -3,8 +3,8 @@
 ghost use Rattle.cf_model.specs.Laws.{ChargesAddUp, InterestAddsUp, EarnsByDays, RepeatsAddNothing};
 ghost use Rattle.cf_model.specs.Worked.{SpendsToTheCent, TellsRoom, LiquidatesOrders, RollsOrders, RecognisesCollections, DepreciatesByMonths, EarnsInterest, KeepsLeave, JoinsBothBases, TellsRepeats, RefusesInOrder, ClosesInOrder, PaysFromCash};
 
-/// On short histories that were worked by hand the definitions say what they should: so a slip that a definition and its code
-/// made alike is refused here.
+/// On short histories that were worked by hand the definitions say what they should: so a slip that
+/// a definition and its code made alike is refused here.
 pub fn worked_rows()
     ensures room { SpendsToTheCent }
     ensures verdicts { TellsRoom }
@@ -21,14 +21,15 @@ pub fn worked_rows()
     ensures cash { PaysFromCash }
 {}
 
-/// What the closes of months charge adds up: of an asset to its accumulated depreciation, of a bond to the interest that it earned.
+/// What the closes of months charge adds up: of an asset to its accumulated depreciation, of a bond
+/// to the interest that it earned.
 pub fn months_add_up()
     ensures assets { ChargesAddUp }
     ensures bonds { InterestAddsUp }
 {}
 
-/// The interest of a bond by civil days: the coupons due by the end of a month, and of the next payment the interest for its
-/// days by months of 30 days.
+/// The interest of a bond by civil days: the coupons due by the end of a month, and of the next
+/// payment the interest for its days by months of 30 days.
 pub fn interest_by_days()
     ensures { EarnsByDays }
 {}

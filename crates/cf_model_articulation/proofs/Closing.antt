@@ -1,4 +1,5 @@
--- What a history posts balances through each year: so what its accounts from 300000 on come to is what those below come to, turned.
+-- What a history posts balances through each year: so what its accounts from 300000 on come to is
+-- what those below come to, turned.
 use Rattle.std.proofs.Common.{◌≡◌, ◌⊎◌, inl, inr, ℕ, zero, suc, ◌+◌, ◌≤◌, ◌<◌, Bool, true, false, not, if◌then◌else◌, ◌==◌, ◌&&◌, nat_le, List, [], ◌∷◌, ℤ, pos, ◌+ℤ◌, refl, sym, ap, ◌∙◌, arith, add-one}
 use Rattle.std.proofs.lemmas.Bool.Decides.{leb_tells, eqb_tells}
 use Rattle.std.proofs.lemmas.Int.{ints}

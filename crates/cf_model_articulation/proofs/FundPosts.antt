@@ -1,4 +1,5 @@
--- What a legal history posts in the funds is of funds of the chart, on accounts below 300000 and on those of the operating statement's rows.
+-- What a legal history posts in the funds is of funds of the chart, on accounts below 300000 and on
+-- those of the operating statement's rows.
 use Rattle.std.proofs.Common.{◌≡◌, ◌⊎◌, inl, inr, ℕ, ◌+◌, ◌<◌, ◌≤◌, true, not, if◌then◌else◌, ◌==◌, nat_lt, nat_le, ℤ, List, [], ◌∷◌, ◌++◌, map, refl, sym, ap, subst, ◌∙◌, arith}
 use Rattle.std.specs.List.{filter, AllByRecursion}
 use Rattle.cf_calls.specs.declared.entry.Entry.{Entry}

@@ -1,4 +1,5 @@
--- What a legal history posts in the government as a whole is of no fund, on the accounts of net position's rows and on those of the activities'.
+-- What a legal history posts in the government as a whole is of no fund, on the accounts of net
+-- position's rows and on those of the activities'.
 use Rattle.std.proofs.Common.{◌≡◌, ◌⊎◌, inl, inr, ℕ, ◌+◌, ◌<◌, ◌≤◌, Bool, true, false, not, if◌then◌else◌, ◌==◌, nat_lt, List, [], ◌∷◌, ◌++◌, map, ℤ, refl, sym, ap, subst, ◌∙◌, arith}
 use Rattle.std.specs.List.{AllByRecursion}
 use Rattle.cf_calls.specs.declared.entry.Entry.{Entry}

@@ -1,4 +1,5 @@
--- What the registers of a legal history name is of the chart: the accounts of vouchers, the sources of bills, the functions of assets.
+-- What the registers of a legal history name is of the chart: the accounts of vouchers, the sources
+-- of bills, the functions of assets.
 use Rattle.std.proofs.Common.{◌≡◌, ℕ, ◌+◌, Bool, true, false, not, if◌then◌else◌, ◌==◌, List, [], ◌∷◌, ◌++◌, map, Option, None, is_some, refl, sym, ap, subst, ◌∙◌}
 use Rattle.std.specs.List.{list_any, AllByRecursion}
 use Rattle.cf_base.specs.declared.calendar.Day.{Day}

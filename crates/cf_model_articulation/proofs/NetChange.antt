@@ -1,4 +1,5 @@
--- A fund's net change in fund balance, as the operating statement has it, is the change of its fund balance.
+-- A fund's net change in fund balance, as the operating statement has it, is the change of its fund
+-- balance.
 use Rattle.std.proofs.Common.{◌≡◌, ℕ, ◌+◌, ◌-◌, Bool, true, false, if◌then◌else◌, ◌==◌, List, ◌++◌, ℤ, pos, neg_ℤ, ◌+ℤ◌, ◌-ℤ◌, refl, sym, ap, subst, ◌∙◌, arith}
 use Rattle.std.specs.List.{filter}
 use Rattle.std.proofs.lemmas.Int.{ints}
@@ -69,7 +70,8 @@ function_change a b plan =
 three : (b : ℕ → ℤ) (xs ys zs : List ℕ) → int_sum b (xs ++ (ys ++ zs)) ≡ int_sum b xs +ℤ (int_sum b ys +ℤ int_sum b zs)
 three b xs ys zs = sum_append b xs (ys ++ zs) ∙ ap (λ z. int_sum b xs +ℤ z) (sum_append b ys zs)
 
--- the net change is what the rows' accounts came to through the year before, less what they come to through this one
+-- the net change is what the rows' accounts came to through the year before, less what they come to
+-- through this one
 rows_change : (plan : Plan) (year fund : ℕ) (h : List Entry) → net_change plan (sums_of plan h) year fund ≡ through plan (year - 1) fund h -ℤ through plan year fund h
 rows_change plan year fund h =
     let a : ℕ → ℕ → ℤ = λ f n. balance_of FundBasis plan year f n h in

@@ -1,4 +1,5 @@
--- The accounts of rows, and that an account which is posted to is one of them: that of a row of the chart by its id, or one of a few others.
+-- The accounts of rows, and that an account which is posted to is one of them: that of a row of the
+-- chart by its id, or one of a few others.
 use Rattle.std.proofs.Common.{◌≡◌, ◌⊎◌, inl, inr, ℕ, suc, ◌+◌, ◌<◌, ◌≤◌, Bool, true, if◌then◌else◌, false, not, ◌==◌, nat_lt, nat_le, List, map, refl, sym, ap, ◌∙◌, arith}
 use Rattle.std.specs.List.{filter, list_all, AllByRecursion}
 use Rattle.std.proofs.lemmas.Bool.Decides.{leb_tells}

@@ -1,4 +1,5 @@
--- How the statements of a fiscal year articulate: in accounting, statements articulate where the same amounts stand in them (GASB Statement 34).
+-- How the statements of a fiscal year articulate: in accounting, statements articulate where the
+-- same amounts stand in them (GASB Statement 34).
 use Rattle.std.specs.Prelude.{◌≡◌, ℕ, ◌-◌, ◌≤◌, ℤ, pos, ◌+ℤ◌, ◌-ℤ◌, List, [], ◌∷◌, take}
 use Rattle.cf_base.specs.declared.statement.Kind.TheVariants as kind
 use Rattle.cf_calls.specs.declared.entry.Entry.{Entry}
@@ -77,35 +78,51 @@ city_liabilities plan history year = position.liability_rows (sums_of plan histo
 -- ---- the statements of a year
 
 pub record Articulates (plan : Plan) (history : List Entry) (year : ℕ) : Type 0 where
-  -- on the balance sheet a fund's assets are its liabilities, its deferred inflow and its fund balance ..
+  -- on the balance sheet a fund's assets are its liabilities, its deferred inflow and its fund
+  -- balance ..
   pub balance_sheet : (fund : Fund) →
-      rows_sum (fund_assets plan history year fund) ≡ rows_sum (fund_liabilities plan history year fund) +ℤ bottom_line (balance_part plan history year fund)
+      rows_sum (fund_assets plan history year fund)
+      ≡ rows_sum (fund_liabilities plan history year fund) +ℤ bottom_line
+      (balance_part plan history year fund)
   -- .. its receivables, over all years, are what is left of its bills, and its vouchers payable the
   -- items of its open vouchers ..
   pub bills : BillsAreReceivable plan history
   pub vouchers : VouchersAreOwed plan history
   -- .. and total fund balances are those of the chart's funds
-  pub total_balances : bottom_line (report_rows plan history year kind.Balance) ≡ int_sum (λ f. bottom_line (balance_part plan history year f)) plan.funds
-  -- a fund's net change in fund balance is its fund balance less that of the balance sheet of the year before
+  pub total_balances : bottom_line (report_rows plan history year kind.Balance)
+      ≡ int_sum (λ f. bottom_line (balance_part plan history year f)) plan.funds
+  -- a fund's net change in fund balance is its fund balance less that of the balance sheet of the
+  -- year before
   pub net_change : (fund : Fund) →
-      bottom_line (operating_part plan history year fund) ≡ bottom_line (balance_part plan history year fund) -ℤ bottom_line (balance_part plan history (year - 1) fund)
+      bottom_line (operating_part plan history year fund)
+      ≡ bottom_line (balance_part plan history year fund) -ℤ bottom_line
+      (balance_part plan history (year - 1) fund)
   -- the actual amounts of the budgetary comparison are those of the operating statement
   pub comparison : Compares plan history year
   -- the city's assets are its liabilities and its net position
-  pub net_position : rows_sum (city_assets plan history year) ≡ rows_sum (city_liabilities plan history year) +ℤ bottom_line (report_rows plan history year kind.Position)
+  pub net_position : rows_sum (city_assets plan history year)
+      ≡ rows_sum (city_liabilities plan history year) +ℤ bottom_line
+      (report_rows plan history year kind.Position)
   -- the change in net position is net position less that of the year before
   pub activities :
       bottom_line (report_rows plan history year kind.Activities)
-      ≡ bottom_line (report_rows plan history year kind.Position) -ℤ bottom_line (report_rows plan history (year - 1) kind.Position)
-  -- the summary reconciliation leads from the last row of the balance sheet to that of net position ..
-  pub reconcile_first : first_row (report_rows plan history year kind.Reconcile) ≡ last_row (report_rows plan history year kind.Balance)
-  pub reconcile_last : last_row (report_rows plan history year kind.Reconcile) ≡ last_row (report_rows plan history year kind.Position)
+      ≡ bottom_line (report_rows plan history year kind.Position) -ℤ bottom_line
+      (report_rows plan history (year - 1) kind.Position)
+  -- the summary reconciliation leads from the last row of the balance sheet to that of net position
+  -- ..
+  pub reconcile_first : first_row (report_rows plan history year kind.Reconcile)
+      ≡ last_row (report_rows plan history year kind.Balance)
+  pub reconcile_last : last_row (report_rows plan history year kind.Reconcile)
+      ≡ last_row (report_rows plan history year kind.Position)
   pub reconcile : AddUp (report_rows plan history year kind.Reconcile)
   -- .. and each item between is what its own accounts have
   pub items : ItemsAreAccounts plan history year
-  -- .. and that of the changes from the net changes of the chart's funds to the last row of the activities
-  pub changes_first : amount_of (first_row (report_rows plan history year kind.Changes)) ≡ int_sum (λ f. bottom_line (operating_part plan history year f)) plan.funds
-  pub changes_last : last_row (report_rows plan history year kind.Changes) ≡ last_row (report_rows plan history year kind.Activities)
+  -- .. and that of the changes from the net changes of the chart's funds to the last row of the
+  -- activities
+  pub changes_first : amount_of (first_row (report_rows plan history year kind.Changes))
+      ≡ int_sum (λ f. bottom_line (operating_part plan history year f)) plan.funds
+  pub changes_last : last_row (report_rows plan history year kind.Changes)
+      ≡ last_row (report_rows plan history year kind.Activities)
   pub changes : 1 ≤ year → AddUp (report_rows plan history year kind.Changes)
 
 -- at every place of a history the statements of each fiscal year articulate

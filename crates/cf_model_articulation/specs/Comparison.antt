@@ -24,14 +24,20 @@ actuals rows = int_sum actual rows
 
 -- a fund's part of the comparison: the rows of its sources, and of its lines
 abbrev pub source_part : Plan → List Entry → ℕ → Fund → List Row
-source_part plan history year fund = budget.source_rows (sums_of plan history) year fund.id plan.sources
+source_part plan history year fund =
+    budget.source_rows (sums_of plan history) year fund.id plan.sources
 
 abbrev pub line_part : Plan → List Entry → ℕ → Fund → List Row
-line_part plan history year fund = budget.line_rows plan (sums_of plan history) year fund.id 0 plan.lines
+line_part plan history year fund =
+    budget.line_rows plan (sums_of plan history) year fund.id 0 plan.lines
 
 -- the actual amounts of a fund's sources are its total revenues on the operating statement, and
 -- those
 -- of its lines, what they have expended, are its total expenditures there
 pub record Compares (plan : Plan) (history : List Entry) (year : ℕ) : Type 0 where
-  pub earned : (fund : Fund) → actuals (source_part plan history year fund) ≡ total_revenues (sums_of plan history) year fund.id plan.sources
-  pub spent : 1 ≤ year → (fund : Fund) → actuals (line_part plan history year fund) ≡ total_expenditures (sums_of plan history) year fund.id plan.functions
+  pub earned : (fund : Fund)
+      → actuals (source_part plan history year fund)
+      ≡ total_revenues (sums_of plan history) year fund.id plan.sources
+  pub spent : 1 ≤ year → (fund : Fund)
+      → actuals (line_part plan history year fund)
+      ≡ total_expenditures (sums_of plan history) year fund.id plan.functions

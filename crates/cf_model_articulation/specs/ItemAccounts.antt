@@ -13,7 +13,8 @@ abbrev pub city_account : Plan → List Entry → ℕ → ℕ → ℤ
 city_account plan history year account = (sums_of plan history).gov year account
 
 abbrev pub funds_account : Plan → List Entry → ℕ → ℕ → ℤ
-funds_account plan history year account = int_sum (λ (f : Fund). (sums_of plan history).through year f.id account) plan.funds
+funds_account plan history year account =
+    int_sum (λ (f : Fund). (sums_of plan history).through year f.id account) plan.funds
 
 -- each item that the reconciliation shows, which is read from the registers, is what its own
 -- accounts
@@ -21,10 +22,14 @@ funds_account plan history year account = int_sum (λ (f : Fund). (sums_of plan 
 -- sign
 -- turned, as it is shown; unavailable revenue is the funds', which the city as a whole doesn't have
 pub record ItemsAreAccounts (plan : Plan) (history : List Entry) (year : ℕ) : Type 0 where
-  pub capital_assets : (recon_shown plan year history).capital_assets ≡ city_account plan history year 150000 +ℤ city_account plan history year 159000
-  pub right_to_use : (recon_shown plan year history).right_to_use ≡ city_account plan history year 151000 +ℤ city_account plan history year 159100
-  pub unavailable : (recon_shown plan year history).unavailable ≡ pos 0 -ℤ funds_account plan history year 290000
+  pub capital_assets : (recon_shown plan year history).capital_assets
+      ≡ city_account plan history year 150000 +ℤ city_account plan history year 159000
+  pub right_to_use : (recon_shown plan year history).right_to_use
+      ≡ city_account plan history year 151000 +ℤ city_account plan history year 159100
+  pub unavailable : (recon_shown plan year history).unavailable
+      ≡ pos 0 -ℤ funds_account plan history year 290000
   pub bonds : (recon_shown plan year history).bonds ≡ city_account plan history year 250000
   pub leases : (recon_shown plan year history).leases ≡ city_account plan history year 251000
-  pub accrued_interest : (recon_shown plan year history).accrued_interest ≡ city_account plan history year 260000
+  pub accrued_interest : (recon_shown plan year history).accrued_interest
+      ≡ city_account plan history year 260000
   pub leave : (recon_shown plan year history).leave ≡ city_account plan history year 270000

@@ -16,9 +16,11 @@ open_amount voucher.Open amount = amount
 open_amount _ amount = 0
 
 abbrev pub open_part : ℕ → Expenditure → ℤ
-open_part fund x = if x.account.fund == fund then pos (open_amount x.state x.account.amount) else pos 0
+open_part fund x = if x.account.fund == fund then pos (open_amount x.state x.account.amount)
+    else pos 0
 
 -- the items of open vouchers of a fund are what its vouchers payable have, over all years: a credit
 abbrev pub VouchersAreOwed : Plan → List Entry → Type 0
 VouchersAreOwed plan history = (fund : ℕ) →
-    sum_where (is_of fund 200000) (posts_in FundBasis plan history) ≡ pos 0 -ℤ int_sum (open_part fund) (documents_of plan history).expenditures
+    sum_where (is_of fund 200000) (posts_in FundBasis plan history)
+    ≡ pos 0 -ℤ int_sum (open_part fund) (documents_of plan history).expenditures

@@ -1,4 +1,5 @@
--- What statements need of a chart: that each account which is posted to has one row. The reader of a chart sees to it.
+-- What statements need of a chart: that each account which is posted to has one row. The reader of
+-- a chart sees to it.
 use Rattle.std.specs.Prelude.{◌≡◌, Bool, true, ◌==◌, nat_le, List}
 use Rattle.std.specs.List.{list_all, list_any}
 use Rattle.cf_chart.specs.declared.rows.Function.{Function}

@@ -1,4 +1,5 @@
--- The law of closed fiscal years: each entry of a legal history leaves the years that were closed before it.
+-- The law of closed fiscal years: each entry of a legal history leaves the years that were closed
+-- before it.
 use Rattle.std.proofs.Common.{◌≡◌, inl, inr, ℕ, ◌<◌, true, false, List, [], ◌∷◌, ◌++◌, sym, ◌∙◌}
 use Rattle.std.proofs.lemmas.Bool.{cases_lt}
 use Rattle.cf_calls.specs.declared.entry.Entry.{Entry}

@@ -1,5 +1,5 @@
--- Months of days: a later day is of no earlier month. So the window of a fiscal year ends no earlier than the year, and holds no day of a
--- month after the one in which it ends.
+-- Months of days: a later day is of no earlier month. So the window of a fiscal year ends no
+-- earlier than the year, and holds no day of a month after the one in which it ends.
 use Rattle.std.proofs.Common.{◌≡◌, ◌⊎◌, inl, inr, ℕ, zero, suc, ◌+◌, ◌-◌, ◌<◌, ◌≤◌, Bool, true, false, if◌then◌else◌, ◌==◌, ◌&&◌, nat_lt, max, List, [], ◌∷◌, Some, find, ℤ, pos, ◌+ℤ◌, int_le, int_lt, unsigned_abs, ap, arith}
 use Rattle.std.proofs.lemmas.Bool.{cases_lt}
 use Rattle.std.proofs.lemmas.Bool.Decides.{leb_tells, eqb_tells}

@@ -1,4 +1,5 @@
--- A bond's next payment is due in a month that isn't closed: no month closes over a payment that is due in it.
+-- A bond's next payment is due in a month that isn't closed: no month closes over a payment that is
+-- due in it.
 use Rattle.std.proofs.Common.{◌≡◌, ◌⊎◌, inl, inr, ℕ, zero, suc, ◌+◌, ◌-◌, ◌*◌, ◌<◌, ◌≤◌, Bool, true, false, if◌then◌else◌, ◌==◌, nat_le, List, [], ◌∷◌, ◌++◌, map, Option, Some, None, IfSome, slice_get, refl, sym, subst, arith}
 use Rattle.std.specs.List.{AllByRecursion}
 use Rattle.std.proofs.lemmas.Bool.Decides.{leb_tells}
@@ -25,7 +26,8 @@ use Rattle.cf_model_closed.proofs.Over.{in_time, legal_by_steps}
 
 -- ---- the months in which payments are due
 
--- the payment at a place is due so many periods after the issue, and there is one at each place below the number of principals
+-- the payment at a place is due so many periods after the issue, and there is one at each place
+-- below the number of principals
 abbrev IsDueAt : ℕ → Option Due → Type 0
 IsDueAt month o = IfSome o (λ p. p.month ≡ month)
 

@@ -1,4 +1,5 @@
--- An open requisition is of the fiscal year of the first month that isn't closed, or of a later one: the roll of its year lapses it.
+-- An open requisition is of the fiscal year of the first month that isn't closed, or of a later
+-- one: the roll of its year lapses it.
 use Rattle.std.proofs.Common.{◌≡◌, ◌⊎◌, inl, inr, ℕ, suc, ◌+◌, ◌-◌, ◌*◌, ◌/◌, ◌<◌, ◌≤◌, Bool, true, false, if◌then◌else◌, ◌==◌, List, [], ◌∷◌, ◌++◌, map, Some, None, pos, ◌-ℤ◌, refl, sym, ap, subst, ◌∙◌, arith}
 use Rattle.std.specs.List.{AllByRecursion}
 use Rattle.std.proofs.lemmas.Bool.{cases_lt}

@@ -1,5 +1,5 @@
--- A closed fiscal year is over: the month in which its longest window ends is closed. So every month that isn't closed is of the open year or
--- of a later one, and so is an entry's day.
+-- A closed fiscal year is over: the month in which its longest window ends is closed. So every
+-- month that isn't closed is of the open year or of a later one, and so is an entry's day.
 use Rattle.std.proofs.Common.{◌≡◌, ◌⊎◌, inl, inr, ℕ, suc, ◌+◌, ◌-◌, ◌*◌, ◌<◌, ◌≤◌, Bool, true, false, not, if◌then◌else◌, ◌==◌, List, [], ◌∷◌, ◌++◌, None, refl, sym, ap, subst, ◌∙◌, arith}
 use Rattle.std.proofs.lemmas.Bool.{cases_lt}
 use Rattle.std.proofs.lemmas.Bool.Decides.{leb_tells, eqb_tells}
@@ -25,7 +25,8 @@ use Rattle.cf_model.proofs.OpenYears.{closes_open, open_year_push, years_are}
 use Rattle.cf_model.proofs.Pushes.{registers_push}
 use Rattle.cf_model_closed.proofs.Days.{window_number, window_named, end_le}
 
--- what holds of the empty history and is kept by each step over a legal history holds of each legal one
+-- what holds of the empty history and is kept by each step over a legal history holds of each legal
+-- one
 pub legal_by_steps : (plan : Plan) (P : List Entry → Type 0) → P [] → ((h : List Entry) (e : Entry) → IsLegal plan h → P h → Adds plan h e → P (h ++ e ∷ [])) →
     (history : List Entry) → IsLegal plan history → P history
 legal_by_steps plan P start step history legal =
@@ -120,8 +121,8 @@ month_from plan h n calendar legal l =
 abbrev pub now_year : Plan → Registers → ℕ
 now_year plan s = year_at plan s.closed
 
--- where an entry stands that the step adds: the fiscal year of its day isn't before that of the first month that isn't closed, which isn't before
--- the open one
+-- where an entry stands that the step adds: the fiscal year of its day isn't before that of the
+-- first month that isn't closed, which isn't before the open one
 pub record IsInTime (plan : Plan) (h : List Entry) (on : Day) : Type 0 where
   pub from : open_year plan h ≤ now_year plan (registers_of plan h)
   pub now : now_year plan (registers_of plan h) ≤ year_of_day plan on

@@ -112,7 +112,8 @@ voided_from u n year (x ∷ xs) are none = by_test (x.voucher == n) (eqb_tells x
     by_test true (inr t) none more = cc
     by_test false t none more = more none
 
--- what is known where an act is added: the open year, which the year of the day isn't before, nor that of the first month that isn't closed
+-- what is known where an act is added: the open year, which the year of the day isn't before, nor
+-- that of the first month that isn't closed
 pub record IsOpenTo (plan : Plan) (s : Registers) (u : ℕ) (on : Day) : Type 0 where
   pub day : u ≤ year_of_day plan on
   pub months : (n : ℕ) → s.closed ≤ n → u ≤ year_at plan n

@@ -1,4 +1,5 @@
--- A collection is revenue of the open fiscal year or of a later one: the window of a closed year is over.
+-- A collection is revenue of the open fiscal year or of a later one: the window of a closed year is
+-- over.
 use Rattle.std.proofs.Common.{◌≡◌, ◌⊎◌, inl, inr, ℕ, ◌<◌, ◌≤◌, Bool, true, false, if◌then◌else◌, ◌==◌, ◌||◌, List, [], ◌∷◌, ◌++◌, None, refl, sym, subst, arith}
 use Rattle.std.specs.List.{AllByRecursion}
 use Rattle.std.proofs.lemmas.Bool.{cases_lt}

@@ -1,4 +1,5 @@
--- The items of a voucher are of one fiscal year, and an order's item of which a voucher took something is of that year.
+-- The items of a voucher are of one fiscal year, and an order's item of which a voucher took
+-- something is of that year.
 use Rattle.std.proofs.Common.{◌≡◌, ◌≢◌, ◌⊎◌, inl, inr, ℕ, ◌+◌, ◌<◌, ◌≤◌, Bool, true, false, not, if◌then◌else◌, ◌==◌, ◌&&◌, ◌||◌, List, [], ◌∷◌, ◌++◌, map, find, Some, None, IfSome, refl, sym, ap, subst, ◌∙◌, arith}
 use Rattle.std.specs.List.{list_any, AllByRecursion}
 use Rattle.std.proofs.lemmas.Bool.Decides.{eqb_tells}
@@ -148,7 +149,8 @@ uncharged plan number year most act i none no_items taken =
     clash : false ≡ true → ⊥
     clash e = cc
 
--- the roll of an item's year lets it lapse with what was taken of it, or carries it with nothing taken
+-- the roll of an item's year lets it lapse with what was taken of it, or carries it with nothing
+-- taken
 rolled_taken : (plan : Plan) (year : ℕ → ℕ) (most : ℕ) (i : OrderItem) → IsTakenInYear year most i → (b : Bool) →
     IsTakenInYear year most (if b then (if lapses plan i then record i { stage = lapsed } else record i { year = i.year + 1; base = open_of i; taken = [] }) else i)
 rolled_taken plan year most i taken false = taken

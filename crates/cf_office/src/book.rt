@@ -22,7 +22,8 @@ use cf_office_history::{History, Rest};
 use std::alloc::{AllocError, Global};
 use std::marker::Model;
 
-/// A chart, the entries accepted so far, and the line numbers that they make. No call goes over the history.
+/// A chart, the entries accepted so far, and the line numbers that they make. No call goes over the
+/// history.
 #[derive(Drop)]
 pub struct BookOffice {
     lines: Lines,
@@ -53,8 +54,9 @@ impl BookOffice {
         }
     }
 
-    /// The entries. They are a legal history: at each place of it no control line is overspent in any year, no fund's
-    /// cash is below zero, and fund balances reconcile with net position, and each entry balances.
+    /// The entries. They are a legal history: at each place of it no control line is overspent in
+    /// any year, no fund's cash is below zero, and fund balances reconcile with net position, and
+    /// each entry balances.
     pub fn entries(&self) -> &[Entry]
         ensures value { result.now ≡ self.now.entries }
         ensures whole { IsWhole self.now.plan }
@@ -89,10 +91,13 @@ impl BookOffice {
         self.rest.ready_entry()
     }
 
-    /// What the entry that is prepared posts on a basis: its debits above zero and its credits below, in cents.
+    /// What the entry that is prepared posts on a basis: its debits above zero and its credits
+    /// below, in cents.
     pub fn posts(&self, basis: Basis) -> &[Post]
         requires { IsSome self.now.ready }
-        ensures { IfSome self.now.ready (λ e. result.now ≡ act_posts basis self.now.plan (registers_of self.now.plan self.now.entries) e.change.on e.change.act) }
+        ensures { IfSome self.now.ready
+            (λ e. result.now ≡ act_posts basis self.now.plan
+            (registers_of self.now.plan self.now.entries) e.change.on e.change.act) }
     {
         self.rest.posts(basis)
     }
@@ -101,19 +106,23 @@ impl BookOffice {
     pub fn apply(&mut self, prepared: Prepared) -> Made
         requires { (e : Entry) × IsPrepared self.old prepared e }
         ensures plan { self.new.plan ≡ self.old.plan }
-        ensures entries { IfSome self.old.ready (λ e. self.new.entries ≡ self.old.entries ++ e ∷ []) }
-        ensures made { IfSome self.old.ready (λ e. result ≡ made_of self.old.plan (registers_of self.old.plan self.old.entries) e) }
+        ensures entries { IfSome self.old.ready
+            (λ e. self.new.entries ≡ self.old.entries ++ e ∷ []) }
+        ensures made { IfSome self.old.ready
+            (λ e. result ≡ made_of self.old.plan (registers_of self.old.plan self.old.entries) e) }
     {
         apply_lines(&mut self.lines, prepared.lines);
         apply_rest(&mut self.rest, prepared.rest)
     }
 
-    /// Adds an entry that the rules accept, and says what it made. Where there is no memory nothing changes.
+    /// Adds an entry that the rules accept, and says what it made. Where there is no memory nothing
+    /// changes.
     pub fn accept(&mut self, entry: Entry) -> Result<Made, AllocError>
         requires { Adds self.old.plan self.old.entries entry }
         ensures plan { self.new.plan ≡ self.old.plan }
         ensures ok { OnOk result (self.new.entries ≡ self.old.entries ++ entry ∷ []) }
-        ensures made { IfOk result (λ m. m ≡ made_of self.old.plan (registers_of self.old.plan self.old.entries) entry) }
+        ensures made { IfOk result
+            (λ m. m ≡ made_of self.old.plan (registers_of self.old.plan self.old.entries) entry) }
         ensures err { OnErr result (self.new.entries ≡ self.old.entries) }
     {
         let prepared = self.reserve(entry)?;

@@ -18,7 +18,8 @@ use std::alloc::{AllocError, Global};
 fn cleared(numbers: &LineNumbers) -> Row
     requires held { pos 0 ≤ℤ numbers.now.held }
     requires encumbered { pos 0 ≤ℤ numbers.now.encumbered }
-    ensures { result ≡ record zero_row { held = pos 0 -ℤ numbers.now.held; encumbered = pos 0 -ℤ numbers.now.encumbered } }
+    ensures { result ≡ record zero_row
+        { held = pos 0 -ℤ numbers.now.held; encumbered = pos 0 -ℤ numbers.now.encumbered } }
 {
     let mut row = ZERO;
     row.held = 0 - numbers.held;
@@ -36,7 +37,8 @@ fn carried(amount: i128) -> Row
     row
 }
 
-/// Adds the changes of a line in the year that is rolled, and in the year after, in which so much is carried onto it.
+/// Adds the changes of a line in the year that is rolled, and in the year after, in which so much
+/// is carried onto it.
 fn push_line(
     changes: &mut Vec<LineChange>,
     history: &History,
@@ -48,8 +50,12 @@ fn push_line(
     requires year { year < last_fiscal_year }
     requires lent { has_line history.now.lines line ≡ true }
     requires small { amount < 2 ^ 100 }
-    requires carried { amount ≡ model.carried_to history.now.plan line year (documents_of history.now.plan history.now.entries).items }
-    ensures { OnOk result (changes.new.items ≡ changes.old.items ++ spec.line_changes history.now.plan history.now.entries year line) }
+    requires carried { amount
+        ≡ model.carried_to history.now.plan line year
+        (documents_of history.now.plan history.now.entries).items }
+    ensures { OnOk result
+        (changes.new.items ≡ changes.old.items
+        ++ spec.line_changes history.now.plan history.now.entries year line) }
 {
     let numbers = history.numbers(line, year);
     changes.push(LineChange {
@@ -65,8 +71,9 @@ fn push_line(
     Ok(())
 }
 
-/// What the roll of a fiscal year changes: in the year, nothing of a line stays held or encumbered, and in the year after
-/// a line is encumbered by what is carried onto it, and has as much appropriation.
+/// What the roll of a fiscal year changes: in the year, nothing of a line stays held or encumbered,
+/// and in the year after a line is encumbered by what is carried onto it, and has as much
+/// appropriation.
 pub fn roll_changes(
     alloc: Global,
     history: &History,
@@ -74,7 +81,9 @@ pub fn roll_changes(
 ) -> Result<Vec<LineChange>, AllocError>
     requires year { year < last_fiscal_year }
     requires lent { (line : ℕ) → has_line history.now.lines line ≡ true }
-    ensures { IfOk result (λ v. v.items ≡ spec.changes_to history.now.plan history.now.entries year (length history.now.plan.lines)) }
+    ensures { IfOk result
+        (λ v. v.items ≡ spec.changes_to history.now.plan history.now.entries year
+        (length history.now.plan.lines)) }
 {
     let chart = history.chart();
     let amounts = history.orders().carried_amounts(alloc, chart, year)?;

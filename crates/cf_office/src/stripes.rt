@@ -18,24 +18,28 @@ const ALL: [bool; 8] = [true; 8];
 
 /// Marks the stripe of a line.
 fn mark(line: u16, marks: &mut [bool; 8])
-    ensures { (k : ℕ) → k < 8 → mark_at marks.new k ≡ (mark_at marks.old k || (spec.stripe_of line == k)) }
+    ensures { (k : ℕ) → k < 8
+        → mark_at marks.new k ≡ (mark_at marks.old k || (spec.stripe_of line == k)) }
 {
     marks[stripe_of(LineId { number: line })] = true;
 }
 
 /// Marks the stripe of a line that may be there.
 fn mark_if(line: Option<LineId>, marks: &mut [bool; 8])
-    ensures { (k : ℕ) → k < 8 → mark_at marks.new k ≡ (mark_at marks.old k || spec.is_line_in k (option_map (λ l. l.number) line)) }
+    ensures { (k : ℕ) → k < 8
+        → mark_at marks.new k
+        ≡ (mark_at marks.old k || spec.is_line_in k (option_map (λ l. l.number) line)) }
 {
     if let Some(line) = line {
         mark(line.number, marks);
     }
 }
 
-/// Marks the stripes of an account's lines, of its fund's first level and of its later one. A call need not know in which
-/// year an item is to take them.
+/// Marks the stripes of an account's lines, of its fund's first level and of its later one. A call
+/// need not know in which year an item is to take them.
 fn mark_account(chart: &Chart, fund: u16, dept: u16, object: u16, marks: &mut [bool; 8])
-    ensures { (k : ℕ) → k < 8 → mark_at marks.new k ≡ (mark_at marks.old k || spec.is_in chart.now k fund dept object) }
+    ensures { (k : ℕ) → k < 8
+        → mark_at marks.new k ≡ (mark_at marks.old k || spec.is_in chart.now k fund dept object) }
 {
     mark_if(chart.line_in(fund, dept, object, false), marks);
     mark_if(chart.line_in(fund, dept, object, true), marks);
@@ -43,7 +47,9 @@ fn mark_account(chart: &Chart, fund: u16, dept: u16, object: u16, marks: &mut [b
 
 /// Marks the stripes of lines.
 fn mark_rows(rows: &[LineAmount], marks: &mut [bool; 8])
-    ensures { (k : ℕ) → k < 8 → mark_at marks.new k ≡ (mark_at marks.old k || list_any (λ r. spec.stripe_of r.line == k) rows.now) }
+    ensures { (k : ℕ) → k < 8
+        → mark_at marks.new k
+        ≡ (mark_at marks.old k || list_any (λ r. spec.stripe_of r.line == k) rows.now) }
 {
     for row in rows {
         mark(row.line, marks);
@@ -52,7 +58,9 @@ fn mark_rows(rows: &[LineAmount], marks: &mut [bool; 8])
 
 /// Marks the stripes of accounts' lines.
 fn mark_items(chart: &Chart, items: &[AccountItem], marks: &mut [bool; 8])
-    ensures { (k : ℕ) → k < 8 → mark_at marks.new k ≡ (mark_at marks.old k || list_any (spec.is_item_in chart.now k) items.now) }
+    ensures { (k : ℕ) → k < 8
+        → mark_at marks.new k
+        ≡ (mark_at marks.old k || list_any (spec.is_item_in chart.now k) items.now) }
 {
     for item in items {
         mark_account(chart, item.fund, item.dept, item.object, marks);
@@ -61,7 +69,9 @@ fn mark_items(chart: &Chart, items: &[AccountItem], marks: &mut [bool; 8])
 
 /// Marks the stripes of the lines of a voucher's items.
 fn mark_voucher(chart: &Chart, items: &[VoucherItem], marks: &mut [bool; 8])
-    ensures { (k : ℕ) → k < 8 → mark_at marks.new k ≡ (mark_at marks.old k || list_any (λ i. spec.is_item_in chart.now k i.account) items.now) }
+    ensures { (k : ℕ) → k < 8
+        → mark_at marks.new k
+        ≡ (mark_at marks.old k || list_any (λ i. spec.is_item_in chart.now k i.account) items.now) }
 {
     for item in items {
         let account = &item.account;
@@ -71,15 +81,17 @@ fn mark_voucher(chart: &Chart, items: &[VoucherItem], marks: &mut [bool; 8])
 
 /// Marks the stripe of matured leave's account.
 fn mark_leave(chart: &Chart, act: &LeaveAct, marks: &mut [bool; 8])
-    ensures { (k : ℕ) → k < 8 → mark_at marks.new k ≡ (mark_at marks.old k || spec.leave_touches chart.now k act.now) }
+    ensures { (k : ℕ) → k < 8
+        → mark_at marks.new k ≡ (mark_at marks.old k || spec.leave_touches chart.now k act.now) }
 {
     if let LeaveAct::Mature(l) = act {
         mark_account(chart, l.fund, l.dept, l.object, marks);
     }
 }
 
-/// The stripes that an act touches: those of its lines or of its accounts' lines, or all where documents tell which (own
-/// rule). An account has those of its lines at both levels of its fund, and without a line none.
+/// The stripes that an act touches: those of its lines or of its accounts' lines, or all where
+/// documents tell which (own rule). An account has those of its lines at both levels of its fund,
+/// and without a line none.
 pub fn touched_stripes(chart: &Chart, act: &Act) -> [bool; 8]
     ensures { (k : ℕ) → k < 8 → mark_at result k ≡ spec.touches chart.now k act.now }
 {
@@ -142,7 +154,8 @@ fn read_by(read: &Read) -> [bool; 8]
     marks
 }
 
-/// The stripes that a call touches, so that who makes it must hold their line numbers. It takes no memory.
+/// The stripes that a call touches, so that who makes it must hold their line numbers. It takes no
+/// memory.
 pub fn taken_stripes(chart: &Chart, call: &Call) -> [bool; 8]
     ensures { (k : ℕ) → k < 8 → mark_at result k ≡ spec.call_touches chart.now k call.now }
 {

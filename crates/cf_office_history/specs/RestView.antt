@@ -32,7 +32,8 @@ has_budget table (Some a) = has_value table a.fund a.year
 -- each fund's budget of a year reads as before, or this place where the act adopts it
 abbrev pub PutsBudget : Pairs ℕ → Pairs ℕ → Act → ℕ → Type 0
 PutsBudget old new act place =
-    (fund year : ℕ) → unwrap_or (value_of new fund year) 0 ≡ (if adopts fund year act then place else unwrap_or (value_of old fund year) 0)
+    (fund year : ℕ) → unwrap_or (value_of new fund year) 0
+    ≡ (if adopts fund year act then place else unwrap_or (value_of old fund year) 0)
 
 -- the memory of an entry is taken
 pub record IsReady (a : Inside) (e : Entry) : Type 0 where
@@ -48,8 +49,12 @@ pub record IsReady (a : Inside) (e : Entry) : Type 0 where
 pub record StandsForHistory (a : Inside) : Type 0 where
   pub legal : IsLegal a.chart a.entries.items
   pub few : length a.entries.items ≤ most_entries
-  pub known : (desk : ℕ) (key : List ℕ) → place_of (key_number a.known desk key) ≡ place_from 1 (λ e. same_key desk key e.change) a.entries.items
-  pub adopted : (fund year : ℕ) → place_of (unwrap_or (value_of a.adopted.entries fund year) 0) ≡ adopted_at fund year a.entries.items
+  pub known : (desk : ℕ) (key : List ℕ)
+      → place_of (key_number a.known desk key)
+      ≡ place_from 1 (λ e. same_key desk key e.change) a.entries.items
+  pub adopted : (fund year : ℕ)
+      → place_of (unwrap_or (value_of a.adopted.entries fund year) 0)
+      ≡ adopted_at fund year a.entries.items
   pub results : a.results.items ≡ results_of a.chart a.entries.items
   pub registers : a.registers.registers ≡ registers_of a.chart a.entries.items
   pub taken : HaveTaken (length a.entries.items) a.registers

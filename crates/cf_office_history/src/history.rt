@@ -33,8 +33,8 @@ use cf_registers::Registers;
 use cf_revenue::Revenue;
 use std::marker::Model;
 
-/// A legal history under a chart, as rules, looks and statements read it, with tables of its line numbers: those that are
-/// there are lent.
+/// A legal history under a chart, as rules, looks and statements read it, with tables of its line
+/// numbers: those that are there are lent.
 #[derive(Drop)]
 pub struct History<'a> {
     lines: &'a Lines,
@@ -47,7 +47,8 @@ impl<'a> Model for History<'a> {
 
     ghost Value = { HistoryState };
 
-    ghost view = { λ a. record { plan = a.rest.now.plan; entries = a.rest.now.entries; lines = a.lines.now } };
+    ghost view = { λ a.
+        record { plan = a.rest.now.plan; entries = a.rest.now.entries; lines = a.lines.now } };
 
     ghost invariant = { λ a. AreTablesOf a.rest.now.plan a.rest.now.entries a.lines.now };
 }
@@ -56,7 +57,8 @@ impl<'a> History<'a> {
     /// Lends the tables that are there to who reads the history.
     pub fn new(lines: &'a Lines, rest: &'a Rest) -> History<'a>
         requires { AreTablesOf rest.now.plan rest.now.entries lines.now }
-        ensures { result ≡ record { plan = rest.now.plan; entries = rest.now.entries; lines = lines.now } }
+        ensures { result ≡ record
+            { plan = rest.now.plan; entries = rest.now.entries; lines = lines.now } }
     {
         History { lines, rest }
     }
@@ -122,7 +124,8 @@ impl<'a> History<'a> {
 
     /// The bills with what is settled of them, and the loans between funds.
     pub fn revenue(&self) -> &'a Revenue
-        ensures { result.now.receivables ≡ (registers_of self.now.plan self.now.entries).receivables }
+        ensures { result.now.receivables
+            ≡ (registers_of self.now.plan self.now.entries).receivables }
     {
         self.registers().revenue()
     }
@@ -150,15 +153,16 @@ impl<'a> History<'a> {
         self.rest.open_year()
     }
 
-    /// The balance of an account of a fund through a fiscal year, on a basis of accounting, in cents; 0 for what was never
-    /// posted to. Government-wide posts are of fund 0.
+    /// The balance of an account of a fund through a fiscal year, on a basis of accounting, in
+    /// cents; 0 for what was never posted to. Government-wide posts are of fund 0.
     pub fn balance(&self, basis: Basis, year: u16, fund: u16, account: u32) -> i128
         ensures { result ≡ balance_of basis self.now.plan year fund account self.now.entries }
     {
         self.rest.balance(basis, year, fund, account)
     }
 
-    /// The items between fund balances and net position through a fiscal year from 1971 to 2199, in cents (GASB Statement 34).
+    /// The items between fund balances and net position through a fiscal year from 1971 to 2199, in
+    /// cents (GASB Statement 34).
     pub fn recon(&self, year: u16) -> ReconShown
         requires { IsYear year }
         ensures { result ≡ recon_shown self.now.plan year self.now.entries }
@@ -166,8 +170,8 @@ impl<'a> History<'a> {
         self.rest.recon(year)
     }
 
-    /// The items between the changes of fund balances and of net position in a fiscal year from 1971 to 2199, in cents
-    /// (GASB Statement 34).
+    /// The items between the changes of fund balances and of net position in a fiscal year from
+    /// 1971 to 2199, in cents (GASB Statement 34).
     pub fn changes(&self, year: u16) -> Changes
         requires { IsYear year }
         ensures { result ≡ changes_shown self.now.plan year self.now.entries }

@@ -85,7 +85,8 @@ pub fn put_place(known: &mut Known, desk: u16, key: &str, place: u64)
 
 fn put_text(keys: &mut Keys, key: &str, place: u64)
     requires { has_text keys.old key.now ≡ true }
-    ensures { (q : List ℕ) → text_number keys.new q ≡ (if bytes_eq key.now q then place else text_number keys.old q) }
+    ensures { (q : List ℕ)
+        → text_number keys.new q ≡ (if bytes_eq key.now q then place else text_number keys.old q) }
 {
     if let Some(slot) = keys.get_mut(key) {
         *slot = place;

@@ -40,8 +40,8 @@ use std::alloc::{AllocError, Global};
 use std::collections::BTreeMap;
 use std::marker::Model;
 
-/// A chart, and the entries accepted so far with the result of each, with their places by desk and key and by
-/// adopted budget, and what they make of the registers and accounts.
+/// A chart, and the entries accepted so far with the result of each, with their places by desk and
+/// key and by adopted budget, and what they make of the registers and accounts.
 pub struct Rest {
     alloc: Global,
     chart: Chart,
@@ -193,10 +193,13 @@ impl Rest {
         self.ready.as_ref()
     }
 
-    /// What the entry that is ready posts on a basis: its debits above zero and its credits below, in cents.
+    /// What the entry that is ready posts on a basis: its debits above zero and its credits below,
+    /// in cents.
     pub fn posts(&self, basis: Basis) -> &[Post]
         requires { IsSome self.now.ready }
-        ensures { IfSome self.now.ready (λ e. result.now ≡ act_posts basis self.now.plan (registers_of self.now.plan self.now.entries) e.change.on e.change.act) }
+        ensures { IfSome self.now.ready
+            (λ e. result.now ≡ act_posts basis self.now.plan
+            (registers_of self.now.plan self.now.entries) e.change.on e.change.act) }
     {
         self.accounts.ready_posts(basis)
     }
@@ -205,8 +208,11 @@ impl Rest {
     pub fn apply(&mut self) -> Made
         requires { IsSome self.old.ready }
         ensures plan { self.new.plan ≡ self.old.plan }
-        ensures entries { IfSome self.old.ready (λ e. self.new.entries ≡ self.old.entries ++ e ∷ []) }
-        ensures made { IfSome self.old.ready (λ e. result ≡ results.made_of self.old.plan (registers_of self.old.plan self.old.entries) e) }
+        ensures entries { IfSome self.old.ready
+            (λ e. self.new.entries ≡ self.old.entries ++ e ∷ []) }
+        ensures made { IfSome self.old.ready
+            (λ e. result ≡ results.made_of self.old.plan
+            (registers_of self.old.plan self.old.entries) e) }
         ensures ready { self.new.ready ≡ None }
     {
         let Some(entry) = self.ready.take() else {
@@ -233,11 +239,12 @@ impl Rest {
         &self.registers
     }
 
-    /// Whether the month of a day is closed: it is before the chart's first month, or one of the first months that are
-    /// closed.
+    /// Whether the month of a day is closed: it is before the chart's first month, or one of the
+    /// first months that are closed.
     pub fn is_closed(&self, on: Day) -> bool
         requires { is_day on ≡ true }
-        ensures { result ≡ calendar.is_month_closed self.now.plan self.now.entries (month_of_day on) }
+        ensures { result ≡ calendar.is_month_closed self.now.plan self.now.entries
+            (month_of_day on) }
     {
         is_month_closed(self.chart(), month_of(on), self.registers.closed())
     }
@@ -250,7 +257,8 @@ impl Rest {
         self.open_year
     }
 
-    /// The items between fund balances and net position through a fiscal year from 1971 to 2199, in cents.
+    /// The items between fund balances and net position through a fiscal year from 1971 to 2199, in
+    /// cents.
     pub fn recon(&self, year: u16) -> ReconShown
         requires { IsYear year }
         ensures { result ≡ recon_shown self.now.plan year self.now.entries }
@@ -259,7 +267,8 @@ impl Rest {
         self.accounts.recon(&self.chart, &self.registers, year)
     }
 
-    /// The items between the changes of fund balances and of net position in a fiscal year from 1971 to 2199, in cents.
+    /// The items between the changes of fund balances and of net position in a fiscal year from
+    /// 1971 to 2199, in cents.
     pub fn changes(&self, year: u16) -> Changes
         requires { IsYear year }
         ensures { result ≡ changes_shown self.now.plan year self.now.entries }
@@ -267,8 +276,8 @@ impl Rest {
         self.accounts.changes(&self.chart, &self.registers, year)
     }
 
-    /// The estimate of a revenue source for a fiscal year, in cents; 0 where none was adopted. It looks through the
-    /// estimates of the adoption of the source's fund alone.
+    /// The estimate of a revenue source for a fiscal year, in cents; 0 where none was adopted. It
+    /// looks through the estimates of the adoption of the source's fund alone.
     pub fn estimate(&self, year: u16, source: u16) -> u64
         ensures { result ≡ estimate source year self.now.entries }
     {
@@ -357,7 +366,8 @@ fn reserve_places(
 ) -> Result<(), AllocError>
     ensures key { OnOk result (has_key known.new change.now.desk change.now.key ≡ true) }
     ensures same_keys { SameKeys known.old known.new }
-    ensures budget { OnOk result (has_budget adopted.new.entries (adoption_of change.now.act) ≡ true) }
+    ensures budget { OnOk result
+        (has_budget adopted.new.entries (adoption_of change.now.act) ≡ true) }
     ensures same_budgets { ReadsSame 0 adopted.old.entries adopted.new.entries }
 {
     reserve_key(alloc, known, change.desk, change.key.as_str())?;
@@ -378,7 +388,8 @@ fn reserve_books(
     ensures room { OnOk result (HasRoomFor change.now.act registers.new) }
     ensures registers { registers.new.registers ≡ registers.old.registers }
     ensures taken { (n : ℕ) → HaveTaken n registers.old → HaveTaken n registers.new }
-    ensures ready { OnOk result (AreReadyFor accounts.new chart.now registers.new.registers change.now.on change.now.act) }
+    ensures ready { OnOk result
+        (AreReadyFor accounts.new chart.now registers.new.registers change.now.on change.now.act) }
     ensures fund { accounts.new.fund ≡ accounts.old.fund }
     ensures gov { accounts.new.gov ≡ accounts.old.gov }
 {

@@ -29,7 +29,8 @@ impl<'a> Books<'a> {
 
 /// A balance of a legal history, which is far smaller than 128 bits allow.
 fn balance(history: &History, basis: Basis, year: u16, fund: u16, account: u32) -> i128
-    ensures value { result ≡ balance_of basis history.now.plan year fund account history.now.entries }
+    ensures value { result
+        ≡ balance_of basis history.now.plan year fund account history.now.entries }
     ensures small { unsigned_abs result < 2 ^ 104 }
 {
     // So that the proof knows that the history is legal, and how long it may be.
@@ -67,7 +68,8 @@ fn fund_liabilities(history: &History, year: u16, fund: u16) -> i128
 }
 
 fn fund_sum(history: &History, year: u16, fund: u16) -> i128
-    ensures { result ≡ assets_of history.now.plan year fund history.now.entries +ℤ liabilities_of history.now.plan year fund history.now.entries }
+    ensures { result ≡ assets_of history.now.plan year fund history.now.entries +ℤ liabilities_of
+        history.now.plan year fund history.now.entries }
 {
     fund_assets(history, year, fund) + fund_liabilities(history, year, fund)
 }

@@ -35,7 +35,9 @@ fn show_line(history: &History, line: u16, year: u16) -> Body
 
 /// What a look at a document or a bill shows, if there is one of its number.
 fn look_at(alloc: Global, history: &History, read: &Read) -> Result<Option<Shown>, AllocError>
-    ensures { IfOk result (λ s. s ≡ register_shown history.now.plan (registers_of history.now.plan history.now.entries) read.now) }
+    ensures { IfOk result
+        (λ s. s ≡ register_shown history.now.plan
+        (registers_of history.now.plan history.now.entries) read.now) }
 {
     history.registers().look(alloc, history.chart(), read)
 }
@@ -48,7 +50,10 @@ fn show_numbered(
     number: u32,
     read: &Read,
 ) -> Result<Body, AllocError>
-    ensures { IfOk result (λ b. b ≡ step.or_refused kind number (register_shown history.now.plan (registers_of history.now.plan history.now.entries) read.now)) }
+    ensures { IfOk result
+        (λ b. b ≡ step.or_refused kind number
+        (register_shown history.now.plan
+        (registers_of history.now.plan history.now.entries) read.now)) }
 {
     match look_at(alloc, history, read)? {
         Some(shown) => Ok(Body::Shown(shown)),
@@ -107,8 +112,9 @@ fn show(alloc: Global, history: &History, read: &Read) -> Result<Body, AllocErro
     }
 }
 
-/// What a look shows. A look is refused where the caller has seen more than the history has, for which it takes no memory, and
-/// where there is nothing of its name. Its list of items takes memory.
+/// What a look shows. A look is refused where the caller has seen more than the history has, for
+/// which it takes no memory, and where there is nothing of its name. Its list of items takes
+/// memory.
 pub fn answer(alloc: Global, history: &History, look: &Look) -> Result<Body, AllocError>
     requires form { IsReadInForm look.now.read }
     requires lent { LendsRead (has_line history.now.lines) look.now.read }
@@ -124,7 +130,8 @@ pub fn answer(alloc: Global, history: &History, look: &Look) -> Result<Body, All
 pub fn look_reply(alloc: Global, history: &History, look: &Look) -> Posted
     requires form { IsReadInForm look.now.read }
     requires lent { LendsRead (has_line history.now.lines) look.now.read }
-    ensures { Posts history.now.plan history.now.entries (calls.Look look.now) history.now.entries result }
+    ensures { Posts history.now.plan history.now.entries
+        (calls.Look look.now) history.now.entries result }
 {
     match answer(alloc, history, look) {
         Ok(body) => Posted::Reply(Reply {

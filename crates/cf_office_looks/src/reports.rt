@@ -15,8 +15,8 @@ use cf_statements::{
 };
 use std::alloc::{AllocError, Global};
 
-/// The rows of a statement of a fiscal year from 1971 to 2199. They are read off running numbers: it takes no longer with
-/// more entries. It fails exactly for want of memory.
+/// The rows of a statement of a fiscal year from 1971 to 2199. They are read off running numbers:
+/// it takes no longer with more entries. It fails exactly for want of memory.
 pub fn report_rows(
     alloc: Global,
     history: &History,
@@ -25,7 +25,8 @@ pub fn report_rows(
 ) -> Result<Vec<Row>, AllocError>
     requires year { IsYear year }
     requires lent { (line : ℕ) → has_line history.now.lines line ≡ true }
-    ensures { IfOk result (λ rows. rows.items ≡ spec.report_rows history.now.plan history.now.entries year kind) }
+    ensures { IfOk result
+        (λ rows. rows.items ≡ spec.report_rows history.now.plan history.now.entries year kind) }
 {
     let books = Books::of(history);
     match kind {
@@ -48,7 +49,8 @@ pub(crate) fn show_report(
 ) -> Result<Shown, AllocError>
     requires year { IsYear year }
     requires lent { (line : ℕ) → has_line history.now.lines line ≡ true }
-    ensures { IfOk result (λ s. s ≡ spec.report_shown history.now.plan history.now.entries year kind) }
+    ensures { IfOk result
+        (λ s. s ≡ spec.report_shown history.now.plan history.now.entries year kind) }
 {
     let rows = report_rows(alloc, history, year, kind)?;
     let title = Label::new(alloc, title(kind))?;

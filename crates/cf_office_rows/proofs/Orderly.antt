@@ -1,4 +1,5 @@
--- The documents of a legal history have the numbers 1, 2, 3 .., and the items of a requisition share their state.
+-- The documents of a legal history have the numbers 1, 2, 3 .., and the items of a requisition
+-- share their state.
 use Rattle.std.proofs.Common.{◌≡◌, ◌≢◌, ℕ, ◌+◌, ◌≤◌, Bool, true, false, if◌then◌else◌, ◌==◌, List, [], ◌∷◌, ◌++◌, map, Option, Some, None, refl, sym, ap, subst, ◌∙◌, arith}
 use Rattle.std.specs.List.{AllByRecursion, filter}
 use Rattle.std.proofs.lemmas.Grind.{common_steps}

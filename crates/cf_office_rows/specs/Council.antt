@@ -9,7 +9,8 @@ use Rattle.cf_office_rows.specs.Rows.{appropriates, on_line, origin}
 
 -- the lines that an adoption names
 abbrev pub adopted_rows : Plan → ℕ → ℕ → List LineAmount → List LedgerRow
-adopted_rows plan place year lines = map (λ l. on_line plan (origin place 0 0) l.line year (appropriates (pos l.amount))) lines
+adopted_rows plan place year lines =
+    map (λ l. on_line plan (origin place 0 0) l.line year (appropriates (pos l.amount))) lines
 
 -- the line that a transfer lowers, and the one that it raises
 abbrev pub transfer_rows : Plan → ℕ → LineTransfer → List LedgerRow

@@ -34,7 +34,8 @@ use Rattle.cf_office_rows.specs.Rows.{appropriates, kept, nothing, on_line, orig
 
 -- the items of the requisition that an order takes up
 abbrev pub taken_rows : Plan → ℕ → Option ℕ → List Hold → List LedgerRow
-taken_rows plan place requisition holds = item_rows plan place (or_zero requisition) 1 (releases requisition holds)
+taken_rows plan place requisition holds =
+    item_rows plan place (or_zero requisition) 1 (releases requisition holds)
 
 -- an order: the items of the requisition that it takes up, and its own
 abbrev pub order_entry_rows : Plan → Documents → ℕ → ℕ → ℕ → NewOrder → List LedgerRow
@@ -50,20 +51,27 @@ moves_by plan s on act = document_moves plan s (document_number s act) on act
 abbrev pub voucher_rows : Plan → Documents → ℕ → ℕ → Day → NewVoucher → List LedgerRow
 voucher_rows plan s place number on v =
     paired_rows plan place number 1 (map (spend_move (document_year plan on (Voucher v))) v.items)
-    (map (charge_move (item_step plan (document_number s (Voucher v)) (Voucher v)) s.items (document_year plan on (Voucher v))) v.items)
+    (map (charge_move (item_step plan (document_number s (Voucher v)) (Voucher v)) s.items
+    (document_year plan on (Voucher v))) v.items)
 
 abbrev pub void_rows : Plan → Documents → ℕ → ℕ → List LedgerRow
 void_rows plan s place n =
     paired_rows plan place n 1 (map unspend_move (spent_by n s.expenditures))
-    (map (reopen_move (item_step plan (document_number s (VoidVoucher n)) (VoidVoucher n)) s.items) (spent_by n s.expenditures))
+    (map (reopen_move (item_step plan (document_number s (VoidVoucher n)) (VoidVoucher n)) s.items)
+    (spent_by n s.expenditures))
 
 -- what an act on documents moves, item by item
 abbrev pub document_rows : Plan → Documents → ℕ → Drawn → Day → Act → List LedgerRow
-document_rows plan s place drawn on (Requisition r) = item_rows plan place drawn.number 1 (moves_by plan s on (Requisition r))
-document_rows plan s place drawn on (Withdraw n) = item_rows plan place n 1 (moves_by plan s on (Withdraw n))
-document_rows plan s place drawn on (Order o) = order_entry_rows plan s place drawn.number (document_year plan on (Order o)) o
-document_rows plan s place drawn on (ChangeOrder c) = same_rows plan (origin place c.order c.item) (moves_by plan s on (ChangeOrder c))
-document_rows plan s place drawn on (CancelOrder n) = item_rows plan place n 1 (moves_by plan s on (CancelOrder n))
+document_rows plan s place drawn on (Requisition r) =
+    item_rows plan place drawn.number 1 (moves_by plan s on (Requisition r))
+document_rows plan s place drawn on (Withdraw n) =
+    item_rows plan place n 1 (moves_by plan s on (Withdraw n))
+document_rows plan s place drawn on (Order o) =
+    order_entry_rows plan s place drawn.number (document_year plan on (Order o)) o
+document_rows plan s place drawn on (ChangeOrder c) =
+    same_rows plan (origin place c.order c.item) (moves_by plan s on (ChangeOrder c))
+document_rows plan s place drawn on (CancelOrder n) =
+    item_rows plan place n 1 (moves_by plan s on (CancelOrder n))
 document_rows plan s place drawn on (Voucher v) = voucher_rows plan s place drawn.number on v
 document_rows plan s place drawn on (VoidVoucher n) = void_rows plan s place n
 document_rows plan s place drawn on _ = []
@@ -72,26 +80,32 @@ document_rows plan s place drawn on _ = []
 -- which it is due
 abbrev pub payment_rows : Plan → List Bond → ℕ → ℕ → DebtPayment → List LedgerRow
 payment_rows plan bonds place number d =
-    same_rows plan (origin place d.bond number) (map spending_move (bonds_spendings plan d (filter (λ b. b.number == d.bond) bonds)))
+    same_rows plan (origin place d.bond number)
+    (map spending_move (bonds_spendings plan d (filter (λ b. b.number == d.bond) bonds)))
 
 -- leave that is paid out, in the year of its day
 abbrev pub leave_rows : Plan → ℕ → ℕ → LeaveAct → List LedgerRow
-leave_rows plan place year (Mature l) = same_rows plan (origin place 0 0) (map spending_move (paid_leave l year))
+leave_rows plan place year (Mature l) =
+    same_rows plan (origin place 0 0) (map spending_move (paid_leave l year))
 leave_rows plan place year _ = []
 
 -- a lease, by its bond, in the year in which it begins
 abbrev pub lease_rows : Plan → ℕ → ℕ → ℕ → NewLease → List LedgerRow
-lease_rows plan place bond year l = same_rows plan (origin place bond 0) (map spending_move (leased l year))
+lease_rows plan place bond year l =
+    same_rows plan (origin place bond 0) (map spending_move (leased l year))
 
 -- what an act moves of control lines
 abbrev pub act_rows : Plan → Registers → ℕ → Drawn → Day → Act → List LedgerRow
 act_rows plan s place drawn on (Adopt a) = adopted_rows plan place a.year a.lines
-act_rows plan s place drawn on (Amend a) = on_line plan (origin place 0 0) a.line a.year (appropriates a.by) ∷ []
+act_rows plan s place drawn on (Amend a) =
+    on_line plan (origin place 0 0) a.line a.year (appropriates a.by) ∷ []
 act_rows plan s place drawn on (Transfer t) = transfer_rows plan place t
 act_rows plan s place drawn on (PayDue d) = payment_rows plan s.bonds place drawn.number d
 act_rows plan s place drawn on (Leave l) = leave_rows plan place (year_of_day plan on) l
-act_rows plan s place drawn on (Lease l) = lease_rows plan place drawn.second (year_of_day plan on) l
-act_rows plan s place drawn on (Close p) = roll_rows plan s.documents place (rolled_year plan (Close p))
+act_rows plan s place drawn on (Lease l) =
+    lease_rows plan place drawn.second (year_of_day plan on) l
+act_rows plan s place drawn on (Close p) =
+    roll_rows plan s.documents place (rolled_year plan (Close p))
 act_rows plan s place drawn on act = document_rows plan s.documents place drawn on act
 
 -- ---- revenue sources

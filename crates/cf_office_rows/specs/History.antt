@@ -25,10 +25,16 @@ history_rows plan history = rows_after plan no_registers 1 history
 -- the rows add up to the numbers of each line and fiscal year: to what is appropriated, encumbered,
 -- held and expended
 pub record AddUp (plan : Plan) (history : List Entry) (rows : List LedgerRow) : Type 0 where
-  pub appropriated : (line year : ℕ) → line_sum (λ a. a.appropriated) line year rows ≡ numbers.appropriated plan line year history
-  pub ordered : (line year : ℕ) → line_sum (λ a. a.ordered) line year rows ≡ pos (numbers.encumbered plan line year history)
-  pub held : (line year : ℕ) → line_sum (λ a. a.held) line year rows ≡ pos (numbers.held plan line year history)
-  pub spent : (line year : ℕ) → line_sum (λ a. a.spent) line year rows ≡ pos (numbers.expended plan line year history)
+  pub appropriated : (line year : ℕ)
+      → line_sum (λ a. a.appropriated) line year rows ≡ numbers.appropriated plan line year history
+  pub ordered : (line year : ℕ)
+      → line_sum (λ a. a.ordered) line year rows ≡ pos (numbers.encumbered plan line year history)
+  pub held : (line year : ℕ)
+      → line_sum (λ a. a.held) line year rows ≡ pos (numbers.held plan line year history)
+  pub spent : (line year : ℕ)
+      → line_sum (λ a. a.spent) line year rows ≡ pos (numbers.expended plan line year history)
   -- and to the revenue of each source, which is a credit of its account
   pub received : (source year : ℕ) → 1 ≤ source → source < 10000 →
-      source_sum source year rows ≡ pos 0 -ℤ sum_where (λ p. (p.account == 400000 + source) && (p.year == year)) (posts_in FundBasis plan history)
+      source_sum source year rows
+      ≡ pos 0 -ℤ sum_where (λ p. (p.account == 400000 + source) && (p.year == year))
+      (posts_in FundBasis plan history)

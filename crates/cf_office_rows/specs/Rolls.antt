@@ -20,16 +20,33 @@ use Rattle.cf_office_rows.specs.Rows.{amounts_of, nothing, on_account, on_move, 
 -- what is held of an item is released where its year is rolled
 abbrev pub lapse_move : ℕ → Hold → Move
 lapse_move year h =
-    if h.year == year then release_move h else record { account = h.account; year = h.year; held = pos 0; encumbered = pos 0; expended = pos 0 }
+    if h.year == year then release_move h
+    else record {
+      account = h.account;
+      year = h.year;
+      held = pos 0;
+      encumbered = pos 0;
+      expended =
+          pos 0;
+    }
 
 abbrev pub requisition_rows : Plan → ℕ → ℕ → List Hold → ℕ → List LedgerRow
-requisition_rows plan place year holds n = item_rows plan place n 1 (map (lapse_move year) (filter (λ h. is_number (Some n) h.requisition) holds))
+requisition_rows plan place year holds n =
+    item_rows plan place n 1
+    (map (lapse_move year) (filter (λ h. is_number (Some n) h.requisition) holds))
 
 -- ---- orders
 
 -- what an item has open is no longer encumbered in its year
 abbrev pub leave_move : OrderItem → Move
-leave_move i = record { account = i.account; year = i.year; held = pos 0; encumbered = pos 0 -ℤ pos (open_of i); expended = pos 0 }
+leave_move i = record {
+  account = i.account;
+  year = i.year;
+  held = pos 0;
+  encumbered =
+      pos 0 -ℤ pos (open_of i);
+  expended = pos 0;
+}
 
 -- it is encumbered in the year after, which has as much more appropriation
 abbrev pub carries_amount : ℤ → Amounts
@@ -43,15 +60,19 @@ carried_row plan of i = on_account plan of i.account (i.year + 1) (carries_amoun
 abbrev pub roll_item : Plan → ℕ → Origin → OrderItem → List LedgerRow
 roll_item plan year of i =
     if i.year == year
-    then on_move plan of (leave_move i) ∷ (if may_carry plan i then carried_row plan of i ∷ [] else [])
+    then on_move plan of (leave_move i)
+    ∷ (if may_carry plan i then carried_row plan of i ∷ [] else [])
     else []
 
 abbrev pub roll_items : Plan → ℕ → ℕ → ℕ → ℕ → List OrderItem → List LedgerRow
 roll_items plan place year document item [] = []
-roll_items plan place year document item (i ∷ items) = roll_item plan year (origin place document item) i ++ roll_items plan place year document (item + 1) items
+roll_items plan place year document item (i ∷ items) =
+    roll_item plan year (origin place document item) i
+    ++ roll_items plan place year document (item + 1) items
 
 abbrev pub order_rows : Plan → ℕ → ℕ → List OrderItem → ℕ → List LedgerRow
-order_rows plan place year items n = roll_items plan place year n 1 (filter (λ i. i.order == n) items)
+order_rows plan place year items n =
+    roll_items plan place year n 1 (filter (λ i. i.order == n) items)
 
 -- ---- all of them, by their numbers
 
@@ -64,7 +85,8 @@ roll_rows plan s place (Some year) =
 -- the items of a requisition that isn't open hold nothing
 abbrev pub AreReleased : List Hold → Type 0
 AreReleased holds = (n : ℕ) → withdrawn_state n (requisition_at n holds) ≢ None →
-    AllByRecursion (λ h. held_amount h.state h.account.amount ≡ 0) (filter (λ h. is_number (Some n) h.requisition) holds)
+    AllByRecursion (λ h. held_amount h.state h.account.amount ≡ 0)
+    (filter (λ h. is_number (Some n) h.requisition) holds)
 
 -- ---- the same of moves as the register hands them out
 
@@ -79,7 +101,9 @@ carried_line plan of m =
     else []
 
 abbrev pub rolled_line : Plan → Origin → LineMove → List LedgerRow
-rolled_line plan of m = on_account plan of m.account m.year (amounts_of m.held m.encumbered m.expended) ∷ carried_line plan of m
+rolled_line plan of m =
+    on_account plan of m.account m.year (amounts_of m.held m.encumbered m.expended)
+    ∷ carried_line plan of m
 
 abbrev pub rolled_if : Plan → Origin → ℕ → Option LineMove → List LedgerRow
 rolled_if plan of year None = []

@@ -113,7 +113,8 @@ leave_short plan h on act l is named =
     let names : register_name_refusal plan (registers_of plan h) on (Leave (Mature l)) ≡ None = subst (λ (x : Act). register_name_refusal plan (registers_of plan h) on x ≡ None) (sym is) named in
     sym (one_short plan h l.fund l.amount plan.funds (account_there plan is_current (year_of_day plan on) l.fund l.dept l.object names)) ∙ ap (cash_refusal plan h) is
 
--- a debt payment takes the cash of its principal and its interest of its fund, and none where nothing is left to pay
+-- a debt payment takes the cash of its principal and its interest of its fund, and none where
+-- nothing is left to pay
 due_taken : (plan : Plan) (fund from : ℕ) (o : Option Bond) → sum_by (λ b. if from == fund then due_cash b (next_due b) else 0) (bonds_if o) ≡ (if from == fund then due_amount (due_now plan o) else 0)
 due_taken plan fund from None = by_test (from == fund)
   where

@@ -18,7 +18,8 @@ lesser (Some x) None = Some x
 lesser (Some x) (Some y) = if is_before y x then Some y else Some x
 
 -- the least of these, and of one found before
-abbrev pub least_from : (LineChange → Option Excess) → Option Excess → List LineChange → Option Excess
+abbrev pub least_from : (LineChange → Option Excess) → Option Excess → List LineChange
+    → Option Excess
 least_from f best [] = best
 least_from f best (c ∷ changes) = least_from f (lesser best (f c)) changes
 
@@ -29,7 +30,8 @@ excess_of line year (Some r) = Some (record { line = line; year = year; refusal 
 
 -- what the test of a change finds, where lines and years have these rooms
 abbrev pub excess_by : (ℕ → ℕ → ℤ) → LineChange → Option Excess
-excess_by room c = excess_of c.line.number c.year (overspends c.line.number (asks_of c.by) (room c.line.number c.year))
+excess_by room c = excess_of c.line.number c.year
+    (overspends c.line.number (asks_of c.by) (room c.line.number c.year))
 
 abbrev pub refusal_in : Option Excess → Option Refusal
 refusal_in best = option_map (λ x. x.refusal) best

@@ -36,7 +36,8 @@ fn fund_cash_refusal(history: &History, fund: u16, taken: u128) -> Option<Refusa
 
 /// What the payment of vouchers takes of a fund, in cents.
 fn paid_of(orders: &Orders, fund: u16, vouchers: &[u32]) -> u128
-    ensures value { result ≡ sum_by (λ n. fund_sum fund (spent_by n orders.now.documents.expenditures)) vouchers.now }
+    ensures value { result
+        ≡ sum_by (λ n. fund_sum fund (spent_by n orders.now.documents.expenditures)) vouchers.now }
     ensures small { result < 2 ^ 127 }
 {
     let mut taken = 0;
@@ -48,7 +49,8 @@ fn paid_of(orders: &Orders, fund: u16, vouchers: &[u32]) -> u128
 
 /// The least fund of which the payment of vouchers takes more cash than it has.
 fn paid_refusal(history: &History, vouchers: &[u32]) -> Option<Refusal>
-    ensures { result ≡ cash.cash_refusal history.now.plan history.now.entries (Act.Pay (record { vouchers = vouchers.now })) }
+    ensures { result ≡ cash.cash_refusal history.now.plan history.now.entries
+        (Act.Pay (record { vouchers = vouchers.now })) }
 {
     for fund in history.chart().funds() {
         let taken = paid_of(history.orders(), fund.id, vouchers);
@@ -61,8 +63,10 @@ fn paid_refusal(history: &History, vouchers: &[u32]) -> Option<Refusal>
 
 /// The fund that makes a debt payment has less cash than its principal and interest.
 fn payment_refusal(history: &History, on: Day, payment: &DebtPayment) -> Option<Refusal>
-    requires { register_name_refusal history.now.plan (registers_of history.now.plan history.now.entries) on (Act.PayDue payment.now) ≡ None }
-    ensures { result ≡ cash.cash_refusal history.now.plan history.now.entries (Act.PayDue payment.now) }
+    requires { register_name_refusal history.now.plan
+        (registers_of history.now.plan history.now.entries) on (Act.PayDue payment.now) ≡ None }
+    ensures { result ≡ cash.cash_refusal history.now.plan history.now.entries
+        (Act.PayDue payment.now) }
 {
     match history.debt().due(history.chart(), payment.bond) {
         Some(due) => {
@@ -75,7 +79,8 @@ fn payment_refusal(history: &History, on: Day, payment: &DebtPayment) -> Option<
 
 /// The fund that pays leave out has less cash than that.
 fn leave_refusal(history: &History, on: Day, act: &LeaveAct) -> Option<Refusal>
-    requires { register_name_refusal history.now.plan (registers_of history.now.plan history.now.entries) on (Act.Leave act.now) ≡ None }
+    requires { register_name_refusal history.now.plan
+        (registers_of history.now.plan history.now.entries) on (Act.Leave act.now) ≡ None }
     ensures { result ≡ cash.cash_refusal history.now.plan history.now.entries (Act.Leave act.now) }
 {
     match act {
@@ -87,8 +92,10 @@ fn leave_refusal(history: &History, on: Day, act: &LeaveAct) -> Option<Refusal>
 
 /// The least fund of which a change takes more cash than it has.
 pub fn cash_refusal(history: &History, on: Day, act: &Act) -> Option<Refusal>
-    requires names { name_refusal history.now.plan (documents_of history.now.plan history.now.entries) on act.now ≡ None }
-    requires register_names { register_name_refusal history.now.plan (registers_of history.now.plan history.now.entries) on act.now ≡ None }
+    requires names { name_refusal history.now.plan
+        (documents_of history.now.plan history.now.entries) on act.now ≡ None }
+    requires register_names { register_name_refusal history.now.plan
+        (registers_of history.now.plan history.now.entries) on act.now ≡ None }
     ensures { result ≡ cash.cash_refusal history.now.plan history.now.entries act.now }
 {
     match act {

@@ -68,7 +68,8 @@ fn change_excess(history: &History, change: &LineChange) -> Option<Excess>
     requires inside { is_inside history.now.plan change.now.line.number change.now.year ≡ true }
     requires lent { has_line history.now.lines change.now.line.number ≡ true }
     requires small { AreSmallSums change.now.by }
-    ensures { result ≡ excess_by (λ line year. numbers.room history.now.plan line year history.now.entries) change.now }
+    ensures { result ≡ excess_by
+        (λ line year. numbers.room history.now.plan line year history.now.entries) change.now }
 {
     let line = change.line.number;
     let year = change.year;
@@ -83,10 +84,13 @@ fn change_excess(history: &History, change: &LineChange) -> Option<Excess>
 
 /// The least line, and its least year, of which one of these changes asks too much.
 fn least_excess(history: &History, changes: &[LineChange]) -> Option<Excess>
-    requires inside { list_all (λ c. is_inside history.now.plan c.line.number c.year) changes.now ≡ true }
+    requires inside { list_all (λ c. is_inside history.now.plan c.line.number c.year) changes.now
+        ≡ true }
     requires lent { All (λ c. has_line history.now.lines c.line.number ≡ true) changes.now }
     requires small { All (λ c. AreSmallSums c.by) changes.now }
-    ensures { result ≡ least_from (excess_by (λ line year. numbers.room history.now.plan line year history.now.entries)) None changes.now }
+    ensures { result ≡ least_from
+        (excess_by (λ line year. numbers.room history.now.plan line year history.now.entries)) None
+        changes.now }
 {
     let mut best = None;
     for change in changes {
@@ -98,9 +102,15 @@ fn least_excess(history: &History, changes: &[LineChange]) -> Option<Excess>
 /// Too much is asked by an act's moves: the least line.
 fn moves_refusal(history: &History, on: Day, act: &Act) -> Option<Refusal>
     requires lent { LendsTouched history.now.plan (has_line history.now.lines) act.now }
-    requires cleared { IsCleared history.now.plan (registers_of history.now.plan history.now.entries) on act.now }
+    requires cleared { IsCleared history.now.plan
+        (registers_of history.now.plan history.now.entries) on act.now }
     ensures { result ≡ spec.first_below
-        (λ line. spec.first_below (λ year. overspends line (asks_of_moves history.now.plan line year (act_moves history.now.plan (registers_of history.now.plan history.now.entries) on act.now)) (numbers.room history.now.plan line year history.now.entries)) 2201)
+        (λ line. spec.first_below
+        (λ year. overspends line
+        (asks_of_moves history.now.plan line year
+        (act_moves history.now.plan
+        (registers_of history.now.plan history.now.entries) on act.now))
+        (numbers.room history.now.plan line year history.now.entries)) 2201)
         (length history.now.plan.lines) }
 {
     let changes = merged_moves(history.chart(), history.registers(), on, act);
@@ -116,14 +126,19 @@ fn refusal_of(excess: Option<Excess>) -> Option<Refusal>
     }
 }
 
-/// More is asked of a control line than it has room for (GASB Codification 1700: budgetary control).
+/// More is asked of a control line than it has room for (GASB Codification 1700: budgetary
+/// control).
 pub fn exceed_refusal(history: &History, change: &Change) -> Option<Refusal>
     requires lent { LendsTouched history.now.plan (has_line history.now.lines) change.now.act }
     requires legal { step.IsLegal history.now.plan history.now.entries }
     requires form { IsChangeInForm change.now }
-    requires names { spec.name_refusal history.now.plan (documents_of history.now.plan history.now.entries) change.now.on change.now.act ≡ None }
-    requires documents { document_refusal history.now.plan (documents_of history.now.plan history.now.entries) change.now.on change.now.desk change.now.act ≡ None }
-    ensures { result ≡ spec.exceed_refusal history.now.plan history.now.entries (results.entry_with (registers_of history.now.plan history.now.entries) change.now) }
+    requires names { spec.name_refusal history.now.plan
+        (documents_of history.now.plan history.now.entries) change.now.on change.now.act ≡ None }
+    requires documents { document_refusal history.now.plan
+        (documents_of history.now.plan history.now.entries) change.now.on change.now.desk
+        change.now.act ≡ None }
+    ensures { result ≡ spec.exceed_refusal history.now.plan history.now.entries
+        (results.entry_with (registers_of history.now.plan history.now.entries) change.now) }
 {
     if let Some(amendment) = change.act.amendment() {
         return amendment_refusal(history, amendment);
@@ -132,7 +147,8 @@ pub fn exceed_refusal(history: &History, change: &Change) -> Option<Refusal>
         return transfer_refusal(history, transfer);
     }
     if let Act::Close(_) = change.act {
-        // What the roll of a year carries has as much appropriation, and all else that a close moves lowers.
+        // What the roll of a year carries has as much appropriation, and all else that a close
+        // moves lowers.
         return None;
     }
     // So that the proof knows the chart's calendar.

@@ -1,4 +1,5 @@
-//! What a call names: funds, departments, objects, sources and control lines of the chart, and documents.
+//! What a call names: funds, departments, objects, sources and control lines of the chart, and
+//! documents.
 
 ghost use Rattle.std.specs.Prelude.{◌≡◌, not, is_some, true};
 ghost use Rattle.cf_model.specs.Rules as spec;
@@ -57,7 +58,8 @@ fn is_line_of(chart: &Chart, fund: u16, year: u16, line: u16) -> bool
 
 /// A line of a fund that controls it in a fiscal year.
 fn line_refusal(chart: &Chart, fund: u16, year: u16, line: u16) -> Option<Refusal>
-    ensures { result ≡ spec.unknown_if (not (spec.is_line_of chart.now fund year (line_at chart.now line))) NameKind.Line line }
+    ensures { result ≡ spec.unknown_if
+        (not (spec.is_line_of chart.now fund year (line_at chart.now line))) NameKind.Line line }
 {
     if is_line_of(chart, fund, year, line) {
         None
@@ -68,7 +70,8 @@ fn line_refusal(chart: &Chart, fund: u16, year: u16, line: u16) -> Option<Refusa
 
 /// A source of any fund.
 fn any_source_refusal(chart: &Chart, source: u16) -> Option<Refusal>
-    ensures { result ≡ spec.unknown_if (not (is_some (source_at chart.now source))) NameKind.Source source }
+    ensures { result ≡ spec.unknown_if
+        (not (is_some (source_at chart.now source))) NameKind.Source source }
 {
     match chart.source(source) {
         Some(_) => None,
@@ -86,7 +89,8 @@ fn is_source_of(chart: &Chart, fund: u16, source: u16) -> bool
 }
 
 fn source_refusal(chart: &Chart, fund: u16, source: u16) -> Option<Refusal>
-    ensures { result ≡ spec.unknown_if (not (spec.is_source_of fund (source_at chart.now source))) NameKind.Source source }
+    ensures { result ≡ spec.unknown_if
+        (not (spec.is_source_of fund (source_at chart.now source))) NameKind.Source source }
 {
     if is_source_of(chart, fund, source) {
         None
@@ -95,8 +99,8 @@ fn source_refusal(chart: &Chart, fund: u16, source: u16) -> Option<Refusal>
     }
 }
 
-/// The first part of an account that the chart doesn't have: its fund, its department, an object that fits, its
-/// control line in a fiscal year.
+/// The first part of an account that the chart doesn't have: its fund, its department, an object
+/// that fits, its control line in a fiscal year.
 pub fn account_refusal_if(
     chart: &Chart,
     is_fit: bool,
@@ -124,7 +128,8 @@ pub fn account_refusal_if(
 
 /// An account on an object of kind current or capital.
 fn account_refusal(chart: &Chart, year: u16, item: &AccountItem) -> Option<Refusal>
-    ensures { result ≡ spec.unknown_account chart.now spec.is_spending year item.now.fund item.now.dept item.now.object }
+    ensures { result ≡ spec.unknown_account chart.now spec.is_spending year item.now.fund
+        item.now.dept item.now.object }
 {
     let is_fit = is_spending(chart, item.object);
     account_refusal_if(chart, is_fit, year, item.fund, item.dept, item.object)
@@ -145,7 +150,8 @@ fn any_account_refusal(
 }
 
 fn requisition_refusal(orders: &Orders, number: u32) -> Option<Refusal>
-    ensures { result ≡ spec.unknown_if (not (is_drawn orders.now.documents.requisitions number)) NameKind.Requisition number }
+    ensures { result ≡ spec.unknown_if
+        (not (is_drawn orders.now.documents.requisitions number)) NameKind.Requisition number }
 {
     if orders.holds_requisition(number) {
         None
@@ -155,7 +161,8 @@ fn requisition_refusal(orders: &Orders, number: u32) -> Option<Refusal>
 }
 
 fn order_refusal(orders: &Orders, number: u32) -> Option<Refusal>
-    ensures { result ≡ spec.unknown_if (not (is_drawn orders.now.documents.orders number)) NameKind.Order number }
+    ensures { result ≡ spec.unknown_if
+        (not (is_drawn orders.now.documents.orders number)) NameKind.Order number }
 {
     if orders.holds_order(number) {
         None
@@ -165,7 +172,8 @@ fn order_refusal(orders: &Orders, number: u32) -> Option<Refusal>
 }
 
 fn voucher_refusal(orders: &Orders, number: u32) -> Option<Refusal>
-    ensures { result ≡ spec.unknown_if (not (is_drawn orders.now.documents.vouchers number)) NameKind.Voucher number }
+    ensures { result ≡ spec.unknown_if
+        (not (is_drawn orders.now.documents.vouchers number)) NameKind.Voucher number }
 {
     if orders.holds_voucher(number) {
         None
@@ -176,7 +184,10 @@ fn voucher_refusal(orders: &Orders, number: u32) -> Option<Refusal>
 
 #[tactic(auto, using(cf_model::proofs::First::firsts))]
 fn lines_refusal(chart: &Chart, fund: u16, year: u16, rows: &[LineAmount]) -> Option<Refusal>
-    ensures { result ≡ first_refusal (λ r. spec.unknown_if (not (spec.is_line_of chart.now fund year (line_at chart.now r.line))) NameKind.Line r.line) rows.now }
+    ensures { result ≡ first_refusal
+        (λ r. spec.unknown_if
+        (not (spec.is_line_of chart.now fund year (line_at chart.now r.line))) NameKind.Line
+        r.line) rows.now }
 {
     for row in rows {
         if let Some(refusal) = line_refusal(chart, fund, year, row.line) {
@@ -188,7 +199,10 @@ fn lines_refusal(chart: &Chart, fund: u16, year: u16, rows: &[LineAmount]) -> Op
 
 #[tactic(auto, using(cf_model::proofs::First::firsts))]
 fn sources_refusal(chart: &Chart, fund: u16, rows: &[SourceAmount]) -> Option<Refusal>
-    ensures { result ≡ first_refusal (λ r. spec.unknown_if (not (spec.is_source_of fund (source_at chart.now r.source))) NameKind.Source r.source) rows.now }
+    ensures { result ≡ first_refusal
+        (λ r. spec.unknown_if
+        (not (spec.is_source_of fund (source_at chart.now r.source))) NameKind.Source r.source)
+        rows.now }
 {
     for row in rows {
         if let Some(refusal) = source_refusal(chart, fund, row.source) {
@@ -200,7 +214,9 @@ fn sources_refusal(chart: &Chart, fund: u16, rows: &[SourceAmount]) -> Option<Re
 
 #[tactic(auto, using(cf_model::proofs::First::firsts))]
 fn accounts_refusal(chart: &Chart, year: u16, items: &[AccountItem]) -> Option<Refusal>
-    ensures { result ≡ first_refusal (λ i. spec.unknown_account chart.now spec.is_spending year i.fund i.dept i.object) items.now }
+    ensures { result ≡ first_refusal
+        (λ i. spec.unknown_account chart.now spec.is_spending year i.fund i.dept i.object)
+        items.now }
 {
     for item in items {
         if let Some(refusal) = account_refusal(chart, year, item) {
@@ -210,10 +226,12 @@ fn accounts_refusal(chart: &Chart, year: u16, items: &[AccountItem]) -> Option<R
     None
 }
 
-/// An item of a voucher of a fiscal year names its account, then the order that it is charged against.
+/// An item of a voucher of a fiscal year names its account, then the order that it is charged
+/// against.
 #[tactic(auto, using(cf_model::proofs::First::firsts))]
 fn item_refusal(chart: &Chart, orders: &Orders, year: u16, item: &VoucherItem) -> Option<Refusal>
-    ensures { result ≡ first_refusal (spec.unknown chart.now orders.now.documents) (spec.item_names year item.now) }
+    ensures { result ≡ first_refusal (spec.unknown chart.now orders.now.documents)
+        (spec.item_names year item.now) }
 {
     if let Some(refusal) = account_refusal(chart, year, &item.account) {
         return Some(refusal);
@@ -231,7 +249,8 @@ fn items_refusal(
     year: u16,
     items: &[VoucherItem],
 ) -> Option<Refusal>
-    ensures { result ≡ first_refusal (spec.unknown chart.now orders.now.documents) (spec.voucher_names year items.now) }
+    ensures { result ≡ first_refusal (spec.unknown chart.now orders.now.documents)
+        (spec.voucher_names year items.now) }
 {
     for item in items {
         if let Some(refusal) = item_refusal(chart, orders, year, item) {
@@ -243,7 +262,9 @@ fn items_refusal(
 
 #[tactic(auto, using(cf_model::proofs::First::firsts))]
 fn vouchers_refusal(orders: &Orders, vouchers: &[u32]) -> Option<Refusal>
-    ensures { result ≡ first_refusal (λ n. spec.unknown_if (not (is_drawn orders.now.documents.vouchers n)) NameKind.Voucher n) vouchers.now }
+    ensures { result ≡ first_refusal
+        (λ n. spec.unknown_if (not (is_drawn orders.now.documents.vouchers n)) NameKind.Voucher n)
+        vouchers.now }
 {
     for number in vouchers {
         if let Some(refusal) = voucher_refusal(orders, *number) {
@@ -255,7 +276,8 @@ fn vouchers_refusal(orders: &Orders, vouchers: &[u32]) -> Option<Refusal>
 
 #[tactic(auto, using(cf_model::proofs::First::firsts))]
 fn taken_up_refusal(chart: &Chart, orders: &Orders, requisition: Option<u32>) -> Option<Refusal>
-    ensures { result ≡ first_refusal (spec.unknown chart.now orders.now.documents) (spec.requisition_names requisition) }
+    ensures { result ≡ first_refusal (spec.unknown chart.now orders.now.documents)
+        (spec.requisition_names requisition) }
 {
     match requisition {
         Some(number) => or(requisition_refusal(orders, number), None),
@@ -265,7 +287,8 @@ fn taken_up_refusal(chart: &Chart, orders: &Orders, requisition: Option<u32>) ->
 
 #[tactic(auto, using(cf_model::proofs::First::firsts))]
 fn adoption_refusal(chart: &Chart, orders: &Orders, adoption: &Adoption) -> Option<Refusal>
-    ensures { (on : OnDay) → result ≡ spec.name_refusal chart.now orders.now.documents on (Act.Adopt adoption.now) }
+    ensures { (on : OnDay)
+        → result ≡ spec.name_refusal chart.now orders.now.documents on (Act.Adopt adoption.now) }
 {
     or(
         fund_refusal(chart, adoption.fund),
@@ -283,7 +306,8 @@ fn adoption_refusal(chart: &Chart, orders: &Orders, adoption: &Adoption) -> Opti
 
 #[tactic(auto, using(cf_model::proofs::First::firsts))]
 fn transfer_refusal(chart: &Chart, orders: &Orders, transfer: &LineTransfer) -> Option<Refusal>
-    ensures { (on : OnDay) → result ≡ spec.name_refusal chart.now orders.now.documents on (Act.Transfer transfer.now) }
+    ensures { (on : OnDay)
+        → result ≡ spec.name_refusal chart.now orders.now.documents on (Act.Transfer transfer.now) }
 {
     or(
         fund_refusal(chart, transfer.fund),
@@ -300,7 +324,8 @@ fn transfer_refusal(chart: &Chart, orders: &Orders, transfer: &LineTransfer) -> 
 /// The fiscal year of an order's item that is changed; that of the day where there is no such item.
 fn changed_year(chart: &Chart, orders: &Orders, on: Day, change: &OrderChange) -> u16
     requires { is_day on ≡ true }
-    ensures { result ≡ spec.item_year (calendar.year_of_day chart.now on) (item_named change.now.order change.now.item orders.now.documents.items) }
+    ensures { result ≡ spec.item_year (calendar.year_of_day chart.now on)
+        (item_named change.now.order change.now.item orders.now.documents.items) }
 {
     match orders.item_year(change.order, change.item) {
         Some(year) => year,
@@ -312,7 +337,8 @@ fn changed_year(chart: &Chart, orders: &Orders, on: Day, change: &OrderChange) -
 #[tactic(auto, using(cf_model::proofs::First::firsts))]
 fn change_refusal(chart: &Chart, orders: &Orders, on: Day, change: &OrderChange) -> Option<Refusal>
     requires { is_day on ≡ true }
-    ensures { result ≡ spec.name_refusal chart.now orders.now.documents on (Act.ChangeOrder change.now) }
+    ensures { result ≡ spec.name_refusal chart.now orders.now.documents on
+        (Act.ChangeOrder change.now) }
 {
     let year = changed_year(chart, orders, on, change);
     or(
@@ -324,8 +350,8 @@ fn change_refusal(chart: &Chart, orders: &Orders, on: Day, change: &OrderChange)
     )
 }
 
-/// The first name of an act that there is nothing of, but for acts on bills, assets, debt and leave. A line is one of the
-/// year that the act posts or holds in.
+/// The first name of an act that there is nothing of, but for acts on bills, assets, debt and
+/// leave. A line is one of the year that the act posts or holds in.
 #[tactic(auto, using(cf_model::proofs::First::firsts))]
 pub fn name_refusal(chart: &Chart, orders: &Orders, on: Day, act: &Act) -> Option<Refusal>
     requires { is_day on ≡ true }

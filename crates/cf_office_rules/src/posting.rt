@@ -10,7 +10,12 @@ use cf_office_history::History;
 
 /// The reply to a change that repeats the call at a place.
 pub fn repeat_reply(history: &History, was: u64) -> Posted
-    ensures { result ≡ posted.Reply (record { at = length history.now.entries; body = bodies.Done (results.made_at history.now.plan history.now.entries was) (Some was) }) }
+    ensures { result ≡ posted.Reply
+        (record {
+          at = length history.now.entries;
+          body =
+              bodies.Done (results.made_at history.now.plan history.now.entries was) (Some was);
+        }) }
 {
     let made = history.made_at(was);
     Posted::Reply(Reply {
@@ -24,7 +29,8 @@ pub fn repeat_reply(history: &History, was: u64) -> Posted
 
 /// The reply to a change that a rule refuses.
 pub fn refusal_reply(history: &History, refusal: Refusal) -> Posted
-    ensures { result ≡ posted.Reply (record { at = length history.now.entries; body = bodies.Refused refusal }) }
+    ensures { result ≡ posted.Reply
+        (record { at = length history.now.entries; body = bodies.Refused refusal }) }
 {
     Posted::Reply(Reply {
         at: history.len(),

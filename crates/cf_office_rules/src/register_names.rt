@@ -35,7 +35,8 @@ pub fn dept_refusal(chart: &Chart, dept: u16) -> Option<Refusal>
 }
 
 fn capital_refusal(chart: &Chart, object: u16) -> Option<Refusal>
-    ensures { result ≡ rules.unknown_if (not (charted.is_capital (object_at chart.now object))) NameKind.Object object }
+    ensures { result ≡ rules.unknown_if
+        (not (charted.is_capital (object_at chart.now object))) NameKind.Object object }
 {
     if is_capital(chart, object) {
         None
@@ -45,7 +46,8 @@ fn capital_refusal(chart: &Chart, object: u16) -> Option<Refusal>
 }
 
 fn bill_refusal(revenue: &Revenue, number: u32) -> Option<Refusal>
-    ensures { result ≡ rules.unknown_if (not (is_some (bill_at number revenue.now.receivables.bills))) NameKind.Bill number }
+    ensures { result ≡ rules.unknown_if
+        (not (is_some (bill_at number revenue.now.receivables.bills))) NameKind.Bill number }
 {
     match revenue.bill(number) {
         Some(_) => None,
@@ -75,7 +77,8 @@ fn bond_refusal(debt: &Debt, number: u32) -> Option<Refusal>
 /// The fiscal year in which a bond's next payment is due; that of the day where none is.
 fn payment_year(chart: &Chart, debt: &Debt, on: Day, bond: u32) -> u16
     requires { is_day on ≡ true }
-    ensures { result ≡ spec.payment_year chart.now (calendar.year_of_day chart.now on) (bond_at bond debt.now.debts.bonds) }
+    ensures { result ≡ spec.payment_year chart.now (calendar.year_of_day chart.now on)
+        (bond_at bond debt.now.debts.bonds) }
 {
     match debt.due(chart, bond) {
         Some(due) => due.year,
@@ -113,13 +116,16 @@ fn payment_refusal(chart: &Chart, year: u16, payment: &DebtPayment) -> Option<Re
 
 /// A fund and a department.
 pub fn leave_refusal(chart: &Chart, fund: u16, dept: u16) -> Option<Refusal>
-    ensures { result ≡ rules.or_else (spec.unknown_fund chart.now fund) (spec.unknown_dept chart.now dept) }
+    ensures { result ≡ rules.or_else (spec.unknown_fund chart.now fund)
+        (spec.unknown_dept chart.now dept) }
 {
     or(fund_refusal(chart, fund), dept_refusal(chart, dept))
 }
 
 fn asset_act_refusal(chart: &Chart, registers: &Registers, act: &AssetAct) -> Option<Refusal>
-    ensures { (on : OnDay) → result ≡ spec.register_name_refusal chart.now registers.now.registers on (Act.Asset act.now) }
+    ensures { (on : OnDay)
+        → result ≡ spec.register_name_refusal chart.now registers.now.registers on
+        (Act.Asset act.now) }
 {
     match act {
         AssetAct::Donate(gift) => or(
@@ -140,7 +146,8 @@ fn leave_act_refusal(
     act: &LeaveAct,
 ) -> Option<Refusal>
     requires { is_day on ≡ true }
-    ensures { result ≡ spec.register_name_refusal chart.now registers.now.registers on (Act.Leave act.now) }
+    ensures { result ≡ spec.register_name_refusal chart.now registers.now.registers on
+        (Act.Leave act.now) }
 {
     match act {
         LeaveAct::Earn(leave) => leave_refusal(chart, leave.fund, leave.dept),
@@ -156,7 +163,8 @@ fn leave_act_refusal(
 /// The account of a lease in its fiscal year, which is of a capital object.
 fn leased_refusal(chart: &Chart, on: Day, account: &AccountItem) -> Option<Refusal>
     requires { is_day on ≡ true }
-    ensures { result ≡ rules.unknown_account chart.now charted.is_capital (calendar.year_of_day chart.now on) account.now.fund account.now.dept account.now.object }
+    ensures { result ≡ rules.unknown_account chart.now charted.is_capital
+        (calendar.year_of_day chart.now on) account.now.fund account.now.dept account.now.object }
 {
     let is_fit = is_capital(chart, account.object);
     account_refusal_if(

@@ -126,7 +126,8 @@ fn sources_amount_refusal(rows: &[SourceAmount]) -> Option<Refusal>
 
 #[tactic(auto, using(cf_model::proofs::First::firsts))]
 fn items_amount_refusal(items: &[VoucherItem]) -> Option<Refusal>
-    ensures { result ≡ first_refusal (λ i. spec.bad_amount (spec.amount i.account.amount)) items.now }
+    ensures { result ≡ first_refusal
+        (λ i. spec.bad_amount (spec.amount i.account.amount)) items.now }
 {
     for item in items {
         if let Some(refusal) = one_amount_refusal(item.account.amount) {
@@ -304,7 +305,8 @@ pub fn year_refusal(history: &History, on: Day, act: &Act) -> Option<Refusal>
     )
 }
 
-/// The fiscal year of the month that is closed is too far ahead, or the year isn't the next one to close.
+/// The fiscal year of the month that is closed is too far ahead, or the year isn't the next one to
+/// close.
 pub fn closing_refusal(history: &History, on: Day, act: &Act) -> Option<Refusal>
     requires { IsActInForm on act.now }
     ensures { result ≡ spec.closing_refusal history.now.plan history.now.entries act.now }
@@ -363,7 +365,8 @@ fn bill_levy_refusal(revenue: &Revenue, year: u16, bill: u32) -> Option<Refusal>
 /// A bill is collected or written off before its levy year.
 pub fn levy_refusal(history: &History, on: Day, act: &Act) -> Option<Refusal>
     requires { is_day on ≡ true }
-    ensures { result ≡ register.levy_refusal history.now.plan (registers_of history.now.plan history.now.entries) on act.now }
+    ensures { result ≡ register.levy_refusal history.now.plan
+        (registers_of history.now.plan history.now.entries) on act.now }
 {
     let year = year_of_day(history.chart(), on);
     let revenue = history.revenue();
@@ -491,7 +494,8 @@ pub fn adopted_refusal(history: &History, act: &Act) -> Option<Refusal>
 }
 
 fn unadopted_fund_refusal(history: &History, fund: u16, year: u16) -> Option<Refusal>
-    ensures { result ≡ spec.unadopted_where fund year (spec.adopted_at fund year history.now.entries) }
+    ensures { result ≡ spec.unadopted_where fund year
+        (spec.adopted_at fund year history.now.entries) }
 {
     match history.adopted(fund, year) {
         Some(_) => None,
@@ -501,7 +505,9 @@ fn unadopted_fund_refusal(history: &History, fund: u16, year: u16) -> Option<Ref
 
 #[tactic(auto, using(cf_model::proofs::First::firsts))]
 fn unadopted_items_refusal(history: &History, year: u16, items: &[VoucherItem]) -> Option<Refusal>
-    ensures { result ≡ first_refusal (λ fund. spec.unadopted_where fund year (spec.adopted_at fund year history.now.entries)) (spec.direct_funds items.now) }
+    ensures { result ≡ first_refusal
+        (λ fund. spec.unadopted_where fund year (spec.adopted_at fund year history.now.entries))
+        (spec.direct_funds items.now) }
 {
     for item in items {
         if let Some(refusal) = unadopted_item_refusal(history, year, item) {
@@ -513,7 +519,9 @@ fn unadopted_items_refusal(history: &History, year: u16, items: &[VoucherItem]) 
 
 #[tactic(auto, using(cf_model::proofs::First::firsts))]
 fn unadopted_item_refusal(history: &History, year: u16, item: &VoucherItem) -> Option<Refusal>
-    ensures { result ≡ first_refusal (λ fund. spec.unadopted_where fund year (spec.adopted_at fund year history.now.entries)) (spec.funds_if_direct item.now.charge item.now.account.fund) }
+    ensures { result ≡ first_refusal
+        (λ fund. spec.unadopted_where fund year (spec.adopted_at fund year history.now.entries))
+        (spec.funds_if_direct item.now.charge item.now.account.fund) }
 {
     match &item.charge {
         Charge::Direct => or(
@@ -530,7 +538,9 @@ fn unadopted_accounts_refusal(
     year: u16,
     items: &[AccountItem],
 ) -> Option<Refusal>
-    ensures { result ≡ first_refusal (λ i. spec.unadopted_where i.fund year (spec.adopted_at i.fund year history.now.entries)) items.now }
+    ensures { result ≡ first_refusal
+        (λ i. spec.unadopted_where i.fund year (spec.adopted_at i.fund year history.now.entries))
+        items.now }
 {
     for item in items {
         if let Some(refusal) = unadopted_fund_refusal(history, item.fund, year) {
@@ -593,7 +603,8 @@ pub fn unadopted_refusal(history: &History, on: Day, act: &Act) -> Option<Refusa
 
 /// The fund's budget of the fiscal year in which a debt payment is due isn't adopted.
 pub fn payment_refusal(history: &History, act: &Act) -> Option<Refusal>
-    ensures { result ≡ register.payment_refusal history.now.plan history.now.entries (registers_of history.now.plan history.now.entries) act.now }
+    ensures { result ≡ register.payment_refusal history.now.plan history.now.entries
+        (registers_of history.now.plan history.now.entries) act.now }
 {
     match act {
         Act::PayDue(payment) => match history.debt().due(history.chart(), payment.bond) {

@@ -25,9 +25,11 @@ use crate::windows::window_refusal;
 use cf_calls::{Change, Refusal, Verdict};
 use cf_office_history::History;
 
-/// The rules before a repeat: an unknown desk, and a caller that has seen more than the history has.
+/// The rules before a repeat: an unknown desk, and a caller that has seen more than the history
+/// has.
 fn first_rules(history: &History, change: &Change) -> Option<Refusal>
-    ensures { result ≡ rules.first_of (step.first_rules history.now.plan history.now.entries change.now) }
+    ensures { result ≡ rules.first_of
+        (step.first_rules history.now.plan history.now.entries change.now) }
 {
     or(
         desk_refusal(history.chart(), change.desk),
@@ -38,7 +40,8 @@ fn first_rules(history: &History, change: &Change) -> Option<Refusal>
 /// The rules of the desk's role, the history's length, amounts and names.
 fn call_rules(history: &History, change: &Change) -> Option<Refusal>
     requires { is_day change.now.on ≡ true }
-    ensures first { result ≡ rules.first_of (step.call_rules history.now.plan history.now.entries change.now) }
+    ensures first { result
+        ≡ rules.first_of (step.call_rules history.now.plan history.now.entries change.now) }
 {
     let chart = history.chart();
     let act = &change.act;
@@ -63,7 +66,8 @@ fn call_rules(history: &History, change: &Change) -> Option<Refusal>
 /// The rules of periods and adopted budgets.
 fn period_rules(history: &History, change: &Change) -> Option<Refusal>
     requires { IsChangeInForm change.now }
-    ensures { result ≡ rules.first_of (step.period_rules history.now.plan history.now.entries change.now) }
+    ensures { result ≡ rules.first_of
+        (step.period_rules history.now.plan history.now.entries change.now) }
 {
     if let Some(refusal) = period_refusal(history, change.on) {
         return Some(refusal);
@@ -95,22 +99,28 @@ fn period_rules(history: &History, change: &Change) -> Option<Refusal>
 /// The first broken rule of the registers.
 fn register_refusal(history: &History, change: &Change) -> Option<Refusal>
     requires { is_day change.now.on ≡ true }
-    ensures { result ≡ rules.first_of (register_rules history.now.plan (registers_of history.now.plan history.now.entries) change.now.on change.now.desk change.now.act) }
+    ensures { result ≡ rules.first_of
+        (register_rules history.now.plan
+        (registers_of history.now.plan history.now.entries) change.now.on change.now.desk
+        change.now.act) }
 {
     history
         .registers()
         .check(history.chart(), change.on, change.desk, &change.act)
 }
 
-/// The rules on the states of documents, on what is left of bills and loans, on assets, debt, leave and the order of
-/// months, of room, and of cash.
+/// The rules on the states of documents, on what is left of bills and loans, on assets, debt, leave
+/// and the order of months, of room, and of cash.
 #[tactic(auto, using(cf_model::proofs::First::rule_lists))]
 fn last_rules(history: &History, change: &Change) -> Option<Refusal>
     requires lent { LendsTouched history.now.plan (has_line history.now.lines) change.now.act }
     requires form { IsChangeInForm change.now }
-    requires names { rules.name_refusal history.now.plan (documents_of history.now.plan history.now.entries) change.now.on change.now.act ≡ None }
-    requires register_names { register.register_name_refusal history.now.plan (registers_of history.now.plan history.now.entries) change.now.on change.now.act ≡ None }
-    ensures { result ≡ rules.first_of (step.last_rules history.now.plan history.now.entries change.now) }
+    requires names { rules.name_refusal history.now.plan
+        (documents_of history.now.plan history.now.entries) change.now.on change.now.act ≡ None }
+    requires register_names { register.register_name_refusal history.now.plan
+        (registers_of history.now.plan history.now.entries) change.now.on change.now.act ≡ None }
+    ensures { result ≡ rules.first_of
+        (step.last_rules history.now.plan history.now.entries change.now) }
 {
     // So that the proof knows that the history is legal.
     let _chart = history.chart();
@@ -128,7 +138,8 @@ fn last_rules(history: &History, change: &Change) -> Option<Refusal>
 fn later_rules(history: &History, change: &Change) -> Option<Refusal>
     requires lent { LendsTouched history.now.plan (has_line history.now.lines) change.now.act }
     requires form { IsChangeInForm change.now }
-    ensures { result ≡ rules.first_of (step.later_rules history.now.plan history.now.entries change.now) }
+    ensures { result ≡ rules.first_of
+        (step.later_rules history.now.plan history.now.entries change.now) }
 {
     if let Some(refusal) = call_rules(history, change) {
         return Some(refusal);
@@ -161,8 +172,9 @@ fn judge_new(history: &History, change: &Change) -> Verdict
     }
 }
 
-/// What the rules say of a change over a history: that it is accepted with the numbers that it draws, that it
-/// repeats an earlier call, or the least broken rule with its values. It takes no memory.
+/// What the rules say of a change over a history: that it is accepted with the numbers that it
+/// draws, that it repeats an earlier call, or the least broken rule with its values. It takes no
+/// memory.
 pub fn judge(history: &History, change: &Change) -> Verdict
     requires form { IsChangeInForm change.now }
     requires lent { LendsTouched history.now.plan (has_line history.now.lines) change.now.act }

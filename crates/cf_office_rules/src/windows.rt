@@ -1,4 +1,5 @@
-//! The availability period of a fiscal year, within which what is collected may still be revenue of it.
+//! The availability period of a fiscal year, within which what is collected may still be revenue of
+//! it.
 
 ghost use Rattle.std.specs.Prelude.{◌≡◌};
 ghost use Rattle.cf_calls.specs.Form.{IsActInForm, IsYear};
@@ -23,7 +24,8 @@ fn window_month(chart: &Chart, year: u16) -> Month
     month_at(window_end(last_day, chart.longest_window()))
 }
 
-/// Whether a month is closed: it is before the chart's first month, or one of the first months that are closed.
+/// Whether a month is closed: it is before the chart's first month, or one of the first months that
+/// are closed.
 fn is_closed(history: &History, month: Month) -> bool
     requires { IsNamed month }
     ensures { result ≡ is_month_closed history.now.plan history.now.entries month }

@@ -24,8 +24,12 @@ fn add_to(amounts: &mut Vec<u128>, line: u16, amount: u64)
     requires within { line < length amounts.old.items }
     requires small { slice_index_or amounts.old.items line 0 < 2 ^ 100 }
     ensures len { length amounts.new.items ≡ length amounts.old.items }
-    ensures each { (k : ℕ) → k < length amounts.old.items → slice_index_or amounts.new.items k 0 ≡ slice_index_or amounts.old.items k 0 + (if line == k then amount else 0) }
-    ensures most { (k : ℕ) → k < length amounts.old.items → slice_index_or amounts.new.items k 0 ≤ slice_index_or amounts.old.items k 0 + 18446744073709551615 }
+    ensures each { (k : ℕ) → k < length amounts.old.items
+        → slice_index_or amounts.new.items k 0
+        ≡ slice_index_or amounts.old.items k 0 + (if line == k then amount else 0) }
+    ensures most { (k : ℕ) → k < length amounts.old.items
+        → slice_index_or amounts.new.items k 0
+        ≤ slice_index_or amounts.old.items k 0 + 18446744073709551615 }
 {
     amounts[line as usize] += u128::from(amount);
 }
@@ -34,10 +38,15 @@ fn add_to(amounts: &mut Vec<u128>, line: u16, amount: u64)
 fn carry(amounts: &mut Vec<u128>, chart: &Chart, year: u16, row: &ItemRow)
     requires year { year ≤ last_year }
     requires len { length amounts.old.items ≡ length chart.now.lines }
-    requires small { (k : ℕ) → k < length amounts.old.items → slice_index_or amounts.old.items k 0 < 2 ^ 100 }
+    requires small { (k : ℕ) → k < length amounts.old.items
+        → slice_index_or amounts.old.items k 0 < 2 ^ 100 }
     ensures len { length amounts.new.items ≡ length amounts.old.items }
-    ensures each { (k : ℕ) → k < length amounts.old.items → slice_index_or amounts.new.items k 0 ≡ slice_index_or amounts.old.items k 0 + adds_to chart.now k year row.now }
-    ensures most { (k : ℕ) → k < length amounts.old.items → slice_index_or amounts.new.items k 0 ≤ slice_index_or amounts.old.items k 0 + 18446744073709551615 }
+    ensures each { (k : ℕ) → k < length amounts.old.items
+        → slice_index_or amounts.new.items k 0
+        ≡ slice_index_or amounts.old.items k 0 + adds_to chart.now k year row.now }
+    ensures most { (k : ℕ) → k < length amounts.old.items
+        → slice_index_or amounts.new.items k 0
+        ≤ slice_index_or amounts.old.items k 0 + 18446744073709551615 }
 {
     if !goes_on(chart, year, row) {
         return;
@@ -50,8 +59,8 @@ fn carry(amounts: &mut Vec<u128>, chart: &Chart, year: u16, row: &ItemRow)
 }
 
 impl Orders {
-    /// What the roll of a fiscal year carries onto each line of the year after, by the line's number, in cents. It goes once
-    /// over the items of orders.
+    /// What the roll of a fiscal year carries onto each line of the year after, by the line's
+    /// number, in cents. It goes once over the items of orders.
     pub fn carried_amounts(
         &self,
         alloc: Global,
@@ -59,8 +68,10 @@ impl Orders {
         year: u16,
     ) -> Result<Vec<u128>, AllocError>
         requires { year ≤ last_year }
-        ensures carried { IfOk result (λ v. AreCarried chart.now year self.now.documents.items v.items) }
-        ensures small { IfOk result (λ v. (n : ℕ) → n < length v.items → slice_index_or v.items n 0 < 2 ^ 100) }
+        ensures carried { IfOk result
+            (λ v. AreCarried chart.now year self.now.documents.items v.items) }
+        ensures small { IfOk result
+            (λ v. (n : ℕ) → n < length v.items → slice_index_or v.items n 0 < 2 ^ 100) }
     {
         let mut amounts = zeros(alloc, chart.lines().len())?;
         for k in 0..count(&self.items) {

@@ -9,8 +9,8 @@ use crate::rows::ItemRow;
 use cf_chart::Chart;
 use cf_register_parts::{carries, has_line};
 
-/// Whether an item lapses at its year's roll: nothing is open, its fund carries nothing, or its account has no line in the
-/// year after.
+/// Whether an item lapses at its year's roll: nothing is open, its fund carries nothing, or its
+/// account has no line in the year after.
 pub fn lapses(chart: &Chart, row: &ItemRow) -> bool
     requires { row.now.year ≤ last_year }
     ensures { result ≡ lapses_row chart.now row.now }

@@ -34,7 +34,15 @@ pub struct LineMove {
 
 /// A move of nothing.
 pub fn no_move(account: AccountItem, year: u16) -> LineMove
-    ensures value { result ≡ record { account = account; year = year; held = pos 0; encumbered = pos 0; expended = pos 0 } }
+    ensures value { result
+        ≡ record {
+          account = account;
+          year = year;
+          held = pos 0;
+          encumbered = pos 0;
+          expended =
+              pos 0;
+        } }
     ensures small { IsSmall result }
 {
     LineMove {
@@ -113,7 +121,15 @@ pub fn unspend_move(row: &ExpenditureRow) -> LineMove
 /// What is encumbered of an order's item changes by so much.
 pub fn item_move(row: &ItemRow, by: i128) -> LineMove
     requires { unsigned_abs by < 2 ^ 64 }
-    ensures value { result ≡ record { account = row.now.account; year = row.now.year; held = pos 0; encumbered = by; expended = pos 0 } }
+    ensures value { result
+        ≡ record {
+          account = row.now.account;
+          year = row.now.year;
+          held = pos 0;
+          encumbered =
+              by;
+          expended = pos 0;
+        } }
     ensures small { IsSmall result }
 {
     let mut made = no_move(row.account, row.year);
@@ -123,7 +139,8 @@ pub fn item_move(row: &ItemRow, by: i128) -> LineMove
 
 /// What a requisition's item of this place holds.
 pub fn hold_at(year: u16, items: &[AccountItem], nth: usize) -> Option<LineMove>
-    ensures value { result ≡ option_map line_move (slice_get (map (model.hold_move year) items.now) nth) }
+    ensures value { result
+        ≡ option_map line_move (slice_get (map (model.hold_move year) items.now) nth) }
     ensures small { IfSome result IsSmall }
 {
     match items.get(nth) {
@@ -134,7 +151,8 @@ pub fn hold_at(year: u16, items: &[AccountItem], nth: usize) -> Option<LineMove>
 
 /// What an order's item of this place encumbers.
 pub fn order_at(year: u16, items: &[AccountItem], nth: usize) -> Option<LineMove>
-    ensures value { result ≡ option_map line_move (slice_get (map (model.order_move year) items.now) nth) }
+    ensures value { result
+        ≡ option_map line_move (slice_get (map (model.order_move year) items.now) nth) }
     ensures small { IfSome result IsSmall }
 {
     match items.get(nth) {
@@ -145,7 +163,8 @@ pub fn order_at(year: u16, items: &[AccountItem], nth: usize) -> Option<LineMove
 
 /// What a voucher's item of this place expends.
 pub fn spend_at(year: u16, items: &[VoucherItem], nth: usize) -> Option<LineMove>
-    ensures value { result ≡ option_map line_move (slice_get (map (model.spend_move year) items.now) nth) }
+    ensures value { result
+        ≡ option_map line_move (slice_get (map (model.spend_move year) items.now) nth) }
     ensures small { IfSome result IsSmall }
 {
     match items.get(nth) {
@@ -157,7 +176,8 @@ pub fn spend_at(year: u16, items: &[VoucherItem], nth: usize) -> Option<LineMove
 impl Orders {
     /// How many moves an act has: at most 64 where it is in form.
     pub fn moves(&self, act: &Act) -> usize
-        ensures value { (plan : Plan) (number : ℕ) (on : Day) → result ≡ length (document_moves plan self.now.documents number on act.now) }
+        ensures value { (plan : Plan) (number : ℕ) (on : Day)
+            → result ≡ length (document_moves plan self.now.documents number on act.now) }
         ensures few { (on : Day) → IsActInForm on act.now → result ≤ 64 }
     {
         match act {
@@ -188,7 +208,8 @@ impl Orders {
 
     /// How many items a requisition has, if one is named.
     pub(crate) fn released(&self, requisition: Option<u32>) -> usize
-        ensures value { result ≡ length (filter (λ h. is_number requisition h.requisition) self.now.documents.holds) }
+        ensures value { result
+            ≡ length (filter (λ h. is_number requisition h.requisition) self.now.documents.holds) }
         ensures few { result ≤ 32 }
     {
         match requisition {

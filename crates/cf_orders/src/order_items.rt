@@ -16,7 +16,8 @@ use cf_register_parts::Extent;
 pub fn add_items(items: &mut Vec<ItemRow>, header: Header, vendor: u32, accounts: &[AccountItem])
     requires room { vec_len items.old + length accounts.now ≤ vec_capacity items.old }
     requires few { length accounts.now < 65535 }
-    ensures items { items.new.items ≡ items.old.items ++ rows_from header.number vendor header.year 1 accounts.now }
+    ensures items { items.new.items
+        ≡ items.old.items ++ rows_from header.number vendor header.year 1 accounts.now }
 {
     let mut place: u16 = 1;
     for account in accounts {

@@ -1,4 +1,5 @@
--- The weights come to at most 31 times the sizes of all movements, since the funds of a chart differ.
+-- The weights come to at most 31 times the sizes of all movements, since the funds of a chart
+-- differ.
 use Rattle.std.proofs.Common.{◌≡◌, ℕ, ℤ, pos, negsuc, ◌+◌, ◌*◌, ◌^◌, ◌<◌, ◌≤◌, ◌*ℤ◌, unsigned_abs, Bool, true, false, ◌==◌, nat_lt, if◌then◌else◌, is_some, List, [], ◌∷◌, map, sum, refl, ap, ◌∙◌, arith, eqb-true, ltb-true, ne_eqb}
 use Rattle.std.specs.List.{list_all}
 use Rattle.std.proofs.lemmas.Bool.{and_parts}

@@ -1,5 +1,5 @@
--- Daily balances of pooled cash. Each fund has a part in the pool (GASB Statement 31); interest goes to the funds by their average
--- daily balances (own rule).
+-- Daily balances of pooled cash. Each fund has a part in the pool (GASB Statement 31); interest
+-- goes to the funds by their average daily balances (own rule).
 use Rattle.std.specs.Prelude.{ℕ, zero, suc, ℤ, pos, ◌-◌, ◌+ℤ◌, Bool, ◌&&◌, ◌||◌, ◌==◌, nat_lt, nat_le, if◌then◌else◌, List, [], ◌∷◌, sum_by, unsigned_abs}
 use Rattle.jiff_core.specs.Calendar.{days_in_month}
 use Rattle.cf_base.specs.declared.calendar.Day.{Day}
@@ -8,7 +8,9 @@ use Rattle.cf_pool.specs.declared.days.CashMove.{CashMove}
 
 -- a day is another one, or comes before it
 abbrev pub is_by : Day → Day → Bool
-is_by a b = nat_lt a.year b.year || ((a.year == b.year) && (nat_lt a.month b.month || ((a.month == b.month) && nat_le a.day b.day)))
+is_by a b = nat_lt a.year b.year
+    || ((a.year == b.year)
+    && (nat_lt a.month b.month || ((a.month == b.month) && nat_le a.day b.day)))
 
 -- ---- day by day
 
@@ -27,7 +29,8 @@ day_of month d = record { year = month.year; month = month.month; day = d }
 -- the sum of the balances at the ends of the first days of a month
 abbrev pub sum_of_days : List CashMove → Month → ℕ → ℕ → ℤ
 sum_of_days moves month fund zero = pos 0
-sum_of_days moves month fund (suc d) = balance_at moves fund (day_of month (suc d)) +ℤ sum_of_days moves month fund d
+sum_of_days moves month fund (suc d) =
+    balance_at moves fund (day_of month (suc d)) +ℤ sum_of_days moves month fund d
 
 -- of all its days
 unfoldable pub day_sum : List CashMove → Month → ℕ → ℤ

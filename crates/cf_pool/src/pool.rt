@@ -42,12 +42,14 @@ fn shares_of(alloc: Global, amount: u64, weights: &[u128]) -> Result<Vec<u64>, A
     Ok(shares)
 }
 
-/// The shares of an amount by the weights of funds. They come to the amount, and a fund without a weight has none.
+/// The shares of an amount by the weights of funds. They come to the amount, and a fund without a
+/// weight has none.
 fn fund_shares(alloc: Global, amount: u64, weights: &[u128]) -> Result<Vec<u64>, AllocError>
     requires some { 0 < sum weights.now }
     requires fits { sum weights.now < 2 ^ 64 }
     ensures fair { IfOk result (λ v. AreShares amount weights.now v.items) }
-    ensures whole { (plan : Plan) (moves : List CashMove) (month : Month) → weights.now ≡ spec.weights plan moves month
+    ensures whole { (plan : Plan) (moves : List CashMove) (month : Month)
+        → weights.now ≡ spec.weights plan moves month
         → IfOk result (λ v. spec.received plan.sources plan.funds v.items ≡ amount) }
 {
     shares_of(alloc, amount, weights)
@@ -97,7 +99,9 @@ fn put_share(
     share: u64,
 ) -> Result<(), AllocError>
     requires { month.year ≤ last_year }
-    ensures { OnOk result (out.new.items ≡ out.old.items ++ spec.share_line desk month fund share (option_copied source.entry)) }
+    ensures { OnOk result
+        (out.new.items ≡ out.old.items
+        ++ spec.share_line desk month fund share (option_copied source.entry)) }
 {
     let Some(source) = source else {
         return Ok(());
@@ -125,7 +129,9 @@ fn put_shares(
 ) -> Result<(), AllocError>
     requires year { month.year ≤ last_year }
     requires each { length shares.now ≡ length funds.now }
-    ensures { OnOk result (out.new.items ≡ out.old.items ++ spec.share_lines desk month sources.now funds.now shares.now) }
+    ensures { OnOk result
+        (out.new.items ≡ out.old.items
+        ++ spec.share_lines desk month sources.now funds.now shares.now) }
 {
     for i in 0..funds.len() {
         let fund = funds[i].id;
@@ -135,9 +141,10 @@ fn put_shares(
     Ok(())
 }
 
-/// Appends the receipts by which a desk shares a month's interest, 1 to 10^13 cents, among the funds by their daily balances:
-/// one line for each fund by id with a share. It is refused, and nothing is appended, exactly where the weights come to nothing or to more
-/// than 2^64 - 1. Where there is no memory a part of the lines may be appended. Each movement is read once.
+/// Appends the receipts by which a desk shares a month's interest, 1 to 10^13 cents, among the
+/// funds by their daily balances: one line for each fund by id with a share. It is refused, and
+/// nothing is appended, exactly where the weights come to nothing or to more than 2^64 - 1. Where
+/// there is no memory a part of the lines may be appended. Each movement is read once.
 #[tactic(auto, using(crate::proofs::Months::call_month_year))]
 pub fn pool_lines(
     alloc: Global,

@@ -64,16 +64,19 @@ fn put_moves(moves: &mut Vec<CashMove>, on: Day, posts: &[Post]) -> Result<(), A
     Ok(())
 }
 
-/// Opens the book of the journal on a disk, as `cf_journal_book::open` does, and gathers what its entries moved of each fund's cash,
-/// oldest first. No post is read twice.
+/// Opens the book of the journal on a disk, as `cf_journal_book::open` does, and gathers what its
+/// entries moved of each fund's cash, oldest first. No post is read twice.
 pub fn open_with_moves<D: Disk + Drop>(
     alloc: Global,
     disk: D,
 ) -> Result<(Book<D>, Vec<CashMove>), NotOpened<D>>
-    ensures ok { IfOk result (λ x. OpensBook D.tells D.content D.is_image D.moment D.was_image D.faults disk x.0) }
+    ensures ok { IfOk result
+        (λ x. OpensBook D.tells D.content D.is_image D.moment D.was_image D.faults disk x.0) }
     ensures moves { IfOk result (λ x. x.1.items ≡ spec.moves_of x.0.plan x.0.entries) }
     ensures few { IfOk result (λ x. sizes x.1.items < 2 ^ 120) }
-    ensures err { IfErr result (λ e. OpensNone D.tells D.content D.is_image D.moment D.was_image D.faults disk e.disk e.why) }
+    ensures err { IfErr result
+        (λ e. OpensNone D.tells D.content D.is_image D.moment D.was_image D.faults disk e.disk
+        e.why) }
 {
     let mut gathered = Gathered {
         moves: Vec::new(alloc),

@@ -1,4 +1,5 @@
-//! What an entry did, as the posting table reads it. Amounts are in cents and years are fiscal years.
+//! What an entry did, as the posting table reads it. Amounts are in cents and years are fiscal
+//! years.
 
 ghost use Rattle.std.specs.Prelude.{◌≡◌};
 
@@ -98,7 +99,8 @@ pub struct Collection {
     pub amount: u64,
 }
 
-/// A capital asset that is disposed of, with the function that acquired it. The proceeds are the fund's.
+/// A capital asset that is disposed of, with the function that acquired it. The proceeds are the
+/// fund's.
 #[derive(Clone, Copy)]
 pub struct Disposal {
     pub year: u16,
@@ -169,9 +171,10 @@ pub struct CityTotal {
     pub amount: u128,
 }
 
-/// A row of the posting table. Entries of other kinds have no posts. A voucher, a void and a payment of vouchers have a
-/// deed for each item; the closing of a month has two for each function, of depreciation and of amortization, and one for interest. So each
-/// deed has at most five posts, and holds no list.
+/// A row of the posting table. Entries of other kinds have no posts. A voucher, a void and a
+/// payment of vouchers have a deed for each item; the closing of a month has two for each function,
+/// of depreciation and of amortization, and one for interest. So each deed has at most five posts,
+/// and holds no list.
 #[derive(Clone, Copy)]
 pub enum Deed {
     /// An item of a voucher is entered.

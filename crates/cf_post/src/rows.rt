@@ -30,7 +30,9 @@ pub fn city(year: u16) -> FundYear
 
 /// Adds a post at the end, but for one of zero.
 fn put(posts: &mut Vec<Post>, at: FundYear, account: u32, amount: i128) -> Result<(), AllocError>
-    ensures { OnOk result (posts.new.items ≡ posts.old.items ++ without_zeros (spec.post at.year at.fund account amount ∷ [])) }
+    ensures { OnOk result
+        (posts.new.items ≡ posts.old.items
+        ++ without_zeros (spec.post at.year at.fund account amount ∷ [])) }
 {
     if amount != 0 {
         posts.push(Post {
@@ -51,7 +53,9 @@ pub fn debit(
     amount: u128,
 ) -> Result<(), AllocError>
     requires { amount < 2 ^ 127 }
-    ensures { OnOk result (posts.new.items ≡ posts.old.items ++ without_zeros (spec.debit at.year at.fund account amount ∷ [])) }
+    ensures { OnOk result
+        (posts.new.items ≡ posts.old.items
+        ++ without_zeros (spec.debit at.year at.fund account amount ∷ [])) }
 {
     put(posts, at, account, amount as i128)
 }
@@ -64,7 +68,9 @@ pub fn credit(
     amount: u128,
 ) -> Result<(), AllocError>
     requires { amount < 2 ^ 127 }
-    ensures { OnOk result (posts.new.items ≡ posts.old.items ++ without_zeros (spec.credit at.year at.fund account amount ∷ [])) }
+    ensures { OnOk result
+        (posts.new.items ≡ posts.old.items
+        ++ without_zeros (spec.credit at.year at.fund account amount ∷ [])) }
 {
     put(posts, at, account, -(amount as i128))
 }
@@ -77,7 +83,9 @@ pub fn double(
     credited: u32,
     amount: u64,
 ) -> Result<(), AllocError>
-    ensures { OnOk result (posts.new.items ≡ posts.old.items ++ without_zeros (spec.double at.year at.fund debited credited amount)) }
+    ensures { OnOk result
+        (posts.new.items ≡ posts.old.items
+        ++ without_zeros (spec.double at.year at.fund debited credited amount)) }
 {
     debit(posts, at, debited, u128::from(amount))?;
     credit(posts, at, credited, u128::from(amount))
@@ -92,7 +100,9 @@ pub fn double_total(
     amount: u128,
 ) -> Result<(), AllocError>
     requires { amount < 2 ^ 127 }
-    ensures { OnOk result (posts.new.items ≡ posts.old.items ++ without_zeros (spec.double at.year at.fund debited credited amount)) }
+    ensures { OnOk result
+        (posts.new.items ≡ posts.old.items
+        ++ without_zeros (spec.double at.year at.fund debited credited amount)) }
 {
     debit(posts, at, debited, amount)?;
     credit(posts, at, credited, amount)
@@ -106,7 +116,9 @@ pub fn turned(
     credited: u32,
     amount: u64,
 ) -> Result<(), AllocError>
-    ensures { OnOk result (posts.new.items ≡ posts.old.items ++ without_zeros (spec.turned at.year at.fund debited credited amount)) }
+    ensures { OnOk result
+        (posts.new.items ≡ posts.old.items
+        ++ without_zeros (spec.turned at.year at.fund debited credited amount)) }
 {
     credit(posts, at, debited, u128::from(amount))?;
     debit(posts, at, credited, u128::from(amount))

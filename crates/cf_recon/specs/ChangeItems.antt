@@ -31,5 +31,6 @@ changes_between plan year s fund gov =
 -- those of a history
 abbrev pub changes_shown : Plan → ℕ → List Entry → Changes
 changes_shown plan year history =
-    changes_between plan year (registers_of plan history) (fund_balances plan year history -ℤ fund_balances plan (year - 1) history)
+    changes_between plan year (registers_of plan history)
+    (fund_balances plan year history -ℤ fund_balances plan (year - 1) history)
     (net_position plan year history -ℤ net_position plan (year - 1) history)

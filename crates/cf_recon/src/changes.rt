@@ -16,8 +16,9 @@ use cf_debt::Debt;
 use cf_ledger::Ledger;
 use cf_revenue::Revenue;
 
-/// What joins the change in fund balances and the change in net position of a fiscal year (GASB Statement 34: the summary
-/// reconciliation to the statement of activities), in cents, each signed as it is added.
+/// What joins the change in fund balances and the change in net position of a fiscal year (GASB
+/// Statement 34: the summary reconciliation to the statement of activities), in cents, each signed
+/// as it is added.
 #[derive(Clone, Copy)]
 pub struct Changes {
     pub fund_balances: i128,
@@ -46,9 +47,10 @@ pub struct Changes {
     pub net_position: i128,
 }
 
-/// The changes of a fiscal year from 1971 to 2199, in cents: that in fund balances of the fund posts, that in net position
-/// of the government-wide posts, and each item of its own register's sums by year. None is the difference of others. It
-/// takes no memory, and no longer with more entries or for an earlier year.
+/// The changes of a fiscal year from 1971 to 2199, in cents: that in fund balances of the fund
+/// posts, that in net position of the government-wide posts, and each item of its own register's
+/// sums by year. None is the difference of others. It takes no memory, and no longer with more
+/// entries or for an earlier year.
 pub fn change_items(
     chart: &Chart,
     ledger: &Ledger,
@@ -58,7 +60,8 @@ pub fn change_items(
     year: u16,
 ) -> Changes
     requires { IsYear year }
-    ensures { (s : Registers) → AreOf s assets.now revenue.now debt.now → result ≡ changes_between chart.now year s
+    ensures { (s : Registers) → AreOf s assets.now revenue.now debt.now
+        → result ≡ changes_between chart.now year s
         (total (posts_of ledger.now OnFund) year -ℤ total (posts_of ledger.now OnFund) (year - 1))
         (total (posts_of ledger.now OnGov) year -ℤ total (posts_of ledger.now OnGov) (year - 1)) }
 {

@@ -1,5 +1,5 @@
-//! The reconciliation of fund balances with net position, and of their changes in a year (GASB Statement 34), read from
-//! the registers.
+//! The reconciliation of fund balances with net position, and of their changes in a year (GASB
+//! Statement 34), read from the registers.
 #![tactic(auto)]
 
 mod changes;

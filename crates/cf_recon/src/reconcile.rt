@@ -19,9 +19,10 @@ use cf_debt::Debt;
 use cf_ledger::Ledger;
 use cf_revenue::Revenue;
 
-/// The reconciliation through a fiscal year from 1971 to 2199, in cents: fund balances of the fund posts, net position of the
-/// government-wide posts, and each item of its own register's sums by year, signed as it is added. None is the difference
-/// of others. It takes no memory, and no longer with more entries or for an earlier year.
+/// The reconciliation through a fiscal year from 1971 to 2199, in cents: fund balances of the fund
+/// posts, net position of the government-wide posts, and each item of its own register's sums by
+/// year, signed as it is added. None is the difference of others. It takes no memory, and no longer
+/// with more entries or for an earlier year.
 pub fn items(
     chart: &Chart,
     ledger: &Ledger,
@@ -32,7 +33,8 @@ pub fn items(
 ) -> ReconShown
     requires year { IsYear year }
     requires sound { AllByRecursion (IsSoundAsset chart.now assets.now.closed) assets.now.assets }
-    ensures { (s : Registers) → AreOf s assets.now revenue.now debt.now → result ≡ recon_between chart.now year s
+    ensures { (s : Registers) → AreOf s assets.now revenue.now debt.now
+        → result ≡ recon_between chart.now year s
         (total (posts_of ledger.now OnFund) year) (total (posts_of ledger.now OnGov) year) }
 {
     ReconShown {

@@ -30,7 +30,8 @@ pub fn recon_rows(alloc: Global, recon: &ReconShown) -> Result<Vec<Row>, AllocEr
     )
 }
 
-/// The rows of the reconciliation to the change in net position, in the order in which they are added.
+/// The rows of the reconciliation to the change in net position, in the order in which they are
+/// added.
 pub fn change_rows(alloc: Global, changes: &Changes) -> Result<Vec<Row>, AllocError>
     ensures { IfOk result (λ v. v.items ≡ change_table changes.now) }
 {

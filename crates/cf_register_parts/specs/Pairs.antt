@@ -26,7 +26,8 @@ has_value table first second = is_some (value_of table first second)
 -- the value of these two numbers is the one given, and the others stay
 abbrev pub PutsValue : {X : Type 0} → Pairs X → Pairs X → ℕ → ℕ → X → Type 0
 PutsValue old new first second value =
-    (m z : ℕ) → value_of new m z ≡ (if (first == m) && (second == z) then Some value else value_of old m z)
+    (m z : ℕ) → value_of new m z
+    ≡ (if (first == m) && (second == z) then Some value else value_of old m z)
 
 -- no value goes
 abbrev pub KeepsValues : {X : Type 0} → Pairs X → Pairs X → Type 0
@@ -34,7 +35,8 @@ KeepsValues old new = (m z : ℕ) → has_value old m z ≡ true → has_value n
 
 -- all numbers read the same, where what is missing reads as this
 abbrev pub ReadsSame : {X : Type 0} → X → Pairs X → Pairs X → Type 0
-ReadsSame none old new = (m z : ℕ) → unwrap_or (value_of new m z) none ≡ unwrap_or (value_of old m z) none
+ReadsSame none old new = (m z : ℕ)
+    → unwrap_or (value_of new m z) none ≡ unwrap_or (value_of old m z) none
 
 -- the amount of two numbers, 0 where there is none
 abbrev pub amount_at : Pairs ℕ → ℕ → ℕ → ℕ
@@ -43,4 +45,5 @@ amount_at table first second = unwrap_or (value_of table first second) 0
 -- the amount of these two numbers is the one given, and the others stay
 abbrev pub PutsAmount : Pairs ℕ → Pairs ℕ → ℕ → ℕ → ℕ → Type 0
 PutsAmount old new first second amount =
-    (m z : ℕ) → amount_at new m z ≡ (if (first == m) && (second == z) then amount else amount_at old m z)
+    (m z : ℕ) → amount_at new m z
+    ≡ (if (first == m) && (second == z) then amount else amount_at old m z)

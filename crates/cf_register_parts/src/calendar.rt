@@ -29,8 +29,8 @@ pub fn year_of_day(chart: &Chart, on: Day) -> u16
     fiscal_year(chart.first_month(), month_of(on))
 }
 
-/// The fiscal year of an act's document: that of its day, and for a voucher of the year just ended the one
-/// before.
+/// The fiscal year of an act's document: that of its day, and for a voucher of the year just ended
+/// the one before.
 pub fn document_year(chart: &Chart, on: Day, act: &Act) -> u16
     requires { is_day on ≡ true }
     ensures value { result ≡ calendar.document_year chart.now on act.now }

@@ -66,7 +66,8 @@ fn is_capital_kind(kind: &ObjectKind) -> bool
     matches!(kind, ObjectKind::Capital { .. })
 }
 
-/// Whether the chart has an object, and it is of capital outlay, so that what is bought on it is a capital asset.
+/// Whether the chart has an object, and it is of capital outlay, so that what is bought on it is a
+/// capital asset.
 pub fn is_capital(chart: &Chart, object: u16) -> bool
     ensures { result ≡ charted.is_capital (object_at chart.now object) }
 {

@@ -10,7 +10,8 @@ pub struct Extent {
     pub end: u32,
 }
 
-/// Where the rows of the document of a number stand; an empty extent where there is no such document.
+/// Where the rows of the document of a number stand; an empty extent where there is no such
+/// document.
 pub fn extent_of(extents: &Vec<Extent>, number: u32) -> Extent
     ensures { result ≡ extent_at extents.now.items number }
 {

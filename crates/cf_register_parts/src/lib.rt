@@ -1,5 +1,5 @@
-//! What registers are made of: where a document's rows stand, amounts by fiscal year, values by two numbers, and the
-//! chart's fiscal years, months of days and readings.
+//! What registers are made of: where a document's rows stand, amounts by fiscal year, values by two
+//! numbers, and the chart's fiscal years, months of days and readings.
 #![tactic(auto)]
 
 mod amounts;

@@ -30,7 +30,8 @@ pub fn number_of_day(chart: &Chart, on: Day) -> u16
     requires { is_day on ≡ true }
     ensures value { result ≡ spec.number_of_day chart.now on }
     ensures most { result ≤ 2759 }
-    ensures later { (count : ℕ) → month_number on.year on.month + count ≤ month_number last_year 12 → result + count ≤ 2759 }
+    ensures later { (count : ℕ) → month_number on.year on.month + count ≤ month_number last_year 12
+        → result + count ≤ 2759 }
 {
     (12 * on.year + u16::from(on.month)).saturating_sub(start_month(chart))
 }
@@ -45,9 +46,11 @@ pub fn number_of_month(chart: &Chart, month: Month) -> u16
     (12 * month.year + u16::from(month.month)).saturating_sub(start_month(chart))
 }
 
-/// Whether a month is closed where the first so many months of the chart are: it is one of these, or before them.
+/// Whether a month is closed where the first so many months of the chart are: it is one of these,
+/// or before them.
 pub fn is_month_closed(chart: &Chart, month: Month, closed: u16) -> bool
-    ensures { result ≡ nat_lt (month_number month.year month.month) (spec.start_month chart.now + closed) }
+    ensures { result ≡ nat_lt (month_number month.year month.month)
+        (spec.start_month chart.now + closed) }
 {
     let number = 12 * u32::from(month.year) + u32::from(month.month);
     number < u32::from(start_month(chart)) + u32::from(closed)

@@ -1,4 +1,5 @@
-//! Values by two numbers: those of a line and a fiscal year, of a fund and its department, of two funds.
+//! Values by two numbers: those of a line and a fiscal year, of a fund and its department, of two
+//! funds.
 
 ghost use Rattle.std.specs.Prelude.{◌≡◌, true, OnOk};
 ghost use Rattle.cf_register_parts.specs.Pairs.{value_of, has_value, PutsValue, KeepsValues, ReadsSame};
@@ -28,7 +29,8 @@ pub fn amount_at(map: &BTreeMap<NumberPair, u64>, pair: NumberPair) -> u64
     value_in(map, pair).unwrap_or(0)
 }
 
-/// Puts a value where there is none, so that a later one takes no memory. Where there is no memory for it, nothing changes.
+/// Puts a value where there is none, so that a later one takes no memory. Where there is no memory
+/// for it, nothing changes.
 pub fn reserve_in<V: Copy>(
     map: &mut BTreeMap<NumberPair, V>,
     pair: NumberPair,

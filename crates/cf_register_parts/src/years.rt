@@ -1,4 +1,5 @@
-//! Amounts by fiscal year, one after another: those of the years from 1970 to 2200, or of a chart's years from its first.
+//! Amounts by fiscal year, one after another: those of the years from 1970 to 2200, or of a chart's
+//! years from its first.
 
 ghost use Rattle.std.specs.Prelude.{◌≡◌, ◌≤◌, ◌<◌, ◌+◌, ◌-◌, ◌^◌, ℕ, sum, set, slice_index_or, nat_lt, nat_le, if◌then◌else◌};
 ghost use Rattle.cf_base.specs.Limits.{last_fiscal_year};
@@ -20,7 +21,8 @@ pub fn add_at(cells: &mut [u128; YEARS], place: u16, amount: u128)
     requires within { place < 231 }
     requires fits { sum cells.old + amount < 2 ^ 128 }
     ensures cell { cells.new ≡ set cells.old place (slice_index_or cells.old place 0 + amount) }
-    ensures years { (n : ℕ) → sum_of n cells.new ≡ sum_of n cells.old + (if nat_lt place n then amount else 0) }
+    ensures years { (n : ℕ)
+        → sum_of n cells.new ≡ sum_of n cells.old + (if nat_lt place n then amount else 0) }
     ensures total { sum cells.new ≡ sum cells.old + amount }
 {
     cells[usize::from(place)] += amount;
@@ -32,7 +34,9 @@ pub fn raise(cells: &mut [u128; YEARS], year: u16, amount: u64)
     requires to { year ≤ last_fiscal_year }
     requires fits { sum cells.old + amount < 2 ^ 128 }
     ensures cell { cells.new ≡ with_cell cells.old year (cell_of cells.old year + amount) }
-    ensures through { (z : ℕ) → sum_through z cells.new ≡ sum_through z cells.old + (if nat_le year z then amount else 0) }
+    ensures through { (z : ℕ)
+        → sum_through z cells.new
+        ≡ sum_through z cells.old + (if nat_le year z then amount else 0) }
     ensures total { sum cells.new ≡ sum cells.old + amount }
 {
     add_at(cells, year - 1970, u128::from(amount));

@@ -1,4 +1,5 @@
--- An act that the rules on documents allow over a legal history is cleared: its moves lie within the years that have numbers.
+-- An act that the rules on documents allow over a legal history is cleared: its moves lie within
+-- the years that have numbers.
 use Rattle.std.proofs.Common.{◌≡◌, ℕ, ◌<◌, Bool, true, false, if◌then◌else◌, ◌==◌, List, [], ◌∷◌, ◌++◌, map, Some, None, subst, sym}
 use Rattle.std.specs.List.{filter, AllByRecursion}
 use Rattle.cf_base.specs.declared.calendar.Day.{Day}

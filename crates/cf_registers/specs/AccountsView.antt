@@ -5,7 +5,13 @@ use Rattle.cf_registers.specs.AccountsState.{AccountsState}
 use Rattle.cf_registers.specs.declared.accounts.Accounts.TheInside.{Inside}
 
 abbrev pub accounts_state : Inside → AccountsState
-accounts_state a = record { fund = books.posts_of a.ledger Fund; gov = books.posts_of a.ledger Gov; ready_fund = a.fund.items; ready_gov = a.gov.items }
+accounts_state a = record {
+  fund = books.posts_of a.ledger Fund;
+  gov = books.posts_of a.ledger Gov;
+  ready_fund =
+      a.fund.items;
+  ready_gov = a.gov.items;
+}
 
 -- adding the posts that are ready takes no memory
 pub record AreReserved (a : Inside) : Type 0 where

@@ -12,7 +12,11 @@ abbrev pub item_account : ExpendedItem → AccountItem
 item_account v = record { fund = v.fund; dept = v.dept; object = v.object; amount = v.amount }
 
 abbrev pub charge_deed : ℕ → ℕ → List Asset → Function → Deed
-charge_deed year closed assets f = deed.Depreciate (record { year = year; function = f.id; amount = function_charge closed assets f.id })
+charge_deed year closed assets f =
+    deed.Depreciate (record
+    { year = year; function = f.id; amount = function_charge closed assets f.id })
 
 abbrev pub amortize_deed : ℕ → ℕ → List Asset → Function → Deed
-amortize_deed year closed assets f = deed.Amortize (record { year = year; function = f.id; amount = function_charge closed assets f.id })
+amortize_deed year closed assets f =
+    deed.Amortize (record
+    { year = year; function = f.id; amount = function_charge closed assets f.id })

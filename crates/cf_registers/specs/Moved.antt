@@ -37,9 +37,11 @@ row_of plan history line year = record {
 
 -- the tables that are there have the numbers of the history
 abbrev pub AreTablesOf : Plan → List Entry → Tables → Type 0
-AreTablesOf plan history tables = (line year : ℕ) → has_line tables line ≡ true → row_at tables line year ≡ row_of plan history line year
+AreTablesOf plan history tables = (line year : ℕ) → has_line tables line ≡ true
+    → row_at tables line year ≡ row_of plan history line year
 
--- the moves of an act of this day over these registers: what it spends beside documents, or the moves of its documents
+-- the moves of an act of this day over these registers: what it spends beside documents, or the
+-- moves of its documents
 abbrev pub act_moves : Plan → Registers → Day → Act → List Move
 act_moves plan s on (PayDue d) = map spending_move (spendings_by plan s on (PayDue d))
 act_moves plan s on (Leave l) = map spending_move (spendings_by plan s on (Leave l))
@@ -48,7 +50,8 @@ act_moves plan s on act = document_moves plan s.documents (document_number s.doc
 
 -- moves in stripes that an act touches
 abbrev pub AreTouched : Plan → Act → List Move → Type 0
-AreTouched plan act moves = (stripe : ℕ) → touches plan stripe act ≡ false → AllByRecursion (λ m. is_item_in plan stripe m.account ≡ false) moves
+AreTouched plan act moves = (stripe : ℕ) → touches plan stripe act ≡ false
+    → AllByRecursion (λ m. is_item_in plan stripe m.account ≡ false) moves
 
 -- an act that the rules before that of room allow
 pub record IsCleared (plan : Plan) (s : Registers) (on : Day) (act : Act) : Type 0 where
@@ -82,7 +85,8 @@ abbrev pub move_row : LineMove → Row
 move_row m = record zero_row { held = m.held; encumbered = m.encumbered; expended = m.expended }
 
 abbrev pub row_at_move : Plan → ℕ → ℕ → LineMove → Row
-row_at_move plan line year m = if counts plan line year m.account m.year then move_row m else zero_row
+row_at_move plan line year m = if counts plan line year m.account m.year then move_row m
+    else zero_row
 
 abbrev pub row_if : Plan → ℕ → ℕ → Option LineMove → Row
 row_if plan line year None = zero_row
@@ -100,10 +104,13 @@ moves_row plan moves line year = record zero_row {
 abbrev pub moved_by : Plan → Registers → Day → Act → ℕ → ℕ → Row
 moved_by plan s on act line year = record {
   original = pos (adopted_by line year act);
-  appropriated = pos (added_by line year act + carried_by plan s.documents line year act) -ℤ pos (removed_by line year act);
+  appropriated = pos (added_by line year act + carried_by plan s.documents line year act) -ℤ pos
+      (removed_by line year act);
   held = moved_sum (λ m. m.held) plan line year (moves_of plan s (draws s act).number on act);
-  encumbered = moved_sum (λ m. m.encumbered) plan line year (moves_of plan s (draws s act).number on act);
-  expended = moved_sum (λ m. m.expended) plan line year (moves_of plan s (draws s act).number on act);
+  encumbered = moved_sum (λ m. m.encumbered) plan line year
+      (moves_of plan s (draws s act).number on act);
+  expended = moved_sum (λ m. m.expended) plan line year
+      (moves_of plan s (draws s act).number on act);
 }
 
 -- .. where it rolls no year
@@ -137,4 +144,6 @@ abbrev pub amendment_changes : Amendment → List LineChange
 amendment_changes a = change_of a.line a.year (amend_row a.by) ∷ []
 
 abbrev pub transfer_changes : LineTransfer → List LineChange
-transfer_changes t = change_of t.to t.year (amend_row (pos t.amount)) ∷ change_of t.from t.year (amend_row (pos 0 -ℤ pos t.amount)) ∷ []
+transfer_changes t =
+    change_of t.to t.year (amend_row (pos t.amount))
+    ∷ change_of t.from t.year (amend_row (pos 0 -ℤ pos t.amount)) ∷ []

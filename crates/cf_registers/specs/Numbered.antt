@@ -10,7 +10,8 @@ use Rattle.cf_model.proofs.AssetNumbers.{assets_if}
 use Rattle.cf_model.proofs.BondNumbers.{bonds_if}
 
 abbrev pub AreNumberedAssets : List Asset → Type 0
-AreNumberedAssets assets = (k : ℕ) → filter (λ a. a.number == k) assets ≡ assets_if (asset_at k assets)
+AreNumberedAssets assets = (k : ℕ)
+    → filter (λ a. a.number == k) assets ≡ assets_if (asset_at k assets)
 
 abbrev pub AreNumberedBonds : List Bond → Type 0
 AreNumberedBonds bonds = (k : ℕ) → filter (λ b. b.number == k) bonds ≡ bonds_if (bond_at k bonds)

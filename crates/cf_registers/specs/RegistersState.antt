@@ -56,9 +56,11 @@ pub record HaveTaken (n : ℕ) (s : RegistersState) : Type 0 where
 -- the rules of the registers, in their order
 abbrev pub register_rules : Plan → Registers → Day → ℕ → Act → List (Option Refusal)
 register_rules plan s on desk act =
-    document_refusal plan s.documents on desk act ∷ receivable_refusal s.receivables act ∷ asset_refusal s on act ∷ debt_refusal plan s on act ∷ []
+    document_refusal plan s.documents on desk act ∷ receivable_refusal s.receivables act
+    ∷ asset_refusal s on act ∷ debt_refusal plan s on act ∷ []
 
--- registers that can take an entry in: the rules allow its act, it has the next numbers, and there is memory
+-- registers that can take an entry in: the rules allow its act, it has the next numbers, and there
+-- is memory
 pub record CanTakeIn (plan : Plan) (s : RegistersState) (e : Entry) : Type 0 where
   pub room : HasRoomFor e.change.act s
   pub day : is_day e.change.on ≡ true
@@ -68,7 +70,8 @@ pub record CanTakeIn (plan : Plan) (s : RegistersState) (e : Entry) : Type 0 whe
   pub year : plan.first_year ≤ document_year plan e.change.on e.change.act
   pub there : debt.IsThere s.registers.bonds e.change.act
   pub levied : levy_refusal plan s.registers e.change.on e.change.act ≡ None
-  pub documents : document_refusal plan s.registers.documents e.change.on e.change.desk e.change.act ≡ None
+  pub documents : document_refusal plan s.registers.documents e.change.on e.change.desk e.change.act
+      ≡ None
   pub receivables : receivable_refusal s.registers.receivables e.change.act ≡ None
   pub assets : asset_refusal s.registers e.change.on e.change.act ≡ None
   pub debt : debt_refusal plan s.registers e.change.on e.change.act ≡ None

@@ -28,7 +28,8 @@ use cf_recon::{Changes, change_items, items};
 use std::alloc::{AllocError, Global};
 use std::marker::Model;
 
-/// The balances of all that was posted, and the posts that are ready: those of an entry, for which memory is taken.
+/// The balances of all that was posted, and the posts that are ready: those of an entry, for which
+/// memory is taken.
 pub struct Accounts {
     ledger: Ledger,
     fund: Vec<Post>,
@@ -60,7 +61,8 @@ impl Model for Accounts {
 
 fn put(posts: &mut Vec<Post>, basis: Basis, deed: Deed) -> Result<(), AllocError>
     requires { IsPostable deed }
-    ensures { OnOk result (posts.new.items ≡ posts.old.items ++ without_zeros (rows_of basis deed)) }
+    ensures { OnOk result
+        (posts.new.items ≡ posts.old.items ++ without_zeros (rows_of basis deed)) }
 {
     match basis {
         Basis::Fund => put_fund(posts, deed),
@@ -93,7 +95,8 @@ impl Accounts {
         }
     }
 
-    /// Takes the memory of an act's posts, and keeps them ready, in the place of those that were. Nothing is posted.
+    /// Takes the memory of an act's posts, and keeps them ready, in the place of those that were.
+    /// Nothing is posted.
     pub fn reserve(
         &mut self,
         alloc: Global,
@@ -107,7 +110,8 @@ impl Accounts {
         requires postable { All IsPostable (deeds_of chart.now registers.now.registers on act.now) }
         ensures fund { self.new.fund ≡ self.old.fund }
         ensures gov { self.new.gov ≡ self.old.gov }
-        ensures ready { OnOk result (AreReadyFor self.new chart.now registers.now.registers on act.now) }
+        ensures ready { OnOk result
+            (AreReadyFor self.new chart.now registers.now.registers on act.now) }
     {
         let deeds = deeds(alloc, chart, registers, on, act)?;
         let fund = posts(alloc, Basis::Fund, deeds.as_slice())?;
@@ -149,11 +153,14 @@ impl Accounts {
         self.ledger.balance(basis, year, fund, account)
     }
 
-    /// The items between fund balances and net position through a fiscal year from 1971 to 2199, as the registers have them.
+    /// The items between fund balances and net position through a fiscal year from 1971 to 2199, as
+    /// the registers have them.
     pub fn recon(&self, chart: &Chart, registers: &Registers, year: u16) -> ReconShown
         requires year { IsYear year }
-        requires sound { AllByRecursion (IsSoundAsset chart.now registers.now.registers.closed) registers.now.registers.assets }
-        ensures { result ≡ recon_between chart.now year registers.now.registers (ledger.total self.now.fund year) (ledger.total self.now.gov year) }
+        requires sound { AllByRecursion
+            (IsSoundAsset chart.now registers.now.registers.closed) registers.now.registers.assets }
+        ensures { result ≡ recon_between chart.now year registers.now.registers
+            (ledger.total self.now.fund year) (ledger.total self.now.gov year) }
     {
         let assets = registers.assets();
         items(
@@ -166,8 +173,8 @@ impl Accounts {
         )
     }
 
-    /// The items between the changes of fund balances and of net position in a fiscal year from 1971 to 2199, as the registers
-    /// have them.
+    /// The items between the changes of fund balances and of net position in a fiscal year from
+    /// 1971 to 2199, as the registers have them.
     pub fn changes(&self, chart: &Chart, registers: &Registers, year: u16) -> Changes
         requires { IsYear year }
         ensures { result ≡ changes_between chart.now year registers.now.registers

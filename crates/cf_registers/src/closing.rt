@@ -1,5 +1,5 @@
-//! What the close of a month does to accounts: for each function a charge of depreciation and one of amortization, and one
-//! of interest.
+//! What the close of a month does to accounts: for each function a charge of depreciation and one
+//! of amortization, and one of interest.
 
 ghost use Rattle.std.specs.Prelude.{◌≡◌, ◌++◌, ℕ, List, map, IfOk, OnOk};
 ghost use Rattle.cf_assets.specs.Charges.{AreCharges};
@@ -20,7 +20,9 @@ fn depreciate(
     charges: &[u128; MOST_FUNCTIONS],
     year: u16,
 ) -> Result<Vec<Deed>, AllocError>
-    ensures { (closed : ℕ) (assets : List Asset) → AreCharges closed assets chart.now.functions charges.now → IfOk result (λ v. v.items ≡ map (charge_deed year closed assets) chart.now.functions) }
+    ensures { (closed : ℕ) (assets : List Asset)
+        → AreCharges closed assets chart.now.functions charges.now
+        → IfOk result (λ v. v.items ≡ map (charge_deed year closed assets) chart.now.functions) }
 {
     let functions = chart.functions();
     let mut deeds = Vec::new(alloc);
@@ -41,7 +43,10 @@ fn amortize(
     charges: &[u128; MOST_FUNCTIONS],
     year: u16,
 ) -> Result<(), AllocError>
-    ensures { (closed : ℕ) (assets : List Asset) → AreCharges closed assets chart.now.functions charges.now → OnOk result (deeds.new.items ≡ deeds.old.items ++ map (amortize_deed year closed assets) chart.now.functions) }
+    ensures { (closed : ℕ) (assets : List Asset)
+        → AreCharges closed assets chart.now.functions charges.now
+        → OnOk result (deeds.new.items
+        ≡ deeds.old.items ++ map (amortize_deed year closed assets) chart.now.functions) }
 {
     let functions = chart.functions();
     for place in 0..functions.len() {
@@ -54,7 +59,8 @@ fn amortize(
     Ok(())
 }
 
-/// What the close of the next month does: two deeds for each function, and one with the interest of all bonds and leases.
+/// What the close of the next month does: two deeds for each function, and one with the interest of
+/// all bonds and leases.
 pub fn close_month(
     alloc: Global,
     chart: &Chart,

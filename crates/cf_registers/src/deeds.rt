@@ -63,7 +63,9 @@ fn spend_each(
     year: u16,
     items: &[VoucherItem],
 ) -> Result<Vec<Deed>, AllocError>
-    ensures { IfOk result (λ v. v.items ≡ map (λ i. Deed.Voucher (spec.spent_item chart.now year i.account)) items.now) }
+    ensures { IfOk result
+        (λ v. v.items ≡ map
+        (λ i. Deed.Voucher (spec.spent_item chart.now year i.account)) items.now) }
 {
     let mut deeds = Vec::new(alloc);
     for item in items {
@@ -79,7 +81,9 @@ fn unspend_each(
     orders: &Orders,
     voucher: u32,
 ) -> Result<Vec<Deed>, AllocError>
-    ensures { IfOk result (λ v. v.items ≡ map (λ x. Deed.VoidVoucher (spec.spent_item chart.now x.year x.account)) (spent_by voucher orders.now.documents.expenditures)) }
+    ensures { IfOk result
+        (λ v. v.items ≡ map (λ x. Deed.VoidVoucher (spec.spent_item chart.now x.year x.account))
+        (spent_by voucher orders.now.documents.expenditures)) }
 {
     let mut deeds = Vec::new(alloc);
     for nth in 0..orders.voucher_items(voucher) {
@@ -98,7 +102,9 @@ fn pay_voucher(
     year: u16,
     voucher: u32,
 ) -> Result<(), AllocError>
-    ensures { OnOk result (deeds.new.items ≡ deeds.old.items ++ map (spec.pay_deed year) (spent_by voucher orders.now.documents.expenditures)) }
+    ensures { OnOk result
+        (deeds.new.items ≡ deeds.old.items
+        ++ map (spec.pay_deed year) (spent_by voucher orders.now.documents.expenditures)) }
 {
     for nth in 0..orders.voucher_items(voucher) {
         if let Some(item) = orders.voucher_item(voucher, nth) {
@@ -119,7 +125,8 @@ fn pay_each(
     year: u16,
     vouchers: &[u32],
 ) -> Result<Vec<Deed>, AllocError>
-    ensures { IfOk result (λ v. v.items ≡ spec.pay_items year orders.now.documents.expenditures vouchers.now) }
+    ensures { IfOk result
+        (λ v. v.items ≡ spec.pay_items year orders.now.documents.expenditures vouchers.now) }
 {
     let mut deeds = Vec::new(alloc);
     for voucher in vouchers {
@@ -129,7 +136,14 @@ fn pay_each(
 }
 
 fn receive(chart: &Chart, year: u16, receipt: &SourceAmount) -> Deed
-    ensures { result ≡ Deed.Receive (record { year = year; fund = charted.fund_of chart.now receipt.now.source; source = receipt.now.source; amount = receipt.now.amount }) }
+    ensures { result ≡ Deed.Receive
+        (record {
+          year = year;
+          fund = charted.fund_of chart.now receipt.now.source;
+          source =
+              receipt.now.source;
+          amount = receipt.now.amount;
+        }) }
 {
     Deed::Receive(deed::SourceAmount {
         year,
@@ -140,7 +154,14 @@ fn receive(chart: &Chart, year: u16, receipt: &SourceAmount) -> Deed
 }
 
 fn move_funds(year: u16, moved: &FundMove) -> Deed
-    ensures { result ≡ spec.fund_deed moved.now.what (record { year = year; from = moved.now.from; to = moved.now.to; amount = moved.now.amount }) }
+    ensures { result ≡ spec.fund_deed moved.now.what
+        (record {
+          year = year;
+          from = moved.now.from;
+          to = moved.now.to;
+          amount =
+              moved.now.amount;
+        }) }
 {
     let amount = FundsAmount {
         year,
@@ -156,7 +177,15 @@ fn move_funds(year: u16, moved: &FundMove) -> Deed
 }
 
 fn enter_bill(chart: &Chart, bill: &NewBill) -> Deed
-    ensures { result ≡ Deed.Bill (record { levy_year = bill.now.levy_year; fund = charted.fund_of chart.now bill.now.source; source = bill.now.source; amount = bill.now.amount }) }
+    ensures { result ≡ Deed.Bill
+        (record {
+          levy_year = bill.now.levy_year;
+          fund =
+              charted.fund_of chart.now bill.now.source;
+          source = bill.now.source;
+          amount =
+              bill.now.amount;
+        }) }
 {
     Deed::Bill(deed::NewBill {
         levy_year: bill.levy_year,
@@ -175,7 +204,9 @@ fn collect(
     part: &BillAmount,
 ) -> Result<Vec<Deed>, AllocError>
     requires { is_day on ≡ true }
-    ensures { IfOk result (λ v. v.items ≡ spec.collect_deeds chart.now on part.now (bill_at part.now.bill revenue.now.receivables.bills)) }
+    ensures { IfOk result
+        (λ v. v.items ≡ spec.collect_deeds chart.now on part.now
+        (bill_at part.now.bill revenue.now.receivables.bills)) }
 {
     match (
         revenue.bill(part.bill),
@@ -204,7 +235,9 @@ fn write_off(
     part: &BillAmount,
 ) -> Result<Vec<Deed>, AllocError>
     requires { is_day on ≡ true }
-    ensures { IfOk result (λ v. v.items ≡ spec.write_off_deeds chart.now on part.now (bill_at part.now.bill revenue.now.receivables.bills)) }
+    ensures { IfOk result
+        (λ v. v.items ≡ spec.write_off_deeds chart.now on part.now
+        (bill_at part.now.bill revenue.now.receivables.bills)) }
 {
     match revenue.bill(part.bill) {
         Some(bill) => one(
@@ -239,7 +272,8 @@ pub fn deeds(
 ) -> Result<Vec<Deed>, AllocError>
     requires day { is_day on ≡ true }
     requires numbered { AreNumbered registers.now.registers }
-    ensures { IfOk result (λ v. v.items ≡ spec.deeds_of chart.now registers.now.registers on act.now) }
+    ensures { IfOk result
+        (λ v. v.items ≡ spec.deeds_of chart.now registers.now.registers on act.now) }
 {
     let orders = registers.orders();
     let revenue = registers.revenue();

@@ -22,7 +22,13 @@ use std::alloc::{AllocError, Global};
 
 /// A capital asset is given to a department's function.
 fn donate(chart: &Chart, year: u16, gift: &Donation) -> Deed
-    ensures { result ≡ Deed.Donate (record { year = year; function = charted.function_of chart.now gift.now.dept; amount = gift.now.amount }) }
+    ensures { result ≡ Deed.Donate
+        (record {
+          year = year;
+          function = charted.function_of chart.now gift.now.dept;
+          amount =
+              gift.now.amount;
+        }) }
 {
     Deed::Donate(FunctionAmount {
         year,
@@ -41,7 +47,9 @@ fn dispose(
 ) -> Result<Vec<Deed>, AllocError>
     requires day { is_day on ≡ true }
     requires numbered { AreNumberedAssets assets.now.assets }
-    ensures { IfOk result (λ v. v.items ≡ map (spec.dispose_deed chart.now assets.now.closed on disposal.now) (filter (λ a. a.number == disposal.now.asset) assets.now.assets)) }
+    ensures { IfOk result
+        (λ v. v.items ≡ map (spec.dispose_deed chart.now assets.now.closed on disposal.now)
+        (filter (λ a. a.number == disposal.now.asset) assets.now.assets)) }
 {
     match assets.asset(disposal.asset) {
         Some(asset) => one(
@@ -69,7 +77,8 @@ pub fn asset_deeds(
 ) -> Result<Vec<Deed>, AllocError>
     requires day { is_day on ≡ true }
     requires numbered { AreNumberedAssets registers.now.registers.assets }
-    ensures { IfOk result (λ v. v.items ≡ spec.deeds_of chart.now registers.now.registers on (act.Asset what.now)) }
+    ensures { IfOk result
+        (λ v. v.items ≡ spec.deeds_of chart.now registers.now.registers on (act.Asset what.now)) }
 {
     match what {
         AssetAct::Donate(gift) => one(alloc, donate(chart, year_of_day(chart, on), gift)),
@@ -79,7 +88,8 @@ pub fn asset_deeds(
 
 /// A bond is issued.
 pub fn issue(year: u16, bond: &BondIssue) -> Deed
-    ensures { result ≡ Deed.Issue (record { year = year; fund = bond.now.fund; amount = bond.now.amount }) }
+    ensures { result ≡ Deed.Issue
+        (record { year = year; fund = bond.now.fund; amount = bond.now.amount }) }
 {
     Deed::Issue(FundAmount {
         year,
@@ -88,9 +98,16 @@ pub fn issue(year: u16, bond: &BondIssue) -> Deed
     })
 }
 
-/// A lease begins: the fund has other financing and an expenditure of its amount (GASB Statement 87).
+/// A lease begins: the fund has other financing and an expenditure of its amount (GASB Statement
+/// 87).
 pub fn lease(year: u16, contract: &NewLease) -> Deed
-    ensures { result ≡ Deed.Lease (record { year = year; fund = contract.now.account.fund; amount = contract.now.account.amount }) }
+    ensures { result ≡ Deed.Lease
+        (record {
+          year = year;
+          fund = contract.now.account.fund;
+          amount =
+              contract.now.account.amount;
+        }) }
 {
     Deed::Lease(FundAmount {
         year,
@@ -109,7 +126,9 @@ pub fn pay_due(
 ) -> Result<Vec<Deed>, AllocError>
     requires day { is_day on ≡ true }
     requires numbered { AreNumberedBonds debt.now.debts.bonds }
-    ensures { IfOk result (λ v. v.items ≡ spec.bonds_deeds chart.now on payment.now.fund (filter (λ b. b.number == payment.now.bond) debt.now.debts.bonds)) }
+    ensures { IfOk result
+        (λ v. v.items ≡ spec.bonds_deeds chart.now on payment.now.fund
+        (filter (λ b. b.number == payment.now.bond) debt.now.debts.bonds)) }
 {
     match debt.due(chart, payment.bond) {
         Some(due) => one(
@@ -135,7 +154,8 @@ pub fn leave(
     what: &LeaveAct,
 ) -> Result<Vec<Deed>, AllocError>
     requires { is_day on ≡ true }
-    ensures { IfOk result (λ v. (s : Entered) → v.items ≡ spec.deeds_of chart.now s on (act.Leave what.now)) }
+    ensures { IfOk result
+        (λ v. (s : Entered) → v.items ≡ spec.deeds_of chart.now s on (act.Leave what.now)) }
 {
     let year = year_of_day(chart, on);
     let deed = match what {

@@ -56,7 +56,8 @@ fn made_paid(chart: &Chart, debt: &Debt, bond: u32) -> Made
 /// How many assets a voucher draws: one for each item on a capital object.
 fn capital_items(chart: &Chart, items: &[VoucherItem]) -> u16
     requires { length items.now ≤ 32 }
-    ensures { result ≡ length (filter (λ i. is_capital_object (object_at chart.now i.account.object)) items.now) }
+    ensures { result ≡ length
+        (filter (λ i. is_capital_object (object_at chart.now i.account.object)) items.now) }
 {
     let mut count = 0;
     for item in items {

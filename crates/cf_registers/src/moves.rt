@@ -100,13 +100,20 @@ fn add_move(changes: &mut MergedChanges, chart: &Chart, moved: &LineMove)
     requires room { length changes.old.items < 64 }
     requires apart { is_distinct same_place changes.old.items ≡ true }
     requires year { moved.now.year < 2201 }
-    requires inside { list_all (λ c. is_inside chart.now c.line.number c.year) changes.old.items ≡ true }
-    requires held { (line year : ℕ) → AreHeld (row_plus (changes_at changes.old.items line year) (move_row moved.now)) }
+    requires inside { list_all (λ c. is_inside chart.now c.line.number c.year) changes.old.items
+        ≡ true }
+    requires held { (line year : ℕ)
+        → AreHeld (row_plus (changes_at changes.old.items line year) (move_row moved.now)) }
     ensures few { length changes.new.items ≤ length changes.old.items + 1 }
     ensures apart { is_distinct same_place changes.new.items ≡ true }
-    ensures inside { list_all (λ c. is_inside chart.now c.line.number c.year) changes.new.items ≡ true }
-    ensures adds { (m z : ℕ) → changes_at changes.new.items m z ≡ row_plus (changes_at changes.old.items m z) (row_at_move chart.now m z moved.now) }
-    ensures lines { (p : ℕ → Bool) → LendsAccount chart.now p moved.now.account moved.now.year → list_all (λ c. p c.line.number) changes.old.items ≡ true → list_all (λ c. p c.line.number) changes.new.items ≡ true }
+    ensures inside { list_all (λ c. is_inside chart.now c.line.number c.year) changes.new.items
+        ≡ true }
+    ensures adds { (m z : ℕ)
+        → changes_at changes.new.items m z
+        ≡ row_plus (changes_at changes.old.items m z) (row_at_move chart.now m z moved.now) }
+    ensures lines { (p : ℕ → Bool) → LendsAccount chart.now p moved.now.account moved.now.year
+        → list_all (λ c. p c.line.number) changes.old.items ≡ true
+        → list_all (λ c. p c.line.number) changes.new.items ≡ true }
 {
     if is_nothing(moved) {
         return;
@@ -130,13 +137,21 @@ fn add_if(changes: &mut MergedChanges, chart: &Chart, moved: Option<LineMove>)
     requires room { length changes.old.items < 64 }
     requires apart { is_distinct same_place changes.old.items ≡ true }
     requires year { IfSome moved (λ m. m.year < 2201) }
-    requires inside { list_all (λ c. is_inside chart.now c.line.number c.year) changes.old.items ≡ true }
-    requires held { IfSome moved (λ m. (line year : ℕ) → AreHeld (row_plus (changes_at changes.old.items line year) (move_row m))) }
+    requires inside { list_all (λ c. is_inside chart.now c.line.number c.year) changes.old.items
+        ≡ true }
+    requires held { IfSome moved
+        (λ m. (line year : ℕ)
+        → AreHeld (row_plus (changes_at changes.old.items line year) (move_row m))) }
     ensures few { length changes.new.items ≤ length changes.old.items + 1 }
     ensures apart { is_distinct same_place changes.new.items ≡ true }
-    ensures inside { list_all (λ c. is_inside chart.now c.line.number c.year) changes.new.items ≡ true }
-    ensures adds { (m z : ℕ) → changes_at changes.new.items m z ≡ row_plus (changes_at changes.old.items m z) (row_if chart.now m z moved) }
-    ensures lines { (p : ℕ → Bool) → IfSome moved (λ m. LendsAccount chart.now p m.account m.year) → list_all (λ c. p c.line.number) changes.old.items ≡ true → list_all (λ c. p c.line.number) changes.new.items ≡ true }
+    ensures inside { list_all (λ c. is_inside chart.now c.line.number c.year) changes.new.items
+        ≡ true }
+    ensures adds { (m z : ℕ)
+        → changes_at changes.new.items m z
+        ≡ row_plus (changes_at changes.old.items m z) (row_if chart.now m z moved) }
+    ensures lines { (p : ℕ → Bool) → IfSome moved (λ m. LendsAccount chart.now p m.account m.year)
+        → list_all (λ c. p c.line.number) changes.old.items ≡ true
+        → list_all (λ c. p c.line.number) changes.new.items ≡ true }
 {
     if let Some(moved) = moved {
         add_move(changes, chart, &moved);
@@ -146,7 +161,8 @@ fn add_if(changes: &mut MergedChanges, chart: &Chart, moved: Option<LineMove>)
 /// How many moves an act has: at most 64.
 fn moves(chart: &Chart, registers: &Registers, act: &Act) -> usize
     requires { AreNumberedBonds registers.now.registers.bonds }
-    ensures value { (on : OnDay) → result ≡ length (act_moves chart.now registers.now.registers on act.now) }
+    ensures value { (on : OnDay)
+        → result ≡ length (act_moves chart.now registers.now.registers on act.now) }
     ensures few { (on : OnDay) → IsActInForm on act.now → result ≤ 64 }
 {
     match act {
@@ -173,11 +189,13 @@ fn moves(chart: &Chart, registers: &Registers, act: &Act) -> usize
     }
 }
 
-/// The move at a place, from 0, of an act that the rules allow: what an item of its documents holds, encumbers or
-/// expends, or what it spends beside them. `None` past the last one.
+/// The move at a place, from 0, of an act that the rules allow: what an item of its documents
+/// holds, encumbers or expends, or what it spends beside them. `None` past the last one.
 fn move_at(chart: &Chart, registers: &Registers, on: Day, act: &Act, nth: usize) -> Option<LineMove>
     requires { IsCleared chart.now registers.now.registers on act.now }
-    ensures value { result ≡ option_map line_move (slice_get (act_moves chart.now registers.now.registers on act.now) nth) }
+    ensures value { result
+        ≡ option_map line_move
+        (slice_get (act_moves chart.now registers.now.registers on act.now) nth) }
     ensures small { IfSome result IsSmall }
 {
     match act {
@@ -209,9 +227,12 @@ fn move_at(chart: &Chart, registers: &Registers, on: Day, act: &Act, nth: usize)
 /// What an act's moves change, one change a line and year. It takes no memory.
 pub fn merged_moves(chart: &Chart, registers: &Registers, on: Day, act: &Act) -> MergedChanges
     requires { IsCleared chart.now registers.now.registers on act.now }
-    ensures made { Make chart.now (moves_row chart.now (act_moves chart.now registers.now.registers on act.now)) result.items }
+    ensures made { Make chart.now
+        (moves_row chart.now (act_moves chart.now registers.now.registers on act.now))
+        result.items }
     ensures small { All (λ c. AreSmallSums c.by) result.items }
-    ensures touched { list_all (λ c. touches chart.now (stripe_of c.line.number) act.now) result.items ≡ true }
+    ensures touched { list_all
+        (λ c. touches chart.now (stripe_of c.line.number) act.now) result.items ≡ true }
 {
     let mut changes = ArrayVec::new();
     for nth in 0..moves(chart, registers, act) {
@@ -229,9 +250,12 @@ pub fn entry_changes(
     act: &Act,
 ) -> Result<Vec<LineChange>, AllocError>
     requires cleared { IsCleared chart.now registers.now.registers on act.now }
-    requires names { rules.name_refusal chart.now registers.now.registers.documents on act.now ≡ None }
-    ensures make { IfOk result (λ v. Make chart.now (plainly_moved chart.now registers.now.registers on act.now) v.items) }
-    ensures touched { IfOk result (λ v. list_all (λ c. touches chart.now (stripe_of c.line.number) act.now) v.items ≡ true) }
+    requires names { rules.name_refusal chart.now registers.now.registers.documents on act.now
+        ≡ None }
+    ensures make { IfOk result
+        (λ v. Make chart.now (plainly_moved chart.now registers.now.registers on act.now) v.items) }
+    ensures touched { IfOk result
+        (λ v. list_all (λ c. touches chart.now (stripe_of c.line.number) act.now) v.items ≡ true) }
 {
     if let Some(a) = act.adoption() {
         return adoption(alloc, a.year, a.lines.as_slice());

@@ -4,8 +4,8 @@ ghost use Rattle.cf_model.proofs.Lawful.{IsWhole};
 
 use cf_chart::Chart;
 
-/// Each chart has a first fiscal year and month that the office knows, and few functions, among which are those of its
-/// departments. It does nothing: its clause is the law.
+/// Each chart has a first fiscal year and month that the office knows, and few functions, among
+/// which are those of its departments. It does nothing: its clause is the law.
 pub fn whole(chart: &Chart)
     ensures { IsWhole chart.now }
 {

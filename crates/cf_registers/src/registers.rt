@@ -1,5 +1,5 @@
-//! The registers of a history as one: what they allow, which memory an entry needs, which numbers it draws, what
-//! it makes of them, and what they show.
+//! The registers of a history as one: what they allow, which memory an entry needs, which numbers
+//! it draws, what it makes of them, and what they show.
 
 ghost use Rattle.std.specs.Prelude.{◌≡◌, ◌+◌, ℕ, true, IfOk, OnOk};
 ghost use Rattle.cf_assets.specs.Register.{IsOf};
@@ -160,7 +160,8 @@ impl Registers {
         }
     }
 
-    /// The number of the first asset of a voucher, or of the next one where it has none, and that of a lease's bond.
+    /// The number of the first asset of a voucher, or of the next one where it has none, and that
+    /// of a lease's bond.
     fn second(&self, act: &Act) -> u32
         ensures { result ≡ (results.draws self.now.registers act.now).second }
     {
@@ -203,7 +204,8 @@ impl Registers {
     /// Takes in an entry that the rules accept. It takes no memory, as that was reserved.
     pub fn apply(&mut self, chart: &Chart, entry: &Entry)
         requires { CanTakeIn chart.now self.old entry.now }
-        ensures registers { self.new.registers ≡ registers_step chart.now self.old.registers entry.now }
+        ensures registers { self.new.registers
+            ≡ registers_step chart.now self.old.registers entry.now }
         ensures taken { (n : ℕ) → HaveTaken n self.old → HaveTaken (n + 1) self.new }
     {
         let change = &entry.change;
@@ -216,7 +218,8 @@ impl Registers {
         self.debt.apply(chart, change.on, change.desk, &change.act);
     }
 
-    /// What a look at a document, a bill, an asset, a bond or leave shows, or nothing where there is none of its number.
+    /// What a look at a document, a bill, an asset, a bond or leave shows, or nothing where there
+    /// is none of its number.
     pub fn look(
         &self,
         alloc: Global,

@@ -1,5 +1,5 @@
-//! What an act spends of control lines besides documents: a debt payment, in the fiscal year in which it is due, leave
-//! that is paid out, and a lease.
+//! What an act spends of control lines besides documents: a debt payment, in the fiscal year in
+//! which it is due, leave that is paid out, and a lease.
 
 ghost use Rattle.std.specs.Prelude.{◌≡◌, ◌≤◌, length, map, slice_get, option_map, IfSome, true};
 ghost use Rattle.cf_base.specs.Calendar.{is_day};
@@ -22,7 +22,8 @@ use cf_register_parts::year_of_day;
 
 /// An amount is expended of its account's line in a fiscal year.
 fn expend(account: AccountItem, year: u16) -> LineMove
-    ensures value { result ≡ line_move (model.spending_move (record { account = account; year = year })) }
+    ensures value { result
+        ≡ line_move (model.spending_move (record { account = account; year = year })) }
     ensures small { IsSmall result }
 {
     LineMove {
@@ -37,7 +38,13 @@ fn expend(account: AccountItem, year: u16) -> LineMove
 /// What a payment spends of an object's line.
 fn pay(payment: &DebtPayment, due: &Due, object: u16, amount: u64) -> LineMove
     ensures value { result ≡ line_move (model.spending_move (record {
-      account = record { fund = payment.now.fund; dept = payment.now.dept; object = object; amount = amount };
+      account = record {
+        fund = payment.now.fund;
+        dept = payment.now.dept;
+        object = object;
+        amount =
+            amount;
+      };
       year = due.now.year;
     })) }
     ensures small { IsSmall result }
@@ -53,7 +60,9 @@ fn pay(payment: &DebtPayment, due: &Due, object: u16, amount: u64) -> LineMove
 
 /// What a payment spends: its principal, and then its interest.
 fn payment_at(payment: &DebtPayment, due: &Due, nth: usize) -> Option<LineMove>
-    ensures value { result ≡ option_map line_move (slice_get (map model.spending_move (spent_now payment.now due.now)) nth) }
+    ensures value { result
+        ≡ option_map line_move
+        (slice_get (map model.spending_move (spent_now payment.now due.now)) nth) }
     ensures small { IfSome result IsSmall }
 {
     match nth {
@@ -65,7 +74,9 @@ fn payment_at(payment: &DebtPayment, due: &Due, nth: usize) -> Option<LineMove>
 
 /// What leave that is paid out spends.
 fn maturity_at(leave: &LeaveMaturity, year: u16, nth: usize) -> Option<LineMove>
-    ensures value { result ≡ option_map line_move (slice_get (map model.spending_move (paid_leave leave.now year)) nth) }
+    ensures value { result
+        ≡ option_map line_move
+        (slice_get (map model.spending_move (paid_leave leave.now year)) nth) }
     ensures small { IfSome result IsSmall }
 {
     let account = AccountItem {
@@ -81,9 +92,11 @@ fn maturity_at(leave: &LeaveMaturity, year: u16, nth: usize) -> Option<LineMove>
     }
 }
 
-/// What a lease spends as it begins (GASB Statement 87: in a governmental fund it is an expenditure).
+/// What a lease spends as it begins (GASB Statement 87: in a governmental fund it is an
+/// expenditure).
 fn lease_at(lease: &NewLease, year: u16, nth: usize) -> Option<LineMove>
-    ensures value { result ≡ option_map line_move (slice_get (map model.spending_move (leased lease.now year)) nth) }
+    ensures value { result
+        ≡ option_map line_move (slice_get (map model.spending_move (leased lease.now year)) nth) }
     ensures small { IfSome result IsSmall }
 {
     if nth == 0 {
@@ -96,7 +109,8 @@ fn lease_at(lease: &NewLease, year: u16, nth: usize) -> Option<LineMove>
 /// How many amounts an act spends besides documents.
 pub fn spendings(chart: &Chart, registers: &Registers, act: &Act) -> usize
     requires { AreNumberedBonds registers.now.registers.bonds }
-    ensures value { (on : OnDay) → result ≡ length (spendings_by chart.now registers.now.registers on act.now) }
+    ensures value { (on : OnDay)
+        → result ≡ length (spendings_by chart.now registers.now.registers on act.now) }
     ensures few { result ≤ 2 }
 {
     match act {
@@ -138,7 +152,10 @@ pub fn spending_at(
 ) -> Option<LineMove>
     requires day { is_day on ≡ true }
     requires numbered { AreNumberedBonds registers.now.registers.bonds }
-    ensures value { result ≡ option_map line_move (slice_get (map model.spending_move (spendings_by chart.now registers.now.registers on act.now)) nth) }
+    ensures value { result
+        ≡ option_map line_move
+        (slice_get (map model.spending_move
+        (spendings_by chart.now registers.now.registers on act.now)) nth) }
     ensures small { IfSome result IsSmall }
 {
     match act {

@@ -1,4 +1,5 @@
--- The rule on levy years gives what the register asks: a bill is collected and written off in its levy year or later.
+-- The rule on levy years gives what the register asks: a bill is collected and written off in its
+-- levy year or later.
 use Rattle.std.proofs.Common.{◌≡◌, ◌⊎◌, inl, inr, ℕ, suc, ◌<◌, ◌≤◌, Bool, true, false, nat_lt, Option, Some, None, IfSome, arith}
 use Rattle.std.proofs.lemmas.Bool.Decides.{leb_tells}
 use Rattle.cf_base.specs.declared.calendar.Day.{Day}

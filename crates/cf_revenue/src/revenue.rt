@@ -19,8 +19,9 @@ use std::alloc::Global;
 use std::collections::BTreeMap;
 use std::marker::Model;
 
-/// Bills with what is settled of them, and loans between funds. Bills have the numbers 1, 2, 3 ..; what is left of
-/// each, what funds owe one another and the sums by fiscal year are kept as they run.
+/// Bills with what is settled of them, and loans between funds. Bills have the numbers 1, 2, 3 ..;
+/// what is left of each, what funds owe one another and the sums by fiscal year are kept as they
+/// run.
 #[derive(Drop)]
 pub struct Revenue {
     pub(crate) bills: Vec<BillRow>,
@@ -76,7 +77,8 @@ impl Revenue {
 
     /// The row of a bill.
     pub(crate) fn row(&self, number: u32) -> Option<BillRow>
-        ensures { MatchOption result (bill_at number self.now.receivables.bills ≡ None) (ShowsBill number self.now.receivables) }
+        ensures { MatchOption result (bill_at number self.now.receivables.bills ≡ None)
+            (ShowsBill number self.now.receivables) }
     {
         if number == 0 || number as usize > self.bills.len() {
             return None;
@@ -98,11 +100,12 @@ impl Revenue {
         }
     }
 
-    /// The fiscal year that a collection of this day on a bill is revenue of: `None` exactly where there is no bill
-    /// of this number.
+    /// The fiscal year that a collection of this day on a bill is revenue of: `None` exactly where
+    /// there is no bill of this number.
     pub fn collected_year(&self, chart: &Chart, on: Day, bill: u32) -> Option<u16>
         requires { is_day on ≡ true }
-        ensures { result ≡ option_map (spec.collected_year chart.now on) (bill_at bill self.now.receivables.bills) }
+        ensures { result ≡ option_map (spec.collected_year chart.now on)
+            (bill_at bill self.now.receivables.bills) }
     {
         match self.row(bill) {
             None => None,
@@ -113,14 +116,16 @@ impl Revenue {
         }
     }
 
-    /// What a debtor fund owes a creditor fund, in cents: what that one lent it, less what it repaid.
+    /// What a debtor fund owes a creditor fund, in cents: what that one lent it, less what it
+    /// repaid.
     pub fn owed(&self, debtor: u16, creditor: u16) -> u64
         ensures { result ≡ spec.owed self.now.receivables debtor creditor }
     {
         amount_at(&self.owed, owed_key(debtor, creditor))
     }
 
-    /// Unavailable revenue through a fiscal year, in cents (GASB Statement 65: deferred inflows of resources).
+    /// Unavailable revenue through a fiscal year, in cents (GASB Statement 65: deferred inflows of
+    /// resources).
     pub fn unavailable(&self, year: u16) -> i128
         ensures { result ≡ spec.unavailable self.now.receivables year }
     {
@@ -129,8 +134,8 @@ impl Revenue {
         difference(billed, settled)
     }
 
-    /// The change of unavailable revenue in a fiscal year, in cents: the bills of that levy year, less what was collected
-    /// and written off in it. It reads as much for an earlier year.
+    /// The change of unavailable revenue in a fiscal year, in cents: the bills of that levy year,
+    /// less what was collected and written off in it. It reads as much for an earlier year.
     pub fn unavailable_change(&self, year: u16) -> i128
         requires { 1 ≤ year }
         ensures { result ≡ deferred_in year self.now.receivables }

@@ -62,7 +62,8 @@ impl Revenue {
         requires room { length self.old.receivables.settlements < self.old.room.settlements }
         requires few { self.old.acts < most_entries }
         ensures receivables { self.new.receivables ≡ record self.old.receivables {
-          settlements = self.old.receivables.settlements ++ settlements_by chart.now self.old.receivables.bills on (act.Collect part.now);
+          settlements = self.old.receivables.settlements
+              ++ settlements_by chart.now self.old.receivables.bills on (act.Collect part.now);
         } }
         ensures acts { self.new.acts ≡ self.old.acts + 1 }
     {
@@ -85,7 +86,8 @@ impl Revenue {
         requires room { length self.old.receivables.settlements < self.old.room.settlements }
         requires few { self.old.acts < most_entries }
         ensures receivables { self.new.receivables ≡ record self.old.receivables {
-          settlements = self.old.receivables.settlements ++ settlements_by chart.now self.old.receivables.bills on (act.WriteOff part.now);
+          settlements = self.old.receivables.settlements
+              ++ settlements_by chart.now self.old.receivables.bills on (act.WriteOff part.now);
         } }
         ensures acts { self.new.acts ≡ self.old.acts + 1 }
     {
@@ -113,7 +115,8 @@ impl Revenue {
         self.acts += 1;
     }
 
-    /// Takes in a movement of cash between funds: a loan or a repayment. A transfer is only counted.
+    /// Takes in a movement of cash between funds: a loan or a repayment. A transfer is only
+    /// counted.
     pub(crate) fn move_cash(&mut self, fund_move: &FundMove)
         requires reserved { HasRoomToMove fund_move.now.what fund_move.now self.old }
         requires allowed { over_loan self.old.receivables fund_move.now.what fund_move.now ≡ None }
@@ -121,7 +124,8 @@ impl Revenue {
         requires few { self.old.acts < most_entries }
         ensures receivables { self.new.receivables ≡ record self.old.receivables {
           loans = self.old.receivables.loans ++ loans_by (act.Interfund fund_move.now);
-          repayments = self.old.receivables.repayments ++ repayments_by (act.Interfund fund_move.now);
+          repayments = self.old.receivables.repayments
+              ++ repayments_by (act.Interfund fund_move.now);
         } }
         ensures acts { self.new.acts ≡ self.old.acts + 1 }
     {
@@ -172,7 +176,9 @@ fn lower(bills: &mut Vec<BillRow>, number: u32, amount: u64)
     requires first { 1 ≤ number }
     requires within { number ≤ length bills.old.items }
     requires enough { (d : Row) → amount ≤ (slice_index_or bills.old.items (number - 1) d).left }
-    ensures { (d : Row) → bills.new.items ≡ slice_set bills.old.items (number - 1) (lowered (slice_index_or bills.old.items (number - 1) d) amount) }
+    ensures { (d : Row)
+        → bills.new.items ≡ slice_set bills.old.items (number - 1)
+        (lowered (slice_index_or bills.old.items (number - 1) d) amount) }
 {
     let k = number as usize - 1;
     let mut row = bills[k];
@@ -182,7 +188,8 @@ fn lower(bills: &mut Vec<BillRow>, number: u32, amount: u64)
 
 /// A movement of cash as a row.
 fn row_of(fund_move: &FundMove) -> LoanRow
-    ensures { result ≡ record { from = fund_move.now.from; to = fund_move.now.to; amount = fund_move.now.amount } }
+    ensures { result ≡ record
+        { from = fund_move.now.from; to = fund_move.now.to; amount = fund_move.now.amount } }
 {
     LoanRow {
         from: fund_move.from,

@@ -51,7 +51,9 @@ reached_on device a b _ _ first (IsReached.more _ m c failed second step) =
 
 -- a book as an office that follows: it refuses what opening its journal would refuse
 abbrev pub book_office : {D : Type 0} → Device D → Office (DurableBook D)
-book_office device = office (λ b. b.entries) (λ b e. entry_refusal b.plan b.entries e) (λ b. device.faults b.disk) (IsReached device)
+book_office device =
+    office (λ b. b.entries) (λ b e. entry_refusal b.plan b.entries e) (λ b. device.faults b.disk)
+    (IsReached device)
 
 abbrev pub said_as : Said → Admission
 said_as book.Added = admission.Added

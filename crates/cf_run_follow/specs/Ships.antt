@@ -17,9 +17,10 @@ use Rattle.cf_run_status.specs.declared.status.Status.TheVariants as status
 use Rattle.cf_run_status.specs.Devices.{Device}
 use Rattle.cf_run_status.specs.Unwritten.{IsUnwritten}
 
--- The journal of a disk was opened: the chart's bytes, and the book of what the disk's content recovers to, with nothing in
--- doubt.
-pub record IsOpened {D : Type 0} (device : Device D) (old : D) (chart : List ℕ) (book : DurableBook D) : Type 0 where
+-- The journal of a disk was opened: the chart's bytes, and the book of what the disk's content
+-- recovers to, with nothing in doubt.
+pub record IsOpened {D : Type 0} (device : Device D) (old : D) (chart : List ℕ)
+    (book : DurableBook D) : Type 0 where
   pub frames_are : IsTrue device.tells → frames (device.content old) ≡ Ok (chart, book.entries)
   pub states : chart_of chart ≡ Ok book.plan
   pub recovers : IsTrue device.tells → RecoversTo book.plan book.entries (device.content old)
@@ -30,7 +31,8 @@ pub record IsOpened {D : Type 0} (device : Device D) (old : D) (chart : List ℕ
 -- The stream of the chart and the history that the disk's content recovers to went to the output,
 -- or a front of it. That history is sound, no entry of it posts to a closed fiscal year, and its
 -- statements articulate.
-pub record Shipped {D : Type 0} (device : Device D) (from : ℕ) (old new : D) (held held' : Option (List ℕ)) (how : ShipEnd) : Type 0 where
+pub record Shipped {D : Type 0} (device : Device D) (from : ℕ) (old new : D)
+    (held held' : Option (List ℕ)) (how : ShipEnd) : Type 0 where
   pub chart : List ℕ
   pub book : DurableBook D
   pub opened : IsOpened device old chart book
@@ -40,19 +42,26 @@ pub record Shipped {D : Type 0} (device : Device D) (from : ℕ) (old new : D) (
   pub articulates : AllArticulate book.plan book.entries
   pub ships : Ships (stream_of chart book.entries from) held held' how
 
-abbrev pub ShipSays : {D : Type 0} → Device D → ℕ → D → D → Option (List ℕ) → Option (List ℕ) → Status → Type 0
+abbrev pub ShipSays : {D : Type 0} → Device D → ℕ → D → D → Option (List ℕ) → Option (List ℕ)
+    → Status → Type 0
 ShipSays device from old new held held' status.Ok = Shipped device from old new held held' ship.Done
-ShipSays device from old new held held' status.WriteFault = Shipped device from old new held held' ship.WriteFault
-ShipSays device from old new held held' status.NoMemory = (held' ≡ held) ⊎ Shipped device from old new held held' ship.NoMemory
+ShipSays device from old new held held' status.WriteFault =
+    Shipped device from old new held held' ship.WriteFault
+ShipSays device from old new held held' status.NoMemory = (held' ≡ held)
+    ⊎ Shipped device from old new held held' ship.NoMemory
 ShipSays device from old new held held' status.DiskFault = held' ≡ held
-ShipSays device from old new held held' (status.NotFounded len byte) = (held' ≡ held) × (IsTrue device.tells → recovered (device.content old) ≡ Err (refused.NotFounded len byte))
-ShipSays device from old new held held' (status.Damaged offset refusal) = (held' ≡ held) × (IsTrue device.tells → recovered (device.content old) ≡ Err (refused.Damaged offset refusal))
+ShipSays device from old new held held' (status.NotFounded len byte) = (held' ≡ held)
+    × (IsTrue device.tells → recovered (device.content old) ≡ Err (refused.NotFounded len byte))
+ShipSays device from old new held held' (status.Damaged offset refusal) = (held' ≡ held)
+    × (IsTrue device.tells → recovered (device.content old) ≡ Err (refused.Damaged offset refusal))
 ShipSays device from old new held held' _ = ⊥
 
 -- the journal is only read
-abbrev pub ShipEnds : {D : Type 0} → Device D → ℕ → D → D → Option (List ℕ) → Option (List ℕ) → Status → Type 0
+abbrev pub ShipEnds : {D : Type 0} → Device D → ℕ → D → D → Option (List ℕ) → Option (List ℕ)
+    → Status → Type 0
 ShipEnds device from old new held held' s =
-    IsUnwritten device old new × ShipSays device from old new held held' s × (s ≢ status.DiskFault → device.faults new ≡ device.faults old)
+    IsUnwritten device old new × ShipSays device from old new held held' s
+    × (s ≢ status.DiskFault → device.faults new ≡ device.faults old)
 
 abbrev pub status_of_shipped : ShipEnd → Status
 status_of_shipped ship.Done = status.Ok

@@ -56,7 +56,9 @@ fn keep_copy<I: Source, D: Disk + Drop>(
     input: &mut I,
 ) -> (FollowEnd, u64, D)
     requires clear { book.doubt ≡ None }
-    ensures copied { (last : DurableBook D) × Copied (device D.tells D.content D.is_image D.moment D.was_image D.faults) chart.now book last result.2 (I.left input.old) (I.left input.new) result.0
+    ensures copied { (last : DurableBook D)
+        × Copied (device D.tells D.content D.is_image D.moment D.was_image D.faults) chart.now book
+        last result.2 (I.left input.old) (I.left input.new) result.0
         × (result.1 ≡ length last.entries) }
     ensures cause { IsReadCause (I.faults input.old) (I.faults input.new) result.0 }
     ensures disk { result.0 ≡ end.DiskFault → Rose (D.faults book.disk) (D.faults result.2) }
@@ -71,8 +73,10 @@ fn keep_copy<I: Source, D: Disk + Drop>(
 
 /// Prints how many entries there are where the stream was followed to its end.
 fn print_end<O: Sink>(alloc: Global, how: FollowEnd, count: u64, out: &mut O) -> Status
-    ensures done { how ≡ end.Done → Prints (followed_text count) (O.held out.old) (O.held out.new) result }
-    ensures stopped { how ≢ end.Done → (result ≡ status_of_end how) × (O.held out.new ≡ O.held out.old) }
+    ensures done { how ≡ end.Done
+        → Prints (followed_text count) (O.held out.old) (O.held out.new) result }
+    ensures stopped { how ≢ end.Done
+        → (result ≡ status_of_end how) × (O.held out.new ≡ O.held out.old) }
     ensures write { result ≡ Status.WriteFault → Rose (O.faults out.old) (O.faults out.new) }
     ensures out_quiet { result ≢ Status.WriteFault → O.faults out.new ≡ O.faults out.old }
 {
@@ -82,19 +86,23 @@ fn print_end<O: Sink>(alloc: Global, how: FollowEnd, count: u64, out: &mut O) ->
     }
 }
 
-/// Opens the journal of the disk, has its book follow the stream, and prints how many entries there are at the end.
+/// Opens the journal of the disk, has its book follow the stream, and prints how many entries there
+/// are at the end.
 fn follow_over<I: Source, O: Sink, D: Disk + Drop>(
     alloc: Global,
     input: &mut I,
     out: &mut O,
     disk: D,
 ) -> Ran<D>
-    ensures ends { FollowRunEnds (device D.tells D.content D.is_image D.moment D.was_image D.faults) disk result.disk
+    ensures ends { FollowRunEnds
+        (device D.tells D.content D.is_image D.moment D.was_image D.faults) disk result.disk
         (I.left input.old) (I.left input.new) (O.held out.old) (O.held out.new) result.status }
-    ensures read { result.status ≡ Status.ReadFault → Rose (I.faults input.old) (I.faults input.new) }
+    ensures read { result.status ≡ Status.ReadFault
+        → Rose (I.faults input.old) (I.faults input.new) }
     ensures write { result.status ≡ Status.WriteFault → Rose (O.faults out.old) (O.faults out.new) }
     ensures disk { result.status ≡ Status.DiskFault → Rose (D.faults disk) (D.faults result.disk) }
-    ensures memory { result.status ≡ Status.NoMemory → (I.faults input.new ≡ I.faults input.old) × (O.faults out.new ≡ O.faults out.old)
+    ensures memory { result.status ≡ Status.NoMemory
+        → (I.faults input.new ≡ I.faults input.old) × (O.faults out.new ≡ O.faults out.old)
         × (D.faults result.disk ≡ D.faults disk) }
     ensures input_quiet { result.status ≢ Status.ReadFault → I.faults input.new ≡ I.faults input.old }
     ensures out_quiet { result.status ≢ Status.WriteFault → O.faults out.new ≡ O.faults out.old }
@@ -114,10 +122,10 @@ fn follow_over<I: Source, O: Sink, D: Disk + Drop>(
     }
 }
 
-/// The run of `follow`: opens the journal, and reads a stream from the input into it. An entry that it has already is
-/// compared, and each later one is appended where the rules accept it with the same numbers. At the end of the stream
-/// `followed` and how many entries there are then are printed on one line. Other words are `BadWords`, and nothing is read
-/// or written.
+/// The run of `follow`: opens the journal, and reads a stream from the input into it. An entry that
+/// it has already is compared, and each later one is appended where the rules accept it with the
+/// same numbers. At the end of the stream `followed` and how many entries there are then are
+/// printed on one line. Other words are `BadWords`, and nothing is read or written.
 pub fn run_follow<I: Source, O: Sink, D: Disk + Drop>(
     alloc: Global,
     words: &[String],
@@ -126,14 +134,19 @@ pub fn run_follow<I: Source, O: Sink, D: Disk + Drop>(
     disk: D,
 ) -> Ran<D>
     ensures ends { command_of (map string_bytes words.now) ≡ Some Command.Follow
-        → FollowRunEnds (device D.tells D.content D.is_image D.moment D.was_image D.faults) disk result.disk
+        → FollowRunEnds (device D.tells D.content D.is_image D.moment D.was_image D.faults) disk
+        result.disk
         (I.left input.old) (I.left input.new) (O.held out.old) (O.held out.new) result.status }
     ensures words { (command_of (map string_bytes words.now) ≡ Some Command.Follow → ⊥)
-        → ((result.status ≡ Status.BadWords) ⊎ (result.status ≡ Status.NoMemory)) × (I.left input.new ≡ I.left input.old) × (O.held out.new ≡ O.held out.old) × (result.disk ≡ disk) }
-    ensures read { result.status ≡ Status.ReadFault → Rose (I.faults input.old) (I.faults input.new) }
+        → ((result.status ≡ Status.BadWords) ⊎ (result.status ≡ Status.NoMemory))
+        × (I.left input.new ≡ I.left input.old) × (O.held out.new ≡ O.held out.old)
+        × (result.disk ≡ disk) }
+    ensures read { result.status ≡ Status.ReadFault
+        → Rose (I.faults input.old) (I.faults input.new) }
     ensures write { result.status ≡ Status.WriteFault → Rose (O.faults out.old) (O.faults out.new) }
     ensures disk { result.status ≡ Status.DiskFault → Rose (D.faults disk) (D.faults result.disk) }
-    ensures memory { result.status ≡ Status.NoMemory → (I.faults input.new ≡ I.faults input.old) × (O.faults out.new ≡ O.faults out.old)
+    ensures memory { result.status ≡ Status.NoMemory
+        → (I.faults input.new ≡ I.faults input.old) × (O.faults out.new ≡ O.faults out.old)
         × (D.faults result.disk ≡ D.faults disk) }
     ensures input_quiet { result.status ≢ Status.ReadFault → I.faults input.new ≡ I.faults input.old }
     ensures out_quiet { result.status ≢ Status.WriteFault → O.faults out.new ≡ O.faults out.old }

@@ -1,4 +1,5 @@
-//! A second office that keeps a copy of the history: the commands that ship a history as a stream, and that follow one.
+//! A second office that keeps a copy of the history: the commands that ship a history as a stream,
+//! and that follow one.
 #![tactic(auto)]
 
 mod copying;

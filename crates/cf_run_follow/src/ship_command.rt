@@ -26,11 +26,13 @@ fn status_of(how: ShipEnd) -> Status
 
 /// Opens the journal of the disk, and writes the stream of its history from a place on.
 fn ship_over<O: Sink, D: Disk + Drop>(alloc: Global, from: u32, out: &mut O, disk: D) -> Ran<D>
-    ensures ends { ShipEnds (device D.tells D.content D.is_image D.moment D.was_image D.faults) from disk result.disk
+    ensures ends { ShipEnds
+        (device D.tells D.content D.is_image D.moment D.was_image D.faults) from disk result.disk
         (O.held out.old) (O.held out.new) result.status }
     ensures write { result.status ≡ Status.WriteFault → Rose (O.faults out.old) (O.faults out.new) }
     ensures disk { result.status ≡ Status.DiskFault → Rose (D.faults disk) (D.faults result.disk) }
-    ensures memory { result.status ≡ Status.NoMemory → (O.faults out.new ≡ O.faults out.old) × (D.faults result.disk ≡ D.faults disk) }
+    ensures memory { result.status ≡ Status.NoMemory
+        → (O.faults out.new ≡ O.faults out.old) × (D.faults result.disk ≡ D.faults disk) }
     ensures out_quiet { result.status ≢ Status.WriteFault → O.faults out.new ≡ O.faults out.old }
 {
     match open_with_bytes(alloc, disk) {
@@ -54,8 +56,9 @@ fn ship_over<O: Sink, D: Disk + Drop>(alloc: Global, from: u32, out: &mut O, dis
     }
 }
 
-/// The run of `ship`: opens the journal, and writes the stream of its history: the chart, and the entries behind the first FROM.
-/// The journal is only read. Other words are `BadWords`, and nothing is read or written.
+/// The run of `ship`: opens the journal, and writes the stream of its history: the chart, and the
+/// entries behind the first FROM. The journal is only read. Other words are `BadWords`, and nothing
+/// is read or written.
 pub fn run_ship<O: Sink, D: Disk + Drop>(
     alloc: Global,
     words: &[String],
@@ -63,13 +66,17 @@ pub fn run_ship<O: Sink, D: Disk + Drop>(
     disk: D,
 ) -> Ran<D>
     ensures ends { (from : ℕ) → command_of (map string_bytes words.now) ≡ Some (Command.Ship from)
-        → ShipEnds (device D.tells D.content D.is_image D.moment D.was_image D.faults) from disk result.disk
+        → ShipEnds (device D.tells D.content D.is_image D.moment D.was_image D.faults) from disk
+        result.disk
         (O.held out.old) (O.held out.new) result.status }
-    ensures words { ((from : ℕ) → command_of (map string_bytes words.now) ≡ Some (Command.Ship from) → ⊥)
-        → ((result.status ≡ Status.BadWords) ⊎ (result.status ≡ Status.NoMemory)) × (O.held out.new ≡ O.held out.old) × (result.disk ≡ disk) }
+    ensures words { ((from : ℕ) → command_of (map string_bytes words.now) ≡ Some (Command.Ship from)
+        → ⊥)
+        → ((result.status ≡ Status.BadWords) ⊎ (result.status ≡ Status.NoMemory))
+        × (O.held out.new ≡ O.held out.old) × (result.disk ≡ disk) }
     ensures write { result.status ≡ Status.WriteFault → Rose (O.faults out.old) (O.faults out.new) }
     ensures disk { result.status ≡ Status.DiskFault → Rose (D.faults disk) (D.faults result.disk) }
-    ensures memory { result.status ≡ Status.NoMemory → (O.faults out.new ≡ O.faults out.old) × (D.faults result.disk ≡ D.faults disk) }
+    ensures memory { result.status ≡ Status.NoMemory
+        → (O.faults out.new ≡ O.faults out.old) × (D.faults result.disk ≡ D.faults disk) }
     ensures out_quiet { result.status ≢ Status.WriteFault → O.faults out.new ≡ O.faults out.old }
 {
     match read_words(alloc, words) {

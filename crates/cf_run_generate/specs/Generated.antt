@@ -28,11 +28,13 @@ chart_text = CITY.now
 
 -- budgets of 10^12 cents a line ..
 abbrev pub adoptions : List Change
-adoptions = change_of 1 (adoption 1 0 30) ∷ change_of 2 (adoption 2 30 8) ∷ change_of 3 (adoption 3 38 2) ∷ []
+adoptions = change_of 1 (adoption 1 0 30) ∷ change_of 2 (adoption 2 30 8)
+    ∷ change_of 3 (adoption 3 38 2) ∷ []
 
 -- .. and 10^13 cents received in each fund
 abbrev pub receipts : List Change
-receipts = change_of 4 (receipt 4 10000000000000) ∷ change_of 5 (receipt 5 10000000000000) ∷ change_of 6 (receipt 6 10000000000000) ∷ []
+receipts = change_of 4 (receipt 4 10000000000000) ∷ change_of 5 (receipt 5 10000000000000)
+    ∷ change_of 6 (receipt 6 10000000000000) ∷ []
 
 -- so many drawn calls from a number and a turn on
 unfoldable pub drawn : ℕ → ℕ → Turn → List Change
@@ -41,7 +43,8 @@ drawn (suc left) number t = change_of number (act_of t) ∷ drawn left (number +
 
 -- the calls of a run
 abbrev pub calls : ℕ → List Change
-calls n = adoptions ++ (receipts ++ (drawn n 7 (first_turn n) ++ change_of (n + 7) month_close ∷ []))
+calls n = adoptions
+    ++ (receipts ++ (drawn n 7 (first_turn n) ++ change_of (n + 7) month_close ∷ []))
 
 -- the history after changes, by the office's step
 abbrev pub after : Plan → List Entry → List Change → List Entry

@@ -1,4 +1,5 @@
--- How the generator draws its calls: by a linear congruential generator, the same in each run (own rule).
+-- How the generator draws its calls: by a linear congruential generator, the same in each run (own
+-- rule).
 use Rattle.std.specs.Prelude.{ℕ, ◌+◌, ◌*◌, ◌/◌, ◌%◌, ◌==◌, if◌then◌else◌, Some, None}
 use Rattle.cf_run_generate.specs.declared.turn.Turn.{Turn}
 use Rattle.cf_run_generate.specs.declared.turn.Choice.{Choice}
@@ -29,7 +30,8 @@ choice_of t = choice_by (t.seed / 65536 / 40 % 4)
 
 -- the turn after: an order waits for its voucher, which comes at most once
 abbrev pub moved_on : Choice → Turn → Turn
-moved_on choice.Order t = record { seed = next_seed t.seed; orders = t.orders + 1; waiting = Some (line_of t) }
+moved_on choice.Order t =
+    record { seed = next_seed t.seed; orders = t.orders + 1; waiting = Some (line_of t) }
 moved_on choice.Final t = record { seed = next_seed t.seed; orders = t.orders; waiting = None }
 moved_on _ t = record { seed = next_seed t.seed; orders = t.orders; waiting = t.waiting }
 

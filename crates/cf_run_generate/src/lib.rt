@@ -1,4 +1,5 @@
-//! A large run in memory: calls that are drawn by a fixed formula, taken by an office of a fixed city.
+//! A large run in memory: calls that are drawn by a fixed formula, taken by an office of a fixed
+//! city.
 #![tactic(auto)]
 
 mod acts;

@@ -36,7 +36,8 @@ fn add(office: &mut BookOffice, change: Change, drawn: Drawn) -> Result<(), Allo
     requires form { IsChangeInForm change }
     requires accepted { verdict_of office.old.plan office.old.entries change ≡ Accept drawn }
     ensures plan { office.new.plan ≡ office.old.plan }
-    ensures ok { OnOk result (office.new.entries ≡ office.old.entries ++ spec.entry_by change drawn ∷ []) }
+    ensures ok { OnOk result
+        (office.new.entries ≡ office.old.entries ++ spec.entry_by change drawn ∷ []) }
 {
     let entry = entry_of(change, drawn);
     office.accept(entry)?;
@@ -47,7 +48,9 @@ fn add(office: &mut BookOffice, change: Change, drawn: Drawn) -> Result<(), Allo
 fn take(alloc: Global, office: &mut BookOffice, number: u32, act: Act) -> Result<(), AllocError>
     requires { IsActInForm acts.first_day act }
     ensures plan { office.new.plan ≡ office.old.plan }
-    ensures ok { OnOk result (office.new.entries ≡ next_of office.old.plan office.old.entries (calls.Change (acts.change_of number act))) }
+    ensures ok { OnOk result
+        (office.new.entries
+        ≡ next_of office.old.plan office.old.entries (calls.Change (acts.change_of number act))) }
 {
     let change = change_of(alloc, number, act)?;
     match accepted(office, &change) {
@@ -62,7 +65,8 @@ fn take(alloc: Global, office: &mut BookOffice, number: u32, act: Act) -> Result
 /// Takes the calls that adopt the budgets.
 fn adopt_budgets(alloc: Global, office: &mut BookOffice) -> Result<(), AllocError>
     ensures plan { office.new.plan ≡ office.old.plan }
-    ensures ok { OnOk result (office.new.entries ≡ spec.after office.old.plan office.old.entries spec.adoptions) }
+    ensures ok { OnOk result
+        (office.new.entries ≡ spec.after office.old.plan office.old.entries spec.adoptions) }
 {
     let first = adoption(alloc, 1, 0, 30)?;
     take(alloc, office, 1, first)?;
@@ -76,7 +80,8 @@ fn adopt_budgets(alloc: Global, office: &mut BookOffice) -> Result<(), AllocErro
 /// Takes the calls that bring in cash.
 fn receive_cash(alloc: Global, office: &mut BookOffice) -> Result<(), AllocError>
     ensures plan { office.new.plan ≡ office.old.plan }
-    ensures ok { OnOk result (office.new.entries ≡ spec.after office.old.plan office.old.entries spec.receipts) }
+    ensures ok { OnOk result
+        (office.new.entries ≡ spec.after office.old.plan office.old.entries spec.receipts) }
 {
     take(alloc, office, 4, receipt(4, RECEIPT))?;
     take(alloc, office, 5, receipt(5, RECEIPT))?;
@@ -88,7 +93,9 @@ fn receive_cash(alloc: Global, office: &mut BookOffice) -> Result<(), AllocError
 fn take_drawn(alloc: Global, office: &mut BookOffice, n: u32) -> Result<(), AllocError>
     requires { n ≤ 100000 }
     ensures plan { office.new.plan ≡ office.old.plan }
-    ensures ok { OnOk result (office.new.entries ≡ spec.after office.old.plan office.old.entries (spec.drawn n 7 (first_turn n))) }
+    ensures ok { OnOk result
+        (office.new.entries
+        ≡ spec.after office.old.plan office.old.entries (spec.drawn n 7 (first_turn n))) }
 {
     let mut turn = Turn::first(n);
     for i in 0..n {
@@ -103,7 +110,8 @@ fn take_drawn(alloc: Global, office: &mut BookOffice, n: u32) -> Result<(), Allo
 fn take_calls(alloc: Global, office: &mut BookOffice, n: u32) -> Result<(), AllocError>
     requires { n ≤ 100000 }
     ensures plan { office.new.plan ≡ office.old.plan }
-    ensures ok { OnOk result (office.new.entries ≡ spec.after office.old.plan office.old.entries (spec.calls n)) }
+    ensures ok { OnOk result
+        (office.new.entries ≡ spec.after office.old.plan office.old.entries (spec.calls n)) }
 {
     adopt_budgets(alloc, office)?;
     receive_cash(alloc, office)?;
@@ -112,8 +120,8 @@ fn take_calls(alloc: Global, office: &mut BookOffice, n: u32) -> Result<(), Allo
     Ok(())
 }
 
-/// The office of a generated run of `n` drawn calls, at most 100,000: the history is the one that the office's step makes
-/// of the calls.
+/// The office of a generated run of `n` drawn calls, at most 100,000: the history is the one that
+/// the office's step makes of the calls.
 pub fn generate(alloc: Global, n: u32) -> Result<BookOffice, AllocError>
     requires { n ≤ 100000 }
     ensures chart { IfOk result (λ o. chart_of spec.chart_text ≡ Ok o.plan) }

@@ -30,19 +30,24 @@ ClaimOver text held held' status.NoMemory = held' ≡ held
 ClaimOver text held held' _ = ⊥
 
 -- the document was read to its end, or one byte more of it than a document may have
-pub record WithDocument (plan : Plan) (history : List Entry) (grant : ℕ) (on : Day) (desk : ℕ) (left left' held held' : Option (List ℕ)) (s : Status) : Type 0 where
+pub record WithDocument (plan : Plan) (history : List Entry) (grant : ℕ) (on : Day) (desk : ℕ)
+    (left left' held held' : Option (List ℕ)) (s : Status) : Type 0 where
   pub bytes : List ℕ
   pub read : IsRead 1048577 left left' bytes
   pub over : ClaimOver (claim_text plan history bytes grant on desk) held held' s
 
-abbrev pub ClaimRead : Plan → List Entry → ℕ → Day → ℕ → Option (List ℕ) → Option (List ℕ) → Option (List ℕ) → Option (List ℕ) → Status → Type 0
+abbrev pub ClaimRead : Plan → List Entry → ℕ → Day → ℕ → Option (List ℕ) → Option (List ℕ)
+    → Option (List ℕ) → Option (List ℕ) → Status → Type 0
 ClaimRead plan history grant on desk left left' held held' status.ReadFault = held' ≡ held
 ClaimRead plan history grant on desk left left' held held' status.NoMemory = held' ≡ held
-ClaimRead plan history grant on desk left left' held held' s = WithDocument plan history grant on desk left left' held held' s
+ClaimRead plan history grant on desk left left' held held' s =
+    WithDocument plan history grant on desk left left' held held' s
 
--- The claim is of the chart and the history that the disk's content recovers to. That history is sound; and of every grant the claims and
--- the earlier claim bills keep the award, none is of a voucher that was claimed, and no two are of one.
-pub record Claimed {D : Type 0} (device : Device D) (disk : D) (grant : ℕ) (on : Day) (desk : ℕ) (left left' held held' : Option (List ℕ)) (s : Status) : Type 0 where
+-- The claim is of the chart and the history that the disk's content recovers to. That history is
+-- sound; and of every grant the claims and the earlier claim bills keep the award, none is of a
+-- voucher that was claimed, and no two are of one.
+pub record Claimed {D : Type 0} (device : Device D) (disk : D) (grant : ℕ) (on : Day) (desk : ℕ)
+    (left left' held held' : Option (List ℕ)) (s : Status) : Type 0 where
   pub plan : Plan
   pub history : List Entry
   pub recovers : IsTrue device.tells → RecoversTo plan history (device.content disk)
@@ -50,20 +55,30 @@ pub record Claimed {D : Type 0} (device : Device D) (disk : D) (grant : ℕ) (on
   pub kept : (g : Grant) → AreKept plan g history
   pub document : WithDocument plan history grant on desk left left' held held' s
 
-abbrev pub ClaimSays : {D : Type 0} → Device D → D → ℕ → Day → ℕ → Option (List ℕ) → Option (List ℕ) → Option (List ℕ) → Option (List ℕ) → Status → Type 0
-ClaimSays device disk grant on desk left left' held held' status.Ok = Claimed device disk grant on desk left left' held held' status.Ok
-ClaimSays device disk grant on desk left left' held held' status.WriteFault = Claimed device disk grant on desk left left' held held' status.WriteFault
-ClaimSays device disk grant on desk left left' held held' (status.GrantRefused fault) = Claimed device disk grant on desk left left' held held' (status.GrantRefused fault)
+abbrev pub ClaimSays : {D : Type 0} → Device D → D → ℕ → Day → ℕ → Option (List ℕ) → Option (List ℕ)
+    → Option (List ℕ) → Option (List ℕ) → Status → Type 0
+ClaimSays device disk grant on desk left left' held held' status.Ok =
+    Claimed device disk grant on desk left left' held held' status.Ok
+ClaimSays device disk grant on desk left left' held held' status.WriteFault =
+    Claimed device disk grant on desk left left' held held' status.WriteFault
+ClaimSays device disk grant on desk left left' held held' (status.GrantRefused fault) =
+    Claimed device disk grant on desk left left' held held' (status.GrantRefused fault)
 ClaimSays device disk grant on desk left left' held held' status.ReadFault = held' ≡ held
 ClaimSays device disk grant on desk left left' held held' status.NoMemory = held' ≡ held
-ClaimSays device disk grant on desk left left' held held' status.DiskFault = (left' ≡ left) × (held' ≡ held)
+ClaimSays device disk grant on desk left left' held held' status.DiskFault = (left' ≡ left)
+    × (held' ≡ held)
 ClaimSays device disk grant on desk left left' held held' (status.NotFounded len byte) =
-    (left' ≡ left) × (held' ≡ held) × (IsTrue device.tells → recovered (device.content disk) ≡ Err (refused.NotFounded len byte))
+    (left' ≡ left) × (held' ≡ held)
+    × (IsTrue device.tells → recovered (device.content disk) ≡ Err (refused.NotFounded len byte))
 ClaimSays device disk grant on desk left left' held held' (status.Damaged offset refusal) =
-    (left' ≡ left) × (held' ≡ held) × (IsTrue device.tells → recovered (device.content disk) ≡ Err (refused.Damaged offset refusal))
+    (left' ≡ left) × (held' ≡ held)
+    × (IsTrue device.tells
+    → recovered (device.content disk) ≡ Err (refused.Damaged offset refusal))
 ClaimSays device disk grant on desk left left' held held' _ = ⊥
 
 -- the journal is only read
-abbrev pub ClaimEnds : {D : Type 0} → Device D → ℕ → Day → ℕ → D → D → Option (List ℕ) → Option (List ℕ) → Option (List ℕ) → Option (List ℕ) → Status → Type 0
+abbrev pub ClaimEnds : {D : Type 0} → Device D → ℕ → Day → ℕ → D → D → Option (List ℕ)
+    → Option (List ℕ) → Option (List ℕ) → Option (List ℕ) → Status → Type 0
 ClaimEnds device grant on desk old new left left' held held' s =
-    IsUnwritten device old new × ClaimSays device old grant on desk left left' held held' s × (s ≢ status.DiskFault → device.faults new ≡ device.faults old)
+    IsUnwritten device old new × ClaimSays device old grant on desk left left' held held' s
+    × (s ≢ status.DiskFault → device.faults new ≡ device.faults old)

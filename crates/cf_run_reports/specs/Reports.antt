@@ -36,12 +36,15 @@ rows_of plan history year report.Major = major_rows plan history year
 
 -- a statement of a history, as bytes
 abbrev pub report_text : Plan → List Entry → ℕ → ReportKind → Bool → List ℕ
-report_text plan history year kind csv = statement_bytes plan.city (heading_of kind) year csv (rows_of plan history year kind)
+report_text plan history year kind csv =
+    statement_bytes plan.city (heading_of kind) year csv (rows_of plan history year kind)
 
--- The statement of the chart and the history that the disk's content recovers to was printed. That history is sound, no
--- entry of it posts to a closed fiscal year, its seven statements articulate, and in each year of it the classes of each fund sum to
--- its balance, the components to net position, and the major and other funds to the total.
-pub record Reported {D : Type 0} (device : Device D) (disk : D) (year : ℕ) (kind : ReportKind) (csv : Bool) (held held' : Option (List ℕ)) (s : Status) : Type 0 where
+-- The statement of the chart and the history that the disk's content recovers to was printed. That
+-- history is sound, no entry of it posts to a closed fiscal year, its seven statements articulate,
+-- and in each year of it the classes of each fund sum to its balance, the components to net
+-- position, and the major and other funds to the total.
+pub record Reported {D : Type 0} (device : Device D) (disk : D) (year : ℕ) (kind : ReportKind)
+    (csv : Bool) (held held' : Option (List ℕ)) (s : Status) : Type 0 where
   pub plan : Plan
   pub history : List Entry
   pub recovers : IsTrue device.tells → RecoversTo plan history (device.content disk)
@@ -51,15 +54,22 @@ pub record Reported {D : Type 0} (device : Device D) (disk : D) (year : ℕ) (ki
   pub sums : (y : ℕ) → AddUp plan history y
   pub prints : Prints (report_text plan history year kind csv) held held' s
 
-abbrev pub ReportSays : {D : Type 0} → Device D → D → ℕ → ReportKind → Bool → Option (List ℕ) → Option (List ℕ) → Status → Type 0
-ReportSays device disk year kind csv held held' status.Ok = Reported device disk year kind csv held held' status.Ok
-ReportSays device disk year kind csv held held' status.WriteFault = Reported device disk year kind csv held held' status.WriteFault
+abbrev pub ReportSays : {D : Type 0} → Device D → D → ℕ → ReportKind → Bool → Option (List ℕ)
+    → Option (List ℕ) → Status → Type 0
+ReportSays device disk year kind csv held held' status.Ok =
+    Reported device disk year kind csv held held' status.Ok
+ReportSays device disk year kind csv held held' status.WriteFault =
+    Reported device disk year kind csv held held' status.WriteFault
 ReportSays device disk year kind csv held held' status.DiskFault = held' ≡ held
 ReportSays device disk year kind csv held held' status.NoMemory = held' ≡ held
-ReportSays device disk year kind csv held held' (status.NotFounded len byte) = (held' ≡ held) × (IsTrue device.tells → recovered (device.content disk) ≡ Err (refused.NotFounded len byte))
-ReportSays device disk year kind csv held held' (status.Damaged offset refusal) = (held' ≡ held) × (IsTrue device.tells → recovered (device.content disk) ≡ Err (refused.Damaged offset refusal))
+ReportSays device disk year kind csv held held' (status.NotFounded len byte) = (held' ≡ held)
+    × (IsTrue device.tells → recovered (device.content disk) ≡ Err (refused.NotFounded len byte))
+ReportSays device disk year kind csv held held' (status.Damaged offset refusal) = (held' ≡ held)
+    × (IsTrue device.tells → recovered (device.content disk) ≡ Err (refused.Damaged offset refusal))
 ReportSays device disk year kind csv held held' _ = ⊥
 
-abbrev pub ReportEnds : {D : Type 0} → Device D → ℕ → ReportKind → Bool → D → D → Option (List ℕ) → Option (List ℕ) → Status → Type 0
+abbrev pub ReportEnds : {D : Type 0} → Device D → ℕ → ReportKind → Bool → D → D → Option (List ℕ)
+    → Option (List ℕ) → Status → Type 0
 ReportEnds device year kind csv old new held held' s =
-    IsUnwritten device old new × ReportSays device old year kind csv held held' s × (s ≢ status.DiskFault → device.faults new ≡ device.faults old)
+    IsUnwritten device old new × ReportSays device old year kind csv held held' s
+    × (s ≢ status.DiskFault → device.faults new ≡ device.faults old)

@@ -21,7 +21,8 @@ use std::alloc::Global;
 // The most bytes that are taken of a document: one more than a document may have.
 const MOST: usize = 1_048_577;
 
-/// Prints the lines of a claim over a book's history, of the document that these bytes are, or says its first fault.
+/// Prints the lines of a claim over a book's history, of the document that these bytes are, or says
+/// its first fault.
 fn claim_with<O: Sink, D: Disk + Drop>(
     alloc: Global,
     book: &Book<D>,
@@ -31,7 +32,8 @@ fn claim_with<O: Sink, D: Disk + Drop>(
     desk: u16,
     out: &mut O,
 ) -> Status
-    ensures over { ClaimOver (text_of book.now.plan book.now.entries bytes.now grant on desk) (O.held out.old) (O.held out.new) result }
+    ensures over { ClaimOver (text_of book.now.plan book.now.entries bytes.now grant on desk)
+        (O.held out.old) (O.held out.new) result }
     ensures write { result ≡ Status.WriteFault → Rose (O.faults out.old) (O.faults out.new) }
     ensures memory { result ≡ Status.NoMemory → O.faults out.new ≡ O.faults out.old }
     ensures out_quiet { result ≢ Status.WriteFault → O.faults out.new ≡ O.faults out.old }
@@ -53,10 +55,12 @@ fn claim_read<I: Source, O: Sink, D: Disk + Drop>(
     input: &mut I,
     out: &mut O,
 ) -> Status
-    ensures reads { ClaimRead book.now.plan book.now.entries grant on desk (I.left input.old) (I.left input.new) (O.held out.old) (O.held out.new) result }
+    ensures reads { ClaimRead book.now.plan book.now.entries grant on desk (I.left input.old)
+        (I.left input.new) (O.held out.old) (O.held out.new) result }
     ensures read { result ≡ Status.ReadFault → Rose (I.faults input.old) (I.faults input.new) }
     ensures write { result ≡ Status.WriteFault → Rose (O.faults out.old) (O.faults out.new) }
-    ensures memory { result ≡ Status.NoMemory → (I.faults input.new ≡ I.faults input.old) × (O.faults out.new ≡ O.faults out.old) }
+    ensures memory { result ≡ Status.NoMemory
+        → (I.faults input.new ≡ I.faults input.old) × (O.faults out.new ≡ O.faults out.old) }
     ensures input_quiet { result ≢ Status.ReadFault → I.faults input.new ≡ I.faults input.old }
     ensures out_quiet { result ≢ Status.WriteFault → O.faults out.new ≡ O.faults out.old }
 {
@@ -77,12 +81,16 @@ fn claim_over<I: Source, O: Sink, D: Disk + Drop>(
     out: &mut O,
     disk: D,
 ) -> Ran<D>
-    ensures ends { ClaimEnds (device D.tells D.content D.is_image D.moment D.was_image D.faults) grant on desk disk result.disk
+    ensures ends { ClaimEnds
+        (device D.tells D.content D.is_image D.moment D.was_image D.faults) grant on desk disk
+        result.disk
         (I.left input.old) (I.left input.new) (O.held out.old) (O.held out.new) result.status }
-    ensures read { result.status ≡ Status.ReadFault → Rose (I.faults input.old) (I.faults input.new) }
+    ensures read { result.status ≡ Status.ReadFault
+        → Rose (I.faults input.old) (I.faults input.new) }
     ensures write { result.status ≡ Status.WriteFault → Rose (O.faults out.old) (O.faults out.new) }
     ensures disk { result.status ≡ Status.DiskFault → Rose (D.faults disk) (D.faults result.disk) }
-    ensures memory { result.status ≡ Status.NoMemory → (I.faults input.new ≡ I.faults input.old) × (O.faults out.new ≡ O.faults out.old)
+    ensures memory { result.status ≡ Status.NoMemory
+        → (I.faults input.new ≡ I.faults input.old) × (O.faults out.new ≡ O.faults out.old)
         × (D.faults result.disk ≡ D.faults disk) }
     ensures input_quiet { result.status ≢ Status.ReadFault → I.faults input.new ≡ I.faults input.old }
     ensures out_quiet { result.status ≢ Status.WriteFault → O.faults out.new ≡ O.faults out.old }
@@ -102,9 +110,9 @@ fn claim_over<I: Source, O: Sink, D: Disk + Drop>(
     }
 }
 
-/// The run of `claim`: opens the journal, reads a document of grants from the input, at most 1,048,577 bytes of it, and writes the bill
-/// calls by which a desk claims a grant on a day. The journal is only read. Other words are `BadWords`, and nothing is read or
-/// written.
+/// The run of `claim`: opens the journal, reads a document of grants from the input, at most
+/// 1,048,577 bytes of it, and writes the bill calls by which a desk claims a grant on a day. The
+/// journal is only read. Other words are `BadWords`, and nothing is read or written.
 pub fn run_claim<I: Source, O: Sink, D: Disk + Drop>(
     alloc: Global,
     words: &[String],
@@ -112,16 +120,22 @@ pub fn run_claim<I: Source, O: Sink, D: Disk + Drop>(
     out: &mut O,
     disk: D,
 ) -> Ran<D>
-    ensures ends { (grant : ℕ) (on : ADay) (desk : ℕ) → command_of (map string_bytes words.now) ≡ Some (Command.Claim grant on desk)
-        → ClaimEnds (device D.tells D.content D.is_image D.moment D.was_image D.faults) grant on desk disk result.disk
+    ensures ends { (grant : ℕ) (on : ADay) (desk : ℕ)
+        → command_of (map string_bytes words.now) ≡ Some (Command.Claim grant on desk)
+        → ClaimEnds (device D.tells D.content D.is_image D.moment D.was_image D.faults) grant on
+        desk disk result.disk
         (I.left input.old) (I.left input.new) (O.held out.old) (O.held out.new) result.status }
-    ensures words { ((grant : ℕ) (on : ADay) (desk : ℕ) → command_of (map string_bytes words.now) ≡ Some (Command.Claim grant on desk) → ⊥)
-        → ((result.status ≡ Status.BadWords) ⊎ (result.status ≡ Status.NoMemory)) × (I.left input.new ≡ I.left input.old)
+    ensures words { ((grant : ℕ) (on : ADay) (desk : ℕ)
+        → command_of (map string_bytes words.now) ≡ Some (Command.Claim grant on desk) → ⊥)
+        → ((result.status ≡ Status.BadWords) ⊎ (result.status ≡ Status.NoMemory))
+        × (I.left input.new ≡ I.left input.old)
         × (O.held out.new ≡ O.held out.old) × (result.disk ≡ disk) }
-    ensures read { result.status ≡ Status.ReadFault → Rose (I.faults input.old) (I.faults input.new) }
+    ensures read { result.status ≡ Status.ReadFault
+        → Rose (I.faults input.old) (I.faults input.new) }
     ensures write { result.status ≡ Status.WriteFault → Rose (O.faults out.old) (O.faults out.new) }
     ensures disk { result.status ≡ Status.DiskFault → Rose (D.faults disk) (D.faults result.disk) }
-    ensures memory { result.status ≡ Status.NoMemory → (I.faults input.new ≡ I.faults input.old) × (O.faults out.new ≡ O.faults out.old)
+    ensures memory { result.status ≡ Status.NoMemory
+        → (I.faults input.new ≡ I.faults input.old) × (O.faults out.new ≡ O.faults out.old)
         × (D.faults result.disk ≡ D.faults disk) }
     ensures input_quiet { result.status ≢ Status.ReadFault → I.faults input.new ≡ I.faults input.old }
     ensures out_quiet { result.status ≢ Status.WriteFault → O.faults out.new ≡ O.faults out.old }

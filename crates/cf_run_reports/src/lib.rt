@@ -1,4 +1,5 @@
-//! The commands that open the journal, print what they make of its history, and write nothing on the disk.
+//! The commands that open the journal, print what they make of its history, and write nothing on
+//! the disk.
 #![tactic(auto)]
 
 mod claim_command;

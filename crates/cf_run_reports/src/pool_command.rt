@@ -63,11 +63,14 @@ fn pool_over<O: Sink, D: Disk + Drop>(
     disk: D,
 ) -> Ran<D>
     requires { is_call_month month ≡ true }
-    ensures ends { PoolEnds (device D.tells D.content D.is_image D.moment D.was_image D.faults) month amount desk disk result.disk
+    ensures ends { PoolEnds
+        (device D.tells D.content D.is_image D.moment D.was_image D.faults) month amount desk disk
+        result.disk
         (O.held out.old) (O.held out.new) result.status }
     ensures write { result.status ≡ Status.WriteFault → Rose (O.faults out.old) (O.faults out.new) }
     ensures disk { result.status ≡ Status.DiskFault → Rose (D.faults disk) (D.faults result.disk) }
-    ensures memory { result.status ≡ Status.NoMemory → (O.faults out.new ≡ O.faults out.old) × (D.faults result.disk ≡ D.faults disk) }
+    ensures memory { result.status ≡ Status.NoMemory
+        → (O.faults out.new ≡ O.faults out.old) × (D.faults result.disk ≡ D.faults disk) }
     ensures out_quiet { result.status ≢ Status.WriteFault → O.faults out.new ≡ O.faults out.old }
 {
     match open_with_moves(alloc, disk) {
@@ -86,23 +89,29 @@ fn pool_over<O: Sink, D: Disk + Drop>(
     }
 }
 
-/// The run of `pool`: opens the journal, and writes the receive calls by which a desk shares a month's interest among the funds
-/// by their average daily balances, one a line, as `desk` reads them. The journal is only read. `NoShare` comes, and nothing is
-/// written, where no fund has a balance to share by. Other words are `BadWords`, and nothing is read or written.
+/// The run of `pool`: opens the journal, and writes the receive calls by which a desk shares a
+/// month's interest among the funds by their average daily balances, one a line, as `desk` reads
+/// them. The journal is only read. `NoShare` comes, and nothing is written, where no fund has a
+/// balance to share by. Other words are `BadWords`, and nothing is read or written.
 pub fn run_pool<O: Sink, D: Disk + Drop>(
     alloc: Global,
     words: &[String],
     out: &mut O,
     disk: D,
 ) -> Ran<D>
-    ensures ends { (month : Month) (amount desk : ℕ) → command_of (map string_bytes words.now) ≡ Some (Command.Pool month amount desk)
-        → PoolEnds (device D.tells D.content D.is_image D.moment D.was_image D.faults) month amount desk disk result.disk
+    ensures ends { (month : Month) (amount desk : ℕ)
+        → command_of (map string_bytes words.now) ≡ Some (Command.Pool month amount desk)
+        → PoolEnds (device D.tells D.content D.is_image D.moment D.was_image D.faults) month amount
+        desk disk result.disk
         (O.held out.old) (O.held out.new) result.status }
-    ensures words { ((month : Month) (amount desk : ℕ) → command_of (map string_bytes words.now) ≡ Some (Command.Pool month amount desk) → ⊥)
-        → ((result.status ≡ Status.BadWords) ⊎ (result.status ≡ Status.NoMemory)) × (O.held out.new ≡ O.held out.old) × (result.disk ≡ disk) }
+    ensures words { ((month : Month) (amount desk : ℕ)
+        → command_of (map string_bytes words.now) ≡ Some (Command.Pool month amount desk) → ⊥)
+        → ((result.status ≡ Status.BadWords) ⊎ (result.status ≡ Status.NoMemory))
+        × (O.held out.new ≡ O.held out.old) × (result.disk ≡ disk) }
     ensures write { result.status ≡ Status.WriteFault → Rose (O.faults out.old) (O.faults out.new) }
     ensures disk { result.status ≡ Status.DiskFault → Rose (D.faults disk) (D.faults result.disk) }
-    ensures memory { result.status ≡ Status.NoMemory → (O.faults out.new ≡ O.faults out.old) × (D.faults result.disk ≡ D.faults disk) }
+    ensures memory { result.status ≡ Status.NoMemory
+        → (O.faults out.new ≡ O.faults out.old) × (D.faults result.disk ≡ D.faults disk) }
     ensures out_quiet { result.status ≢ Status.WriteFault → O.faults out.new ≡ O.faults out.old }
 {
     match read_words(alloc, words) {

@@ -58,7 +58,8 @@ fn report_bytes<D: Disk + Drop>(
     csv: bool,
 ) -> Result<Vec<u8>, AllocError>
     requires { IsYear year }
-    ensures { IfOk result (λ text. text.items ≡ report_text book.now.plan book.now.entries year kind csv) }
+    ensures { IfOk result
+        (λ text. text.items ≡ report_text book.now.plan book.now.entries year kind csv) }
 {
     let rows = rows(alloc, book, year, kind)?;
     let city = book.chart().city();
@@ -75,11 +76,14 @@ fn report_over<O: Sink, D: Disk + Drop>(
     disk: D,
 ) -> Ran<D>
     requires { IsYear year }
-    ensures ends { ReportEnds (device D.tells D.content D.is_image D.moment D.was_image D.faults) year kind csv disk result.disk
+    ensures ends { ReportEnds
+        (device D.tells D.content D.is_image D.moment D.was_image D.faults) year kind csv disk
+        result.disk
         (O.held out.old) (O.held out.new) result.status }
     ensures write { result.status ≡ Status.WriteFault → Rose (O.faults out.old) (O.faults out.new) }
     ensures disk { result.status ≡ Status.DiskFault → Rose (D.faults disk) (D.faults result.disk) }
-    ensures memory { result.status ≡ Status.NoMemory → (O.faults out.new ≡ O.faults out.old) × (D.faults result.disk ≡ D.faults disk) }
+    ensures memory { result.status ≡ Status.NoMemory
+        → (O.faults out.new ≡ O.faults out.old) × (D.faults result.disk ≡ D.faults disk) }
     ensures out_quiet { result.status ≢ Status.WriteFault → O.faults out.new ≡ O.faults out.old }
 {
     match open(alloc, disk) {
@@ -97,23 +101,28 @@ fn report_over<O: Sink, D: Disk + Drop>(
     }
 }
 
-/// The run of `report`: opens the journal, makes a statement of its history for a fiscal year, and writes it as lines of
-/// text or, with `--csv`, as comma-separated records. The journal is only read. Other words are `BadWords`, and nothing
-/// is read or written.
+/// The run of `report`: opens the journal, makes a statement of its history for a fiscal year, and
+/// writes it as lines of text or, with `--csv`, as comma-separated records. The journal is only
+/// read. Other words are `BadWords`, and nothing is read or written.
 pub fn run_report<O: Sink, D: Disk + Drop>(
     alloc: Global,
     words: &[String],
     out: &mut O,
     disk: D,
 ) -> Ran<D>
-    ensures ends { (year : ℕ) (kind : ReportKind) (csv : Bool) → command_of (map string_bytes words.now) ≡ Some (Command.Report year kind csv)
-        → ReportEnds (device D.tells D.content D.is_image D.moment D.was_image D.faults) year kind csv disk result.disk
+    ensures ends { (year : ℕ) (kind : ReportKind) (csv : Bool)
+        → command_of (map string_bytes words.now) ≡ Some (Command.Report year kind csv)
+        → ReportEnds (device D.tells D.content D.is_image D.moment D.was_image D.faults) year kind
+        csv disk result.disk
         (O.held out.old) (O.held out.new) result.status }
-    ensures words { ((year : ℕ) (kind : ReportKind) (csv : Bool) → command_of (map string_bytes words.now) ≡ Some (Command.Report year kind csv) → ⊥)
-        → ((result.status ≡ Status.BadWords) ⊎ (result.status ≡ Status.NoMemory)) × (O.held out.new ≡ O.held out.old) × (result.disk ≡ disk) }
+    ensures words { ((year : ℕ) (kind : ReportKind) (csv : Bool)
+        → command_of (map string_bytes words.now) ≡ Some (Command.Report year kind csv) → ⊥)
+        → ((result.status ≡ Status.BadWords) ⊎ (result.status ≡ Status.NoMemory))
+        × (O.held out.new ≡ O.held out.old) × (result.disk ≡ disk) }
     ensures write { result.status ≡ Status.WriteFault → Rose (O.faults out.old) (O.faults out.new) }
     ensures disk { result.status ≡ Status.DiskFault → Rose (D.faults disk) (D.faults result.disk) }
-    ensures memory { result.status ≡ Status.NoMemory → (O.faults out.new ≡ O.faults out.old) × (D.faults result.disk ≡ D.faults disk) }
+    ensures memory { result.status ≡ Status.NoMemory
+        → (O.faults out.new ≡ O.faults out.old) × (D.faults result.disk ≡ D.faults disk) }
     ensures out_quiet { result.status ≢ Status.WriteFault → O.faults out.new ≡ O.faults out.old }
 {
     match read_words(alloc, words) {

@@ -1,4 +1,5 @@
-//! How a run of the program ends: its status, the disk that it was given, and what of a text was printed.
+//! How a run of the program ends: its status, the disk that it was given, and what of a text was
+//! printed.
 #![tactic(auto)]
 
 mod notices;

@@ -12,7 +12,8 @@ use itoa::Buffer;
 
 /// Writes the place of what is wrong, as ` at 12`.
 fn tell_place<E: Sink>(err: &mut E, place: u64) -> Result<(), Failed>
-    ensures { OnOk result (Appends (E.held err.old) (E.held err.new) (codes " at " ++ decimal place)) }
+    ensures { OnOk result
+        (Appends (E.held err.old) (E.held err.new) (codes " at " ++ decimal place)) }
 {
     write_all(err, b" at ")?;
     let mut buffer = Buffer::new();
@@ -46,7 +47,8 @@ fn tell_line<E: Sink>(err: &mut E, status: Status) -> Result<(), Failed>
     write_all(err, b"\n")
 }
 
-/// Says how a run ended, in a line after the program's name. Where all went well nothing is said. It takes no memory.
+/// Says how a run ended, in a line after the program's name. Where all went well nothing is said.
+/// It takes no memory.
 pub fn tell<E: Sink>(err: &mut E, status: Status) -> Result<(), Failed>
     ensures { OnOk result (Appends (E.held err.old) (E.held err.new) (notice_of status)) }
 {

@@ -11,7 +11,8 @@ use std::alloc::AllocError;
 
 /// Writes a text, where there was memory to make it.
 pub fn print<O: Sink>(text: Result<Vec<u8>, AllocError>, out: &mut O) -> Status
-    ensures prints { (bytes : List ℕ) → IfOk text (λ t. t.items ≡ bytes) → Prints bytes (O.held out.old) (O.held out.new) result }
+    ensures prints { (bytes : List ℕ) → IfOk text (λ t. t.items ≡ bytes)
+        → Prints bytes (O.held out.old) (O.held out.new) result }
     ensures none { OnErr text (result ≡ Status.NoMemory) }
     ensures write { result ≡ Status.WriteFault → Rose (O.faults out.old) (O.faults out.new) }
     ensures memory { result ≡ Status.NoMemory → O.faults out.new ≡ O.faults out.old }

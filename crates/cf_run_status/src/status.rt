@@ -11,8 +11,8 @@ use cf_journal_book::BookRefused;
 /// How a run ends.
 #[derive(Clone, Copy)]
 pub enum Status {
-    /// For `desk`, the input was read to its end; for `serve`, each door gave its links or had none left, and none failed.
-    /// The text of the command was written whole.
+    /// For `desk`, the input was read to its end; for `serve`, each door gave its links or had none
+    /// left, and none failed. The text of the command was written whole.
     Ok,
     /// The words ask for no command, or for more doors than there are.
     BadWords,
@@ -24,13 +24,14 @@ pub enum Status {
     WriteFault,
     /// The disk failed while the journal was founded or opened.
     DiskFault,
-    /// There is no journal: the length of its file in bytes, and the first byte. The length is at most 1, or the byte
-    /// isn't 1.
+    /// There is no journal: the length of its file in bytes, and the first byte. The length is at
+    /// most 1, or the byte isn't 1.
     NotFounded { len: u64, byte: Option<u8> },
-    /// There is a journal, so none is founded: the length of its file in bytes, and the first byte, 1.
+    /// There is a journal, so none is founded: the length of its file in bytes, and the first byte,
+    /// 1.
     AlreadyFounded { len: u64, byte: u8 },
-    /// The journal isn't one that this program leaves: the place of what is wrong, and where that is an entry that
-    /// the office refuses, the number of the refusal.
+    /// The journal isn't one that this program leaves: the place of what is wrong, and where that
+    /// is an entry that the office refuses, the number of the refusal.
     Damaged { offset: u64, refusal: Option<u8> },
     /// A door failed; the others were served to their ends.
     DoorFault,
@@ -38,10 +39,11 @@ pub enum Status {
     InputLimit,
     /// There was no memory to begin with, or to make what is printed.
     NoMemory,
-    /// `pool` found no share: the sum of the funds' daily balances over the month, in cents times days, which is 0 or above
-    /// 18,446,744,073,709,551,615.
+    /// `pool` found no share: the sum of the funds' daily balances over the month, in cents times
+    /// days, which is 0 or above 18,446,744,073,709,551,615.
     NoShare { sum: i128 },
-    /// The stream was shipped under another chart: the first place at which the two charts' bytes differ.
+    /// The stream was shipped under another chart: the first place at which the two charts' bytes
+    /// differ.
     OtherChart { at: u64 },
     /// The stream begins behind more entries than the own history has.
     Gap { from: u64, length: u64 },
@@ -49,8 +51,8 @@ pub enum Status {
     StreamFault { offset: u64 },
     /// The own history has another entry at this place, counted from 1.
     Forked { place: u64 },
-    /// The office refuses the stream's entry at this place, counted from 1: the number of the refusal, or 0 where it has the
-    /// call already or draws other numbers for it.
+    /// The office refuses the stream's entry at this place, counted from 1: the number of the
+    /// refusal, or 0 where it has the call already or draws other numbers for it.
     EntryRefused { place: u64, refusal: u8 },
     /// The document of grants has this fault, or no grant of the id that the words name.
     GrantRefused { fault: GrantFault },

@@ -1,4 +1,5 @@
--- What a parse makes of the words after a command's name, where its arguments are plain: options with one value, flags, places.
+-- What a parse makes of the words after a command's name, where its arguments are plain: options
+-- with one value, flags, places.
 use Rattle.std.proofs.Common.{◌≡◌, ◌∙◌, ◌+◌, ◌&&◌, ◌||◌, ℕ, Bool, true≢false, if◌then◌else◌, true, false, refl, sym, ap, ap₂, rules, List, [], ◌∷◌, ◌++◌, Option, Some, None, option_and_then, is_some, fold, codes, length}
 use Rattle.std.specs.Str.{bytes_eq}
 use Rattle.clap.specs.Lexer.{long_of, short_of}

@@ -1,4 +1,5 @@
--- The words after each command's name: what a parse finds in them are their uses, each name at most once.
+-- The words after each command's name: what a parse finds in them are their uses, each name at most
+-- once.
 use Rattle.std.proofs.Common.{◌≡◌, ◌∙◌, ◌&&◌, ◌||◌, Bool, true≢false, if◌then◌else◌, true, false, not, refl, sym, ap, List, [], ◌∷◌, ◌++◌, map, Option, Some, None, option_map, option_and_then, fold, append_assoc, append-nil}
 use Rattle.std.proofs.lemmas.List.{map-append}
 use Rattle.std.specs.Str.{bytes_eq}

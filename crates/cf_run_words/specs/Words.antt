@@ -36,7 +36,8 @@ begins_number text = has_lead text || bytes_eq text (codes "0")
 
 -- digits alone, with no sign and no leading zero, that fit 64 bits
 abbrev pub number_of : Text → Option ℕ
-number_of text = if begins_number text && (are_digits text && nat_lt (digits_value 10 text) (2 ^ 64))
+number_of text = if begins_number text
+    && (are_digits text && nat_lt (digits_value 10 text) (2 ^ 64))
     then Some (digits_value 10 text) else None
 
 abbrev pub within : ℕ → ℕ → ℕ → Option ℕ
@@ -69,19 +70,27 @@ abbrev pub bare_form : Form
 bare_form = record { options = []; flags = []; places = [] }
 
 abbrev pub serve_form : Form
-serve_form = record { options = codes "port" ∷ codes "doors" ∷ codes "links" ∷ []; flags = []; places = [] }
+serve_form = record
+    { options = codes "port" ∷ codes "doors" ∷ codes "links" ∷ []; flags = []; places = [] }
 
 abbrev pub report_form : Form
-report_form = record { options = []; flags = codes "csv" ∷ []; places = codes "year" ∷ codes "kind" ∷ [] }
+report_form = record
+    { options = []; flags = codes "csv" ∷ []; places = codes "year" ∷ codes "kind" ∷ [] }
 
 abbrev pub generate_form : Form
 generate_form = record { options = []; flags = []; places = codes "n" ∷ [] }
 
 abbrev pub pool_form : Form
-pool_form = record { options = []; flags = []; places = codes "month" ∷ codes "amount" ∷ codes "desk" ∷ [] }
+pool_form = record {
+  options = [];
+  flags = [];
+  places =
+      codes "month" ∷ codes "amount" ∷ codes "desk" ∷ [];
+}
 
 abbrev pub claim_form : Form
-claim_form = record { options = []; flags = []; places = codes "grant" ∷ codes "date" ∷ codes "desk" ∷ [] }
+claim_form = record
+    { options = []; flags = []; places = codes "grant" ∷ codes "date" ∷ codes "desk" ∷ [] }
 
 abbrev pub ship_form : Form
 ship_form = record { options = []; flags = []; places = codes "from" ∷ [] }
@@ -140,7 +149,8 @@ command_named name rest =
     else (if bytes_eq (codes "pool") name then uses_of pool_form rest >>= pool_of
     else (if bytes_eq (codes "claim") name then uses_of claim_form rest >>= claim_of
     else (if bytes_eq (codes "ship") name then uses_of ship_form rest >>= ship_of
-    else (if bytes_eq (codes "follow") name then uses_of bare_form rest >>= (λ _. Some command.Follow)
+    else (if bytes_eq (codes "follow") name
+    then uses_of bare_form rest >>= (λ _. Some command.Follow)
     else None))))))))
 
 abbrev pub is_dashes : Text → Bool

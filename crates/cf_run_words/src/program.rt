@@ -71,7 +71,9 @@ fn with<'a>(
     command: Result<Command<'a>, AllocError>,
     sub: Result<Command<'a>, AllocError>,
 ) -> Result<Command<'a>, AllocError>
-    ensures { IfOk result (λ r. (c : ACommand) × (s : ACommand) × (command.entry ≡ Ok c) × (sub.entry ≡ Ok s) × AddsSubcommand c s r) }
+    ensures { IfOk result
+        (λ r. (c : ACommand) × (s : ACommand) × (command.entry ≡ Ok c) × (sub.entry ≡ Ok s)
+        × AddsSubcommand c s r) }
 {
     command?.subcommand(sub?)
 }

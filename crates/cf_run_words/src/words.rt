@@ -50,8 +50,8 @@ pub enum Command {
     Generate {
         n: u32,
     },
-    /// Write the receive calls that share the month's interest of the pooled cash, so many cents, out among the
-    /// funds, as calls of this desk.
+    /// Write the receive calls that share the month's interest of the pooled cash, so many cents,
+    /// out among the funds, as calls of this desk.
     Pool {
         month: Month,
         amount: u64,
@@ -105,7 +105,8 @@ fn command_of_matches(matches: &ArgMatches) -> Result<Command, WordsRefused>
 
 /// What a failed parse says of the words.
 fn refusal_of(error: &Error) -> WordsRefused
-    ensures { (result ≡ WordsRefused.NoMemory) ⊎ ((result ≡ WordsRefused.BadWords) × (kind_of error.now ≡ ErrorKind.OutOfMemory → ⊥)) }
+    ensures { (result ≡ WordsRefused.NoMemory)
+        ⊎ ((result ≡ WordsRefused.BadWords) × (kind_of error.now ≡ ErrorKind.OutOfMemory → ⊥)) }
 {
     match error.kind() {
         ErrorKind::OutOfMemory => WordsRefused::NoMemory,
@@ -113,7 +114,8 @@ fn refusal_of(error: &Error) -> WordsRefused
     }
 }
 
-/// The command that the words ask for, which are those after the program's own name. Its numbers are in their ranges.
+/// The command that the words ask for, which are those after the program's own name. Its numbers
+/// are in their ranges.
 pub fn read_words(alloc: Global, words: &[String]) -> Result<Command, WordsRefused>
     ensures command { Gives result (command_of (map string_bytes words.now)) }
     ensures range { IfOk result IsInRange }

@@ -10,13 +10,18 @@ use Rattle.cf_serve_laws.specs.ServeRuns.{door_of}
 use Rattle.cf_turns.specs.States.{PassState}
 
 -- at each place a desk was kept
-abbrev pub EachKept : {L : Type 0} → (L → LinkTells) → Bool → Plan → ℕ → List (DeskState L) → List (DeskState L) → Type 0
+abbrev pub EachKept : {L : Type 0} → (L → LinkTells) → Bool → Plan → ℕ → List (DeskState L)
+    → List (DeskState L) → Type 0
 EachKept tells known plan links before after =
-    (i : ℕ) (d : _) → i < length before → DeskKept tells known plan links (slice_index_or before i d) (slice_index_or after i d)
+    (i : ℕ) (d : _) → i < length before
+    → DeskKept tells known plan links (slice_index_or before i d) (slice_index_or after i d)
 
--- A desk was opened at each door, with a fresh pass, which has seen so many entries at least, and kept. The doors and the passes are those that the desks had in the
--- end. This many links were given at the desks, and a door has failed or not.
-pub record DesksRan {L : Type 0} (tells : L → LinkTells) (known : Bool) (plan : Plan) (first links : ℕ) (olds news : List (DoorTells L)) (passes : List PassState) (given : ℕ) (failed : Bool) : Type 0 where
+-- A desk was opened at each door, with a fresh pass, which has seen so many entries at least, and
+-- kept. The doors and the passes are those that the desks had in the end. This many links were
+-- given at the desks, and a door has failed or not.
+pub record DesksRan {L : Type 0} (tells : L → LinkTells) (known : Bool) (plan : Plan)
+    (first links : ℕ) (olds news : List (DoorTells L)) (passes : List PassState) (given : ℕ)
+    (failed : Bool) : Type 0 where
   pub before : List (DeskState L)
   pub after : List (DeskState L)
   pub many : length after ≡ length before

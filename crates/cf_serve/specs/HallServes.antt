@@ -21,31 +21,47 @@ pub record DiskTells (D : Type 0) : Type 1 where
   pub was_image : D → ℕ → List ℕ → Type 0
   pub faults : D → ℕ
 
--- Whatever a crash leaves of the disk recovers to the history, or to it and the entry in doubt, with which it is sound too.
-pub record IsKeptOn {D : Type 0} (device : DiskTells D) (plan : Plan) (history : List Entry) (disk : D) : Type 0 where
+-- Whatever a crash leaves of the disk recovers to the history, or to it and the entry in doubt,
+-- with which it is sound too.
+pub record IsKeptOn {D : Type 0} (device : DiskTells D) (plan : Plan) (history : List Entry)
+    (disk : D) : Type 0 where
   pub doubt : Option Entry
-  pub images : IsTrue device.tells → (image : List ℕ) → device.is_image disk image → RecoversNear plan history (λ e. doubt ≡ Some e) image
-  pub doubt_sound : IfSome doubt (λ e. IsSoundState (record { plan = plan; entries = history ++ e ∷ [] }))
+  pub images : IsTrue device.tells → (image : List ℕ) → device.is_image disk image
+      → RecoversNear plan history (λ e. doubt ≡ Some e) image
+  pub doubt_sound : IfSome doubt
+      (λ e. IsSoundState (record { plan = plan; entries = history ++ e ∷ [] }))
 
--- The doors were served from the book's history to the last one, which the disk keeps, and gave so many links. Where no call was
--- answered by a fault of the disk, nothing came in doubt. At each moment since then a crash left what recovers to a front of the
--- last history that has the book's, or to that and one entry. That, as the entry in doubt, was in doubt before, or is the entry
--- of a call of the doors' talks that was answered by a fault of the disk, and that the step accepts there.
-pub record HallRan {D L : Type 0} (device : DiskTells D) (tells : L → LinkTells) (known : Bool) (links : ℕ) (book : DurableBook D) (disk : D) (olds news : List (DoorTells L)) (given : ℕ) : Type 0 where
+-- The doors were served from the book's history to the last one, which the disk keeps, and gave so
+-- many links. Where no call was answered by a fault of the disk, nothing came in doubt. At each
+-- moment since then a crash left what recovers to a front of the last history that has the book's,
+-- or to that and one entry. That, as the entry in doubt, was in doubt before, or is the entry of a
+-- call of the doors' talks that was answered by a fault of the disk, and that the step accepts
+-- there.
+pub record HallRan {D L : Type 0} (device : DiskTells D) (tells : L → LinkTells) (known : Bool)
+    (links : ℕ) (book : DurableBook D) (disk : D) (olds news : List (DoorTells L))
+    (given : ℕ) : Type 0 where
   pub last : List Entry
-  pub ran : ServeRan tells known book.plan book.entries last links (device.faults book.disk) (device.faults disk) olds news
+  pub ran : ServeRan tells known book.plan book.entries last links (device.faults book.disk)
+      (device.faults disk) olds news
   pub kept : IsKeptOn device book.plan last disk
   pub clear : faults_said ran.doors.talks ≡ 0 → (kept.doubt ≡ book.doubt) ⊎ (kept.doubt ≡ None)
-  pub unacknowledged : IfSome kept.doubt (IsUnacknowledged book.plan book.doubt (failed_said ran.doors.talks) last)
-  pub any_moment : IsTrue device.tells → KeptSince device.moment device.was_image book.plan (length book.entries) book.doubt (failed_said ran.doors.talks) last (device.moment book.disk) disk
+  pub unacknowledged : IfSome kept.doubt
+      (IsUnacknowledged book.plan book.doubt (failed_said ran.doors.talks) last)
+  pub any_moment : IsTrue device.tells
+      → KeptSince device.moment device.was_image book.plan (length book.entries) book.doubt
+      (failed_said ran.doors.talks) last (device.moment book.disk) disk
   pub given_is : given ≡ links_given olds news
 
--- The doors were served and none failed; or one failed, whose count rose; or there was no memory, and the doors and the disk
--- are as they were, and no link was given.
-abbrev pub ServesDoors : {D L : Type 0} → DiskTells D → (L → LinkTells) → Bool → ℕ → DurableBook D → D → List (DoorTells L) → List (DoorTells L) → ℕ → ServeEnd → Type 0
-ServesDoors device tells known links book disk olds news given Served = HallRan device tells known links book disk olds news given × AllQuiet olds news
-ServesDoors device tells known links book disk olds news given DoorFailed = HallRan device tells known links book disk olds news given × SomeRose olds news
-ServesDoors device tells known links book disk olds news given NoMemory = (news ≡ olds) × (disk ≡ book.disk) × (given ≡ 0)
+-- The doors were served and none failed; or one failed, whose count rose; or there was no memory,
+-- and the doors and the disk are as they were, and no link was given.
+abbrev pub ServesDoors : {D L : Type 0} → DiskTells D → (L → LinkTells) → Bool → ℕ → DurableBook D
+    → D → List (DoorTells L) → List (DoorTells L) → ℕ → ServeEnd → Type 0
+ServesDoors device tells known links book disk olds news given Served =
+    HallRan device tells known links book disk olds news given × AllQuiet olds news
+ServesDoors device tells known links book disk olds news given DoorFailed =
+    HallRan device tells known links book disk olds news given × SomeRose olds news
+ServesDoors device tells known links book disk olds news given NoMemory = (news ≡ olds)
+    × (disk ≡ book.disk) × (given ≡ 0)
 
 -- how the service ended, where a door failed or none did
 abbrev pub end_by : Bool → ServeEnd

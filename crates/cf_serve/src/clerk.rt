@@ -1,4 +1,5 @@
-//! The clerk at a door: reads the call that a request asks, posts it to the hall, and writes the reply.
+//! The clerk at a door: reads the call that a request asks, posts it to the hall, and writes the
+//! reply.
 
 ghost use Rattle.std.specs.Prelude.{◌≡◌, ◌⊎◌, ◌+◌, ◌≤◌, ◌++◌, IfOk, OnOk, OnErr};
 ghost use Rattle.std.specs.Vec.{vec_len, vec_capacity};
@@ -66,8 +67,8 @@ fn posted_code(given: &Posted) -> u16
     }
 }
 
-/// Appends what was given for a call, and gives its code. Want of memory is left to the door. What is brief needs no
-/// more room than there is, so no accepted call's reply is lost.
+/// Appends what was given for a call, and gives its code. Want of memory is left to the door. What
+/// is brief needs no more room than there is, so no accepted call's reply is lost.
 fn write_given(alloc: Global, given: &Posted, out: &mut Vec<u8>) -> Result<u16, AllocError>
     requires { vec_len out.old + 1024 ≤ vec_capacity out.old }
     ensures code { IfOk result (λ code. code ≡ code_of given.now) }
@@ -115,7 +116,8 @@ impl<'a, N: City, D: Disk + Drop, H: Wait> Clerk<'a, N, D, H> {
     fn answer_call(&mut self, call: Call, out: &mut Vec<u8>) -> Result<u16, AllocError>
         requires form { IsCallInForm call }
         requires room { vec_len out.old + 1024 ≤ vec_capacity out.old }
-        ensures ok { IfOk result (λ code. AnswersCall N.plan self.old self.new call code out.old.items out.new.items) }
+        ensures ok { IfOk result
+            (λ code. AnswersCall N.plan self.old self.new call code out.old.items out.new.items) }
         ensures memory { OnErr result (Hears N.plan self.old call posted.NoMemory self.new) }
     {
         let given = self

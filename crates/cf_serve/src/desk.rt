@@ -35,7 +35,8 @@ impl<'a, N: City, D: Disk + Drop, H: Wait, R: Door + Drop> Model for Desk<'a, N,
 }
 
 impl<'a, N: City, D: Disk + Drop, H: Wait, R: Door + Drop> Desk<'a, N, D, H, R> {
-    /// Serves so many links of the door, one after another: fewer where none is left to come, or the door fails.
+    /// Serves so many links of the door, one after another: fewer where none is left to come, or
+    /// the door fails.
     pub fn keep(&mut self, alloc: Global, links: u32)
         ensures { DeskKept R.Link.tells R.known N.plan links self.old self.new }
     {

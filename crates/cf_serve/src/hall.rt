@@ -29,10 +29,11 @@ fn end_by(failed: bool) -> ServeEnd
     }
 }
 
-/// Opens a hall over an opened book, with a second copy of its chart, serves so many links at each of at most 65,535 doors,
-/// each by a clerk in a thread of its own, and closes the hall. A door that gives no link waits as long as it does. All
-/// memory that this takes for itself is reserved first: where there is none, the doors and the disk are as they were.
-/// One call opens, uses and closes the hall, so its caller picks the names of the hall from what it passes.
+/// Opens a hall over an opened book, with a second copy of its chart, serves so many links at each
+/// of at most 65,535 doors, each by a clerk in a thread of its own, and closes the hall. A door
+/// that gives no link waits as long as it does. All memory that this takes for itself is reserved
+/// first: where there is none, the doors and the disk are as they were. One call opens, uses and
+/// closes the hall, so its caller picks the names of the hall from what it passes.
 pub fn serve_hall<
     N: City + Send + Sync,
     D: Disk + Drop + Send,

@@ -1,5 +1,5 @@
-//! The doors of a hall, each served by a clerk in a thread of its own: from the book that is opened to the disk that is
-//! handed back.
+//! The doors of a hall, each served by a clerk in a thread of its own: from the book that is opened
+//! to the disk that is handed back.
 #![tactic(auto)]
 
 mod clerk;

@@ -24,10 +24,12 @@ pub(crate) struct Rooms<'a, N: City, D: Disk + Drop, H: Wait, R: Door + Drop> {
 impl<'a, N: City, D: Disk + Drop, H: Wait, R: Door + Drop> Rooms<'a, N, D, H, R> {
     /// Room for so many doors. It fails exactly for want of memory.
     pub(crate) fn new(alloc: Global, count: usize) -> Result<Rooms<'a, N, D, H, R>, AllocError>
-        ensures passes { IfOk result (λ r. (r.passes.items ≡ []) × (count ≤ vec_capacity r.passes)) }
+        ensures passes { IfOk result
+            (λ r. (r.passes.items ≡ []) × (count ≤ vec_capacity r.passes)) }
         ensures desks { IfOk result (λ r. (r.desks.items ≡ []) × (count ≤ vec_capacity r.desks)) }
         ensures doors { IfOk result (λ r. (r.doors.items ≡ []) × (count ≤ vec_capacity r.doors)) }
-        ensures receipts { IfOk result (λ r. (r.receipts.items ≡ []) × (count ≤ vec_capacity r.receipts)) }
+        ensures receipts { IfOk result
+            (λ r. (r.receipts.items ≡ []) × (count ≤ vec_capacity r.receipts)) }
     {
         Ok(Rooms {
             passes: Vec::with_capacity(alloc, count)?,

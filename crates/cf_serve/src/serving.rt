@@ -150,8 +150,8 @@ pub(crate) struct Kept {
     pub(crate) failed: bool,
 }
 
-/// Keeps a desk at each door, with a pass each: all at once, and each for so many links. The doors are handed back in
-/// their order, in the room for them, and with them the passes.
+/// Keeps a desk at each door, with a pass each: all at once, and each for so many links. The doors
+/// are handed back in their order, in the room for them, and with them the passes.
 pub(crate) fn serve_doors<
     'a,
     N: City + Send + Sync,

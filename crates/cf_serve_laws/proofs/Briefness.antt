@@ -1,4 +1,5 @@
--- The reply to an accepted change is brief: a voucher in form has at most 32 items, and so at most 32 assets.
+-- The reply to an accepted change is brief: a voucher in form has at most 32 items, and so at most
+-- 32 assets.
 use Rattle.std.proofs.Common.{◌≡◌, ℕ, suc, ◌+◌, ◌≤◌, Bool, true, false, if◌then◌else◌, List, [], ◌∷◌, ◌++◌, length, Option, Some, None, subst, arith}
 use Rattle.cf_base.specs.declared.calendar.Day.{Day}
 use Rattle.cf_calls.specs.declared.acts.Act.{Act}

@@ -41,7 +41,8 @@ abbrev pub code_by : Body → ℕ
 code_by (Refused r) = 409
 code_by _ = 200
 
--- the code of an answer (RFC 9110): 200 OK, 409 Conflict for a refusal, 500 and 503 where the disk or memory failed
+-- the code of an answer (RFC 9110): 200 OK, 409 Conflict for a refusal, 500 and 503 where the disk
+-- or memory failed
 abbrev pub code_of : Posted → ℕ
 code_of (posted.Reply r) = code_by r.body
 code_of posted.Disk = 500
@@ -55,21 +56,25 @@ IsWritten _ = ⊤
 -- what a request is answered, and which call was made for it
 pub data Asks (request : Request) : List Said → Option (ℕ × List ℕ) → Type 0 where
   form : (f : FormFault) → asked_by request ≡ Err f → Asks request [] (Some (400, form_text f))
-  called : (c : Call) (given : Posted) → asked_by request ≡ Ok c → IsWritten given → Asks request ((c, given) ∷ []) (Some (code_of given, text given))
+  called : (c : Call) (given : Posted) → asked_by request ≡ Ok c → IsWritten given
+      → Asks request ((c, given) ∷ []) (Some (code_of given, text given))
   memory : (c : Call) → asked_by request ≡ Ok c → Asks request ((c, posted.NoMemory) ∷ []) None
   -- there was no memory to read the call
   unread : Asks request [] None
 
 -- a clerk by what was said so far
 abbrev pub Adds : List Said → Request → Option (ℕ × List ℕ) → List Said → Type 0
-Adds before request answer after = (said : List Said) × Asks request said answer × (after ≡ before ++ said)
+Adds before request answer after = (said : List Said) × Asks request said answer
+    × (after ≡ before ++ said)
 
 -- a clerk by its pass
 abbrev pub Passes : Plan → PassState → Request → Option (ℕ × List ℕ) → PassState → Type 0
-Passes plan before request answer after = (said : List Said) × Asks request said answer × Talked plan before said after
+Passes plan before request answer after = (said : List Said) × Asks request said answer
+    × Talked plan before said after
 
 -- a call was made, and what was given for it is appended
-pub record AnswersCall (plan : Plan) (old new : PassState) (c : Call) (code : ℕ) (out_old out_new : List ℕ) : Type 0 where
+pub record AnswersCall (plan : Plan) (old new : PassState) (c : Call) (code : ℕ)
+    (out_old out_new : List ℕ) : Type 0 where
   pub given : Posted
   pub hears : Hears plan old c given new
   pub written : IsWritten given
@@ -78,8 +83,10 @@ pub record AnswersCall (plan : Plan) (old new : PassState) (c : Call) (code : �
 
 -- ---- a door
 
--- the links that a door gave were served one after another, and what was said there is what its pass was told
-pub record DoorKept {L : Type 0} (tells : L → LinkTells) (known : Bool) (plan : Plan) (before after : PassState) (old new : DoorTells L) (count : ℕ) : Type 0 where
+-- the links that a door gave were served one after another, and what was said there is what its
+-- pass was told
+pub record DoorKept {L : Type 0} (tells : L → LinkTells) (known : Bool) (plan : Plan)
+    (before after : PassState) (old new : DoorTells L) (count : ℕ) : Type 0 where
   pub said : List Said
   pub served : DoorServed tells Adds known [] said old new count
   pub talked : Talked plan before said after

@@ -15,7 +15,8 @@ pub record DeskState (L : Type 0) : Type 0 where
   pub end : DoorEnd
 
 -- so many links were served at the desk, or fewer where none is left to come or the door failed
-pub record DeskKept {L : Type 0} (tells : L → LinkTells) (known : Bool) (plan : Plan) (links : ℕ) (old new : DeskState L) : Type 0 where
+pub record DeskKept {L : Type 0} (tells : L → LinkTells) (known : Bool) (plan : Plan) (links : ℕ)
+    (old new : DeskState L) : Type 0 where
   pub count : ℕ
   pub enough : IsEnough links new.door.coming new.end count
   pub quiet : IsQuiet old.door.faults new.door.faults new.end

@@ -69,7 +69,8 @@ pub record KeptAt (plan : Plan) (history : List Entry) (c : Call) (r : Reply) : 
   pub body : body_of plan front c ≡ r.body
   pub next : next_of plan front c ≡ front
 
--- the call is a change that the rules accept over a front of the history, no shorter than so many entries
+-- the call is a change that the rules accept over a front of the history, no shorter than so many
+-- entries
 pub record FailedAt (plan : Plan) (history : List Entry) (least : ℕ) (c : Call) : Type 0 where
   pub front : List Entry
   pub is_front : IsPrefix front history
@@ -77,27 +78,35 @@ pub record FailedAt (plan : Plan) (history : List Entry) (least : ℕ) (c : Call
   pub long : least ≤ length front
   pub accepted : IsAccepted plan front c
 
--- What a call is answered, where the answers before it named no place above the first number, nor this one above the last. A
--- fault of the disk is answered to a change alone that the rules accept over a front of the history no shorter than that.
-pub data Says (plan : Plan) (history : List Entry) (least : ℕ) (c : Call) : Posted → ℕ → Type 0 where
-  added : (r : Reply) → least < r.at → AddedAt plan history c r → Says plan history least c (posted.Reply r) r.at
-  kept : (r : Reply) → least ≤ r.at → KeptAt plan history c r → Says plan history least c (posted.Reply r) r.at
+-- What a call is answered, where the answers before it named no place above the first number, nor
+-- this one above the last. A fault of the disk is answered to a change alone that the rules accept
+-- over a front of the history no shorter than that.
+pub data Says (plan : Plan) (history : List Entry) (least : ℕ) (c : Call) : Posted → ℕ
+    → Type 0 where
+  added : (r : Reply) → least < r.at → AddedAt plan history c r
+      → Says plan history least c (posted.Reply r) r.at
+  kept : (r : Reply) → least ≤ r.at → KeptAt plan history c r
+      → Says plan history least c (posted.Reply r) r.at
   memory : Says plan history least c posted.NoMemory least
   disk : FailedAt plan history least c → Says plan history least c posted.Disk least
 
 -- the calls of a pass in their order, from a place on
 abbrev pub PassTalk : Plan → List Entry → ℕ → List Said → Type 0
 PassTalk plan history least [] = ⊤
-PassTalk plan history least (s ∷ said) = (at : ℕ) × Says plan history least s.0 s.1 at × PassTalk plan history at said
+PassTalk plan history least (s ∷ said) = (at : ℕ) × Says plan history least s.0 s.1 at
+    × PassTalk plan history at said
 
 -- ---- how a pass comes to it
 
 -- what a pass was told of a call, or of one whose answer could not be written
 pub data Hears (plan : Plan) (old : PassState) (c : Call) : Posted → PassState → Type 0 where
-  told : (given : Posted) (new : PassState) → Tells plan old new c given → Hears plan old c given new
-  lost : (given : Posted) (new : PassState) → Tells plan old new c given → new.places ≡ old.places → new.faults ≡ old.faults → new.failed ≡ old.failed → Hears plan old c posted.NoMemory new
+  told : (given : Posted) (new : PassState) → Tells plan old new c given
+      → Hears plan old c given new
+  lost : (given : Posted) (new : PassState) → Tells plan old new c given → new.places ≡ old.places
+      → new.faults ≡ old.faults → new.failed ≡ old.failed → Hears plan old c posted.NoMemory new
 
 -- from one moment of a pass to another
 abbrev pub Talked : Plan → PassState → List Said → PassState → Type 0
 Talked plan old [] new = new ≡ old
-Talked plan old (s ∷ said) new = (middle : PassState) × Hears plan old s.0 s.1 middle × Talked plan middle said new
+Talked plan old (s ∷ said) new = (middle : PassState) × Hears plan old s.0 s.1 middle
+    × Talked plan middle said new

@@ -25,8 +25,12 @@ abbrev pub served_text : ℕ → List ℕ
 served_text links = codes "served " ++ (decimal links ++ codes " links\n")
 
 -- the run's last line was written whole, or, where the output failed, a front of it
-abbrev pub EndsWhole : {L : Type 0} → List (DoorTells L) → List (DoorTells L) → Option (List ℕ) → Option (List ℕ) → Type 0
-EndsWhole olds news held held' = AllQuiet olds news × Appends held held' (served_text (links_given olds news))
+abbrev pub EndsWhole : {L : Type 0} → List (DoorTells L) → List (DoorTells L) → Option (List ℕ)
+    → Option (List ℕ) → Type 0
+EndsWhole olds news held held' = AllQuiet olds news
+    × Appends held held' (served_text (links_given olds news))
 
-abbrev pub EndsUnwritten : {L : Type 0} → List (DoorTells L) → List (DoorTells L) → Option (List ℕ) → Option (List ℕ) → Type 0
-EndsUnwritten olds news held held' = AllQuiet olds news × SentFront held held' (served_text (links_given olds news))
+abbrev pub EndsUnwritten : {L : Type 0} → List (DoorTells L) → List (DoorTells L) → Option (List ℕ)
+    → Option (List ℕ) → Type 0
+EndsUnwritten olds news held held' = AllQuiet olds news
+    × SentFront held held' (served_text (links_given olds news))

@@ -1,4 +1,5 @@
--- The balance sheet of the funds (GASB Statement 34: current financial resources): sums through the year.
+-- The balance sheet of the funds (GASB Statement 34: current financial resources): sums through the
+-- year.
 use Rattle.std.specs.Prelude.{ℕ, List, [], ◌∷◌, ◌++◌, flat_map, neg_ℤ, codes}
 use Rattle.cf_calls.specs.declared.reply.Row.{Row}
 use Rattle.cf_chart.specs.Plan.{Plan}
@@ -40,4 +41,6 @@ abbrev pub total_row : Sums → ℕ → List ℕ → Row
 total_row sums year label = single label (sums.total year)
 
 abbrev pub balance_rows : Plan → Sums → ℕ → List Row
-balance_rows plan sums year = flat_map (fund_rows sums year) plan.funds ++ total_row sums year (codes "Total fund balances") ∷ []
+balance_rows plan sums year =
+    flat_map (fund_rows sums year) plan.funds ++ total_row sums year (codes "Total fund balances")
+    ∷ []

@@ -1,4 +1,5 @@
--- Revenues, expenditures and changes in fund balances (GASB Statement 34: current financial resources): the posts of the year alone.
+-- Revenues, expenditures and changes in fund balances (GASB Statement 34: current financial
+-- resources): the posts of the year alone.
 use Rattle.std.specs.Prelude.{ℕ, ℤ, true, ◌+◌, ◌==◌, ◌+ℤ◌, ◌-ℤ◌, if◌then◌else◌, List, [], ◌∷◌, ◌++◌, map, flat_map, neg_ℤ, codes}
 use Rattle.cf_calls.specs.declared.reply.Row.{Row}
 use Rattle.cf_chart.specs.Plan.{Plan}
@@ -21,10 +22,13 @@ source_row sums year fund label account = single label (source_of sums year fund
 -- ---- revenues
 
 abbrev pub revenue_rows : Sums → ℕ → ℕ → List RevenueSource → List Row
-revenue_rows sums year fund sources = flat_map (λ s. if s.fund == fund then single s.name (fund_revenue sums year s) ∷ [] else []) sources
+revenue_rows sums year fund sources =
+    flat_map (λ s. if s.fund == fund then single s.name (fund_revenue sums year s) ∷ [] else [])
+    sources
 
 abbrev pub total_revenues : Sums → ℕ → ℕ → List RevenueSource → ℤ
-total_revenues sums year fund sources = sum_where (λ s. s.fund == fund) (fund_revenue sums year) sources
+total_revenues sums year fund sources =
+    sum_where (λ s. s.fund == fund) (fund_revenue sums year) sources
 
 -- ---- expenditures, by function and by what else a fund spends on
 
@@ -32,7 +36,8 @@ abbrev pub spent_on : Sums → ℕ → ℕ → Function → ℤ
 spent_on sums year fund function = in_year sums year fund (500000 + function.id)
 
 abbrev pub function_rows : Sums → ℕ → ℕ → List Function → List Row
-function_rows sums year fund functions = map (λ f. single f.name (spent_on sums year fund f)) functions
+function_rows sums year fund functions =
+    map (λ f. single f.name (spent_on sums year fund f)) functions
 
 abbrev pub outlay_rows : Sums → ℕ → ℕ → List Row
 outlay_rows sums year fund =
@@ -42,13 +47,17 @@ outlay_rows sums year fund =
     ∷ []
 
 abbrev pub spent_by_functions : Sums → ℕ → ℕ → List Function → ℤ
-spent_by_functions sums year fund functions = sum_where (λ f. true) (spent_on sums year fund) functions
+spent_by_functions sums year fund functions =
+    sum_where (λ f. true) (spent_on sums year fund) functions
 
 abbrev pub other_expenditures : Sums → ℕ → ℕ → ℤ
-other_expenditures sums year fund = in_year sums year fund 510000 +ℤ (in_year sums year fund 520000 +ℤ in_year sums year fund 530000)
+other_expenditures sums year fund =
+    in_year sums year fund 510000 +ℤ
+    (in_year sums year fund 520000 +ℤ in_year sums year fund 530000)
 
 abbrev pub total_expenditures : Sums → ℕ → ℕ → List Function → ℤ
-total_expenditures sums year fund functions = spent_by_functions sums year fund functions +ℤ other_expenditures sums year fund
+total_expenditures sums year fund functions =
+    spent_by_functions sums year fund functions +ℤ other_expenditures sums year fund
 
 -- ---- other financing sources and uses: transfers out are a debit, and are subtracted
 
@@ -66,7 +75,9 @@ net_transfers sums year fund = source_of sums year fund 600001 -ℤ in_year sums
 
 -- debt, sales of capital assets, and leases (GASB Statement 87)
 abbrev pub other_sources : Sums → ℕ → ℕ → ℤ
-other_sources sums year fund = (source_of sums year fund 600002 +ℤ source_of sums year fund 600003) +ℤ source_of sums year fund 600004
+other_sources sums year fund =
+    (source_of sums year fund 600002 +ℤ source_of sums year fund 600003) +ℤ source_of sums year fund
+    600004
 
 abbrev pub total_financing : Sums → ℕ → ℕ → ℤ
 total_financing sums year fund = net_transfers sums year fund +ℤ other_sources sums year fund
@@ -75,7 +86,8 @@ total_financing sums year fund = net_transfers sums year fund +ℤ other_sources
 
 abbrev pub net_change : Plan → Sums → ℕ → ℕ → ℤ
 net_change plan sums year fund =
-    (total_revenues sums year fund plan.sources -ℤ total_expenditures sums year fund plan.functions) +ℤ total_financing sums year fund
+    (total_revenues sums year fund plan.sources -ℤ total_expenditures sums year fund plan.functions)
+    +ℤ total_financing sums year fund
 
 abbrev pub fund_rows : Plan → Sums → ℕ → Fund → List Row
 fund_rows plan sums year fund =

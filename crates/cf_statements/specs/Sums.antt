@@ -29,7 +29,8 @@ single label amount = record { label = label; amounts = amount ∷ [] }
 
 -- what the posts of the year alone come to, of a fund's account and of a government-wide one
 abbrev pub in_year : Sums → ℕ → ℕ → ℕ → ℤ
-in_year sums year fund account = sums.through year fund account -ℤ sums.through (year - 1) fund account
+in_year sums year fund account =
+    sums.through year fund account -ℤ sums.through (year - 1) fund account
 
 abbrev pub gov_in : Sums → ℕ → ℕ → ℤ
 gov_in sums year account = sums.gov year account -ℤ sums.gov (year - 1) account

@@ -1,4 +1,5 @@
--- Tables of accounts: the rows that they make, and what their accounts come to. A row of a table is the side, the label and the code of an account.
+-- Tables of accounts: the rows that they make, and what their accounts come to. A row of a table is
+-- the side, the label and the code of an account.
 use Rattle.std.specs.Prelude.{ℕ, ℤ, pos, ◌+ℤ◌, List, [], ◌∷◌, map, neg_ℤ}
 use Rattle.cf_calls.specs.declared.reply.Row.{Row}
 use Rattle.cf_statements.specs.declared.tables.AccountRow.{AccountRow}

@@ -1,4 +1,5 @@
--- What each statement is called (GASB Statement 34; the comparison: GASB Codification 2400; the short forms are own).
+-- What each statement is called (GASB Statement 34; the comparison: GASB Codification 2400; the
+-- short forms are own).
 use Rattle.std.specs.Prelude.{ℕ, List, codes}
 use Rattle.cf_base.specs.declared.statement.Kind.{Kind}
 use Rattle.cf_base.specs.declared.statement.Kind.TheVariants as kind

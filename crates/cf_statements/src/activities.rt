@@ -23,7 +23,8 @@ fn put_activity(
     activity: Activity,
 ) -> Result<(), AllocError>
     requires { AreWithin (2 ^ 120) activity }
-    ensures { OnOk result (rows.new.items ≡ rows.old.items ++ spec.activity_row label.now activity ∷ []) }
+    ensures { OnOk result
+        (rows.new.items ≡ rows.old.items ++ spec.activity_row label.now activity ∷ []) }
 {
     let amounts = [
         activity.expenses,
@@ -45,7 +46,9 @@ fn put_functions<F: Figures>(
 ) -> Result<(), AllocError>
     requires year { 1 ≤ year }
     requires few { length sources.now ≤ 256 }
-    ensures { OnOk result (rows.new.items ≡ rows.old.items ++ spec.function_rows (F.sums figures.now) year sources.now functions.now) }
+    ensures { OnOk result
+        (rows.new.items ≡ rows.old.items
+        ++ spec.function_rows (F.sums figures.now) year sources.now functions.now) }
 {
     for function in functions {
         let activity = activity_of(figures, year, sources, function.id);
@@ -62,7 +65,9 @@ fn put_general<F: Figures>(
     sources: &[RevenueSource],
 ) -> Result<(), AllocError>
     requires { 1 ≤ year }
-    ensures { OnOk result (rows.new.items ≡ rows.old.items ++ spec.general_rows (F.sums figures.now) year sources.now) }
+    ensures { OnOk result
+        (rows.new.items ≡ rows.old.items
+        ++ spec.general_rows (F.sums figures.now) year sources.now) }
 {
     for source in sources {
         if is_in(RevenueClass::General, source.kind) {
@@ -82,7 +87,8 @@ fn gains<F: Figures>(figures: &F, year: u16) -> i128
     -gov_in(figures, year, 460_000)
 }
 
-/// The change in net position: general revenues and gains, less what the activities cost on the whole.
+/// The change in net position: general revenues and gains, less what the activities cost on the
+/// whole.
 fn change<F: Figures>(figures: &F, year: u16) -> i128
     requires { 1 ≤ year }
     ensures { result ≡ spec.change (F.plan figures.now) (F.sums figures.now) year }
@@ -107,9 +113,13 @@ fn put_programs<F: Figures>(
     total: &str,
 ) -> Result<(), AllocError>
     requires { 1 ≤ year }
-    ensures { OnOk result (rows.new.items ≡ rows.old.items ++ (spec.function_rows (F.sums figures.now) year (F.plan figures.now).sources (F.plan figures.now).functions
+    ensures { OnOk result
+        (rows.new.items ≡ rows.old.items
+        ++ (spec.function_rows (F.sums figures.now) year (F.plan figures.now).sources
+        (F.plan figures.now).functions
         ++ (spec.activity_row interest.now (spec.interest_of (F.sums figures.now) year)
-        ∷ spec.activity_row total.now (spec.total_activity (F.plan figures.now) (F.sums figures.now) year) ∷ []))) }
+        ∷ spec.activity_row total.now
+        (spec.total_activity (F.plan figures.now) (F.sums figures.now) year) ∷ []))) }
 {
     let chart = figures.chart();
     put_functions(
@@ -135,8 +145,11 @@ fn put_rest<F: Figures>(
     net: &str,
 ) -> Result<(), AllocError>
     requires { 1 ≤ year }
-    ensures { OnOk result (rows.new.items ≡ rows.old.items ++ (spec.general_rows (F.sums figures.now) year (F.plan figures.now).sources
-        ++ (single gain.now (spec.gains (F.sums figures.now) year) ∷ single net.now (spec.change (F.plan figures.now) (F.sums figures.now) year) ∷ []))) }
+    ensures { OnOk result
+        (rows.new.items ≡ rows.old.items
+        ++ (spec.general_rows (F.sums figures.now) year (F.plan figures.now).sources
+        ++ (single gain.now (spec.gains (F.sums figures.now) year)
+        ∷ single net.now (spec.change (F.plan figures.now) (F.sums figures.now) year) ∷ []))) }
 {
     put_general(alloc, rows, figures, year, figures.chart().sources())?;
     put_single(alloc, rows, gain, gains(figures, year))?;
@@ -144,16 +157,18 @@ fn put_rest<F: Figures>(
     Ok(())
 }
 
-/// The rows of the statement of activities (GASB Statement 34), of the posts of the year alone: expenses, charges, operating
-/// grants, capital grants with donated assets, and net expense of each function by id, of interest, and of all; then each
-/// general revenue by id, gains on sales, and the change in net position.
+/// The rows of the statement of activities (GASB Statement 34), of the posts of the year alone:
+/// expenses, charges, operating grants, capital grants with donated assets, and net expense of each
+/// function by id, of interest, and of all; then each general revenue by id, gains on sales, and
+/// the change in net position.
 pub fn statement_of_activities<F: Figures>(
     alloc: Global,
     figures: &F,
     year: u16,
 ) -> Result<Vec<Row>, AllocError>
     requires { IsYear year }
-    ensures { IfOk result (λ rows. rows.items ≡ spec.activities_rows (F.plan figures.now) (F.sums figures.now) year) }
+    ensures { IfOk result
+        (λ rows. rows.items ≡ spec.activities_rows (F.plan figures.now) (F.sums figures.now) year) }
 {
     let mut rows = Vec::new(alloc);
     put_programs(alloc, &mut rows, figures, year, "Interest on debt", "Total")?;

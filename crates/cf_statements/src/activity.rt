@@ -91,7 +91,8 @@ fn capital_grants<F: Figures>(
 ) -> i128
     requires year { 1 ≤ year }
     requires few { length sources.now ≤ 256 }
-    ensures value { result ≡ (spec.activity_of (F.sums figures.now) year sources.now function).capital_grants }
+    ensures value { result
+        ≡ (spec.activity_of (F.sums figures.now) year sources.now function).capital_grants }
     ensures small { unsigned_abs result ≤ 257 * 2 ^ 105 }
 {
     let donated = -gov_in(figures, year, 450_000 + u32::from(function));

@@ -33,7 +33,8 @@ fn put_fund<F: Figures>(
     fund: &Fund,
 ) -> Result<(), AllocError>
     requires { 1 ≤ year }
-    ensures { OnOk result (rows.new.items ≡ rows.old.items ++ spec.fund_rows (F.sums figures.now) year fund.now) }
+    ensures { OnOk result
+        (rows.new.items ≡ rows.old.items ++ spec.fund_rows (F.sums figures.now) year fund.now) }
 {
     let of = Balances::Fund { fund: fund.id };
     put_heading(alloc, rows, fund.name.as_str())?;
@@ -56,7 +57,9 @@ fn put_funds<F: Figures>(
     funds: &[Fund],
 ) -> Result<(), AllocError>
     requires { 1 ≤ year }
-    ensures { OnOk result (rows.new.items ≡ rows.old.items ++ flat_map (spec.fund_rows (F.sums figures.now) year) funds.now) }
+    ensures { OnOk result
+        (rows.new.items ≡ rows.old.items
+        ++ flat_map (spec.fund_rows (F.sums figures.now) year) funds.now) }
 {
     for fund in funds {
         put_fund(alloc, rows, figures, year, fund)?;
@@ -72,20 +75,24 @@ fn put_total<F: Figures>(
     label: &str,
 ) -> Result<(), AllocError>
     requires { IsYear year }
-    ensures { OnOk result (rows.new.items ≡ rows.old.items ++ spec.total_row (F.sums figures.now) year label.now ∷ []) }
+    ensures { OnOk result
+        (rows.new.items ≡ rows.old.items ++ spec.total_row (F.sums figures.now) year label.now
+        ∷ []) }
 {
     put_single(alloc, rows, label, figures.total(year))
 }
 
-/// The rows of the balance sheet (GASB Statement 34), through the year: the assets, liabilities and unavailable revenue of
-/// each fund by id, its fund balance, and the total of all. Liabilities and unavailable revenue have their sign turned.
+/// The rows of the balance sheet (GASB Statement 34), through the year: the assets, liabilities and
+/// unavailable revenue of each fund by id, its fund balance, and the total of all. Liabilities and
+/// unavailable revenue have their sign turned.
 pub fn balance_sheet<F: Figures>(
     alloc: Global,
     figures: &F,
     year: u16,
 ) -> Result<Vec<Row>, AllocError>
     requires { IsYear year }
-    ensures { IfOk result (λ rows. rows.items ≡ spec.balance_rows (F.plan figures.now) (F.sums figures.now) year) }
+    ensures { IfOk result
+        (λ rows. rows.items ≡ spec.balance_rows (F.plan figures.now) (F.sums figures.now) year) }
 {
     let mut rows = Vec::new(alloc);
     put_funds(alloc, &mut rows, figures, year, figures.chart().funds())?;

@@ -26,7 +26,8 @@ fn put_source<F: Figures>(
     source: &RevenueSource,
 ) -> Result<(), AllocError>
     requires { 1 ≤ year }
-    ensures { OnOk result (rows.new.items ≡ rows.old.items ++ source_row (F.sums figures.now) year source.now ∷ []) }
+    ensures { OnOk result
+        (rows.new.items ≡ rows.old.items ++ source_row (F.sums figures.now) year source.now ∷ []) }
 {
     let estimate = i128::from(figures.estimate(year, source.id));
     let actual = revenue_in(figures, year, source);
@@ -44,7 +45,8 @@ fn put_line<F: Figures>(
     requires line { number < length (F.plan figures.now).lines }
     requires year { year < 2201 }
     requires lent { F.lends figures.now number ≡ true }
-    ensures { OnOk result (rows.new.items ≡ rows.old.items ++ line_row (F.sums figures.now) year number ∷ []) }
+    ensures { OnOk result
+        (rows.new.items ≡ rows.old.items ++ line_row (F.sums figures.now) year number ∷ []) }
 {
     let numbers = figures.numbers(number, year);
     let label = format!(in alloc; "Line {number}")?;
@@ -67,7 +69,9 @@ fn put_sources<F: Figures>(
     sources: &[RevenueSource],
 ) -> Result<(), AllocError>
     requires { 1 ≤ year }
-    ensures { OnOk result (rows.new.items ≡ rows.old.items ++ source_rows (F.sums figures.now) year fund sources.now) }
+    ensures { OnOk result
+        (rows.new.items ≡ rows.old.items
+        ++ source_rows (F.sums figures.now) year fund sources.now) }
 {
     for source in sources {
         if source.fund == fund {
@@ -89,7 +93,9 @@ fn put_lines<F: Figures>(
     requires few { length lines.now ≤ 4096 }
     requires year { year < 2201 }
     requires lent { (line : ℕ) → F.lends figures.now line ≡ true }
-    ensures { OnOk result (rows.new.items ≡ rows.old.items ++ line_rows (F.plan figures.now) (F.sums figures.now) year fund 0 lines.now) }
+    ensures { OnOk result
+        (rows.new.items ≡ rows.old.items
+        ++ line_rows (F.plan figures.now) (F.sums figures.now) year fund 0 lines.now) }
 {
     let mut number = 0;
     for line in lines {
@@ -101,12 +107,14 @@ fn put_lines<F: Figures>(
     Ok(())
 }
 
-/// The rows of the budgetary comparison of the year (GASB Codification 1700 and 2400): of each fund its revenue sources by id and
-/// its control lines at the year's level by number, each with original and final budget, actual amount, encumbrances, and what is left.
+/// The rows of the budgetary comparison of the year (GASB Codification 1700 and 2400): of each fund
+/// its revenue sources by id and its control lines at the year's level by number, each with
+/// original and final budget, actual amount, encumbrances, and what is left.
 pub fn comparison<F: Figures>(alloc: Global, figures: &F, year: u16) -> Result<Vec<Row>, AllocError>
     requires year { IsYear year }
     requires lent { (line : ℕ) → F.lends figures.now line ≡ true }
-    ensures { IfOk result (λ rows. rows.items ≡ budget_rows (F.plan figures.now) (F.sums figures.now) year) }
+    ensures { IfOk result
+        (λ rows. rows.items ≡ budget_rows (F.plan figures.now) (F.sums figures.now) year) }
 {
     let mut rows = Vec::new(alloc);
     let chart = figures.chart();

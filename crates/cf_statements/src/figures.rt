@@ -8,7 +8,8 @@ ghost use Rattle.cf_statements.specs.Sums.{Sums};
 use cf_calls::LineNumbers;
 use cf_chart::Chart;
 
-/// The sums of a history that statements are made of, in cents. Each is far smaller than 128 bits allow.
+/// The sums of a history that statements are made of, in cents. Each is far smaller than 128 bits
+/// allow.
 pub trait Figures {
     ghost plan: { Self → Plan };
 

@@ -39,7 +39,9 @@ fn put_revenues<F: Figures>(
     sources: &[RevenueSource],
 ) -> Result<(), AllocError>
     requires { 1 ≤ year }
-    ensures { OnOk result (rows.new.items ≡ rows.old.items ++ spec.revenue_rows (F.sums figures.now) year fund sources.now) }
+    ensures { OnOk result
+        (rows.new.items ≡ rows.old.items
+        ++ spec.revenue_rows (F.sums figures.now) year fund sources.now) }
 {
     for source in sources {
         if source.fund == fund {
@@ -50,7 +52,8 @@ fn put_revenues<F: Figures>(
     Ok(())
 }
 
-/// What a fund's revenue sources bring it in the year, in cents (GASB Statement 34, modified accrual basis).
+/// What a fund's revenue sources bring it in the year, in cents (GASB Statement 34, modified
+/// accrual basis).
 pub fn total_revenues<F: Figures>(
     figures: &F,
     year: u16,
@@ -89,7 +92,9 @@ fn put_functions<F: Figures>(
     functions: &[Function],
 ) -> Result<(), AllocError>
     requires { 1 ≤ year }
-    ensures { OnOk result (rows.new.items ≡ rows.old.items ++ spec.function_rows (F.sums figures.now) year fund functions.now) }
+    ensures { OnOk result
+        (rows.new.items ≡ rows.old.items
+        ++ spec.function_rows (F.sums figures.now) year fund functions.now) }
 {
     for function in functions {
         let spent = spent_on(figures, year, fund, function);
@@ -120,7 +125,8 @@ fn other_expenditures<F: Figures>(figures: &F, year: u16, fund: u16) -> i128
     table_total(figures, year, Balances::FundInYear { fund }, &OUTLAY)
 }
 
-/// What a fund spends in the year, on functions, capital assets and debt, in cents (GASB Statement 34, modified accrual basis).
+/// What a fund spends in the year, on functions, capital assets and debt, in cents (GASB Statement
+/// 34, modified accrual basis).
 pub fn total_expenditures<F: Figures>(
     figures: &F,
     year: u16,
@@ -167,8 +173,11 @@ fn put_sources<F: Figures>(
     total: &str,
 ) -> Result<(), AllocError>
     requires { 1 ≤ year }
-    ensures { OnOk result (rows.new.items ≡ rows.old.items ++ (spec.revenue_rows (F.sums figures.now) year fund (F.plan figures.now).sources
-        ++ single total.now (spec.total_revenues (F.sums figures.now) year fund (F.plan figures.now).sources) ∷ [])) }
+    ensures { OnOk result
+        (rows.new.items ≡ rows.old.items
+        ++ (spec.revenue_rows (F.sums figures.now) year fund (F.plan figures.now).sources
+        ++ single total.now
+        (spec.total_revenues (F.sums figures.now) year fund (F.plan figures.now).sources) ∷ [])) }
 {
     let sources = figures.chart().sources();
     put_revenues(alloc, rows, figures, year, fund, sources)?;
@@ -191,8 +200,13 @@ fn put_expenditures<F: Figures>(
     total: &str,
 ) -> Result<(), AllocError>
     requires { 1 ≤ year }
-    ensures { OnOk result (rows.new.items ≡ rows.old.items ++ (spec.function_rows (F.sums figures.now) year fund (F.plan figures.now).functions
-        ++ (spec.outlay_rows (F.sums figures.now) year fund ++ single total.now (spec.total_expenditures (F.sums figures.now) year fund (F.plan figures.now).functions) ∷ []))) }
+    ensures { OnOk result
+        (rows.new.items ≡ rows.old.items
+        ++ (spec.function_rows (F.sums figures.now) year fund (F.plan figures.now).functions
+        ++ (spec.outlay_rows (F.sums figures.now) year fund
+        ++ single total.now
+        (spec.total_expenditures (F.sums figures.now) year fund (F.plan figures.now).functions)
+        ∷ []))) }
 {
     let functions = figures.chart().functions();
     let of = Balances::FundInYear { fund };
@@ -217,8 +231,10 @@ fn put_changes<F: Figures>(
     net: &str,
 ) -> Result<(), AllocError>
     requires { 1 ≤ year }
-    ensures { OnOk result (rows.new.items ≡ rows.old.items ++ (spec.financing_rows (F.sums figures.now) year fund
-        ++ single net.now (spec.net_change (F.plan figures.now) (F.sums figures.now) year fund) ∷ [])) }
+    ensures { OnOk result
+        (rows.new.items ≡ rows.old.items ++ (spec.financing_rows (F.sums figures.now) year fund
+        ++ single net.now (spec.net_change (F.plan figures.now) (F.sums figures.now) year fund)
+        ∷ [])) }
 {
     let of = Balances::FundInYear { fund };
     put_table(alloc, rows, figures, year, of, &FINANCING)?;
@@ -234,7 +250,9 @@ fn put_fund<F: Figures>(
     fund: &Fund,
 ) -> Result<(), AllocError>
     requires { 1 ≤ year }
-    ensures { OnOk result (rows.new.items ≡ rows.old.items ++ spec.fund_rows (F.plan figures.now) (F.sums figures.now) year fund.now) }
+    ensures { OnOk result
+        (rows.new.items ≡ rows.old.items
+        ++ spec.fund_rows (F.plan figures.now) (F.sums figures.now) year fund.now) }
 {
     put_heading(alloc, rows, fund.name.as_str())?;
     put_sources(alloc, rows, figures, year, fund.id, "Total revenues")?;
@@ -258,7 +276,9 @@ fn put_funds<F: Figures>(
     funds: &[Fund],
 ) -> Result<(), AllocError>
     requires { 1 ≤ year }
-    ensures { OnOk result (rows.new.items ≡ rows.old.items ++ flat_map (spec.fund_rows (F.plan figures.now) (F.sums figures.now) year) funds.now) }
+    ensures { OnOk result
+        (rows.new.items ≡ rows.old.items
+        ++ flat_map (spec.fund_rows (F.plan figures.now) (F.sums figures.now) year) funds.now) }
 {
     for fund in funds {
         put_fund(alloc, rows, figures, year, fund)?;
@@ -266,16 +286,18 @@ fn put_funds<F: Figures>(
     Ok(())
 }
 
-/// The rows of the statement of revenues, expenditures and changes in fund balances (GASB Statement 34), of the posts of the
-/// year alone: of each fund by id its sources, each function, and other financing. Revenues and financing sources have
-/// their sign turned; transfers out stand as they are, and are subtracted.
+/// The rows of the statement of revenues, expenditures and changes in fund balances (GASB Statement
+/// 34), of the posts of the year alone: of each fund by id its sources, each function, and other
+/// financing. Revenues and financing sources have their sign turned; transfers out stand as they
+/// are, and are subtracted.
 pub fn operating_statement<F: Figures>(
     alloc: Global,
     figures: &F,
     year: u16,
 ) -> Result<Vec<Row>, AllocError>
     requires { IsYear year }
-    ensures { IfOk result (λ rows. rows.items ≡ spec.operating_rows (F.plan figures.now) (F.sums figures.now) year) }
+    ensures { IfOk result
+        (λ rows. rows.items ≡ spec.operating_rows (F.plan figures.now) (F.sums figures.now) year) }
 {
     let mut rows = Vec::new(alloc);
     put_funds(alloc, &mut rows, figures, year, figures.chart().funds())?;

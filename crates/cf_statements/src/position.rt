@@ -28,8 +28,9 @@ const LIABILITIES: [AccountRow; 6] = [
     AccountRow(Credit, "Compensated absences", 270_000),
 ];
 
-/// The rows of the statement of net position (GASB Statement 34), through the year. Liabilities have their sign turned;
-/// accumulated depreciation and amortization stand as they are, usually below zero.
+/// The rows of the statement of net position (GASB Statement 34), through the year. Liabilities
+/// have their sign turned; accumulated depreciation and amortization stand as they are, usually
+/// below zero.
 pub fn net_position<F: Figures>(
     alloc: Global,
     figures: &F,

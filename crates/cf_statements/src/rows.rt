@@ -12,7 +12,9 @@ pub(crate) fn put_row(
     label: &str,
     amounts: &[i128],
 ) -> Result<(), AllocError>
-    ensures { OnOk result (rows.new.items ≡ rows.old.items ++ record { label = label.now; amounts = amounts.now } ∷ []) }
+    ensures { OnOk result
+        (rows.new.items ≡ rows.old.items ++ record { label = label.now; amounts = amounts.now }
+        ∷ []) }
 {
     let row = Row {
         label: Label::new(alloc, label)?,

@@ -65,7 +65,9 @@ pub(crate) fn put_table<F: Figures>(
     table: &[AccountRow],
 ) -> Result<(), AllocError>
     requires { 1 ≤ year }
-    ensures { OnOk result (rows.new.items ≡ rows.old.items ++ rows_of (spec.balance (F.sums figures.now) year of) table.now) }
+    ensures { OnOk result
+        (rows.new.items ≡ rows.old.items
+        ++ rows_of (spec.balance (F.sums figures.now) year of) table.now) }
 {
     for row in table {
         let AccountRow(side, label, account) = *row;

@@ -6,4 +6,5 @@ use Rattle.cf_text.specs.Statement.{statement_text, title_line}
 
 -- records have no title line
 abbrev pub statement_bytes : List ℕ → List ℕ → ℕ → Bool → List Row → List ℕ
-statement_bytes city title year is_csv rows = if is_csv then records_text rows else statement_text (title_line city title year) rows
+statement_bytes city title year is_csv rows = if is_csv then records_text rows
+    else statement_text (title_line city title year) rows

@@ -13,7 +13,8 @@ field_at amounts place = amount_field (slice_get amounts place)
 
 -- the label and five amounts; those that the row lacks are empty
 abbrev pub record_of : Row → List (List ℕ)
-record_of row = row.label ∷ field_at row.amounts 0 ∷ field_at row.amounts 1 ∷ field_at row.amounts 2 ∷ field_at row.amounts 3 ∷ field_at row.amounts 4 ∷ []
+record_of row = row.label ∷ field_at row.amounts 0 ∷ field_at row.amounts 1 ∷ field_at row.amounts 2
+    ∷ field_at row.amounts 3 ∷ field_at row.amounts 4 ∷ []
 
 abbrev pub record_line : Row → List ℕ
 record_line row = row_text default_writer (record_of row)

@@ -35,4 +35,5 @@ statement_text title_line rows = title_line ++ 10 ∷ flat_map row_line rows
 
 -- the title line of a city's statement of a fiscal year, but for its newline
 abbrev pub title_line : List ℕ → List ℕ → ℕ → List ℕ
-title_line city title year = city ++ (codes ": " ++ (title ++ (codes ", fiscal year " ++ decimal year)))
+title_line city title year =
+    city ++ (codes ": " ++ (title ++ (codes ", fiscal year " ++ decimal year)))

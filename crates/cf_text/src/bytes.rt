@@ -15,8 +15,8 @@ fn title_line(alloc: Global, city: &str, title: &str, year: u16) -> Result<Strin
     format!(in alloc; "{city}: {title}, fiscal year {year}")
 }
 
-/// What is printed of a statement: its title line and a line for each row, or, as comma-separated records, a record for
-/// each row and no title (own rule).
+/// What is printed of a statement: its title line and a line for each row, or, as comma-separated
+/// records, a record for each row and no title (own rule).
 pub fn statement_bytes(
     alloc: Global,
     city: &str,
@@ -25,7 +25,8 @@ pub fn statement_bytes(
     rows: &[Row],
     is_csv: bool,
 ) -> Result<Vec<u8>, AllocError>
-    ensures { IfOk result (λ bytes. bytes.items ≡ spec.statement_bytes city.now title.now year is_csv rows.now) }
+    ensures { IfOk result
+        (λ bytes. bytes.items ≡ spec.statement_bytes city.now title.now year is_csv rows.now) }
 {
     if is_csv {
         return records_of(alloc, rows);

@@ -48,7 +48,8 @@ fn put_amount(out: &mut Vec<u8>, amount: i128) -> Result<(), AllocError>
 
 /// The label, filled where amounts follow it.
 fn put_label(out: &mut Vec<u8>, row: &Row) -> Result<(), AllocError>
-    ensures { OnOk result (out.new.items ≡ out.old.items ++ label_text row.now.label row.now.amounts) }
+    ensures { OnOk result
+        (out.new.items ≡ out.old.items ++ label_text row.now.label row.now.amounts) }
 {
     let label = row.label.as_str();
     out.extend_from_slice(label.as_bytes())?;
@@ -91,7 +92,8 @@ pub(crate) fn put_statement(
     rows: &[Row],
     out: &mut Vec<u8>,
 ) -> Result<(), AllocError>
-    ensures { OnOk result (out.new.items ≡ out.old.items ++ statement_text title_line.now rows.now) }
+    ensures { OnOk result
+        (out.new.items ≡ out.old.items ++ statement_text title_line.now rows.now) }
 {
     out.extend_from_slice(title_line.as_bytes())?;
     out.push(b'\n')?;
@@ -101,15 +103,17 @@ pub(crate) fn put_statement(
     Ok(())
 }
 
-/// Adds a statement: its title line, and a line for each row. A label is filled to 40 places where amounts follow it, and
-/// each amount stands at the right of 20 places (own rule). Where there is no memory, `out` stays.
+/// Adds a statement: its title line, and a line for each row. A label is filled to 40 places where
+/// amounts follow it, and each amount stands at the right of 20 places (own rule). Where there is
+/// no memory, `out` stays.
 pub fn text_of(
     alloc: Global,
     title_line: &str,
     rows: &[Row],
     out: &mut Vec<u8>,
 ) -> Result<(), AllocError>
-    ensures ok { OnOk result (out.new.items ≡ out.old.items ++ statement_text title_line.now rows.now) }
+    ensures ok { OnOk result
+        (out.new.items ≡ out.old.items ++ statement_text title_line.now rows.now) }
     ensures err { OnErr result (out.new.items ≡ out.old.items) }
 {
     let mut text = Vec::new(alloc);

@@ -20,7 +20,8 @@ fn field_text(alloc: Global, amounts: &[i128], place: usize) -> Result<String, A
 
 /// Writes a row as a record.
 fn put_record(alloc: Global, out: &mut Writer<Vec<u8>>, row: &Row) -> Result<(), AllocError>
-    ensures { OnOk result ((text : List ℕ) → Wrote text out.old → Wrote (text ++ record_line row.now) out.new) }
+    ensures { OnOk result
+        ((text : List ℕ) → Wrote text out.old → Wrote (text ++ record_line row.now) out.new) }
 {
     let amounts = row.amounts.as_slice();
     let first = field_text(alloc, amounts, 0)?;

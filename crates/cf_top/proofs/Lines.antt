@@ -55,7 +55,8 @@ pub longer_front : (plan : Plan) (least : ℕ) (h more : List Entry) (P : List E
 longer_front plan least h more P image long front =
     (length (take front.0 h), omega (arith, long, front.1, length-take front.0 h), subst (λ (l : List Entry). RecoversNear plan l (P l) image) (sym (same_front h more front.0)) front.2)
 
--- the entry in hand is that of an accepted call, with which the history goes on, or one that stays in doubt
+-- the entry in hand is that of an accepted call, with which the history goes on, or one that stays
+-- in doubt
 near_after : (P : List Entry → Entry → Type 0) (s : DurableState) (c : Call) (least : ℕ) (given : Posted) (after : DurableState) (rest : List Entry) → least ≤ length s.entries → after.entries ≡ s.entries ++ rest
     → Settles s c given after → (given ≡ posted.NoMemory → ⊥) → (given ≡ posted.Disk → (e : Entry) → WouldAdd s c e → P s.entries e) → IfSome s.doubt (P s.entries)
     → (image : List ℕ) → RecoversNear s.plan s.entries (IsInHand s c) image → RecoversToFrontAnd s.plan least P after.entries image
@@ -83,7 +84,8 @@ near_after P s c least given after rest long grows settles some fails p image ne
 
 -- ---- one line
 
--- what stays so: an entry in doubt, as one that a crash leaves beyond a front, is that of one of these calls
+-- what stays so: an entry in doubt, as one that a crash leaves beyond a front, is that of one of
+-- these calls
 pub record LineKept {D : Type 0} (device : Device D) (calls : List Call) (least : ℕ) (after : DurableState) (old new : D) : Type 0 where
   pub doubt : IfSome after.doubt (IsUnacknowledged after.plan None calls after.entries)
   pub moments : IsTrue device.tells → (new ≡ old)

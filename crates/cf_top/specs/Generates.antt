@@ -23,7 +23,8 @@ total_lines count recon =
 abbrev pub office_lines : Plan → List Entry → List ℕ
 office_lines plan history = total_lines (length history) (recon_shown plan 2026 history)
 
--- the lines of the history that the step makes of so many drawn calls, under the chart of the generator's city
+-- the lines of the history that the step makes of so many drawn calls, under the chart of the
+-- generator's city
 pub record IsGenerated (n : ℕ) (text : List ℕ) : Type 0 where
   pub plan : Plan
   pub states : chart_of chart_text ≡ Ok plan
@@ -32,7 +33,9 @@ pub record IsGenerated (n : ℕ) (text : List ℕ) : Type 0 where
   pub lines : text ≡ office_lines plan history
 
 abbrev pub GenerateEnds : ℕ → Option (List ℕ) → Option (List ℕ) → Status → Type 0
-GenerateEnds n held held' status.Ok = (text : List ℕ) × IsGenerated n text × Prints text held held' status.Ok
-GenerateEnds n held held' status.WriteFault = (text : List ℕ) × IsGenerated n text × Prints text held held' status.WriteFault
+GenerateEnds n held held' status.Ok = (text : List ℕ) × IsGenerated n text
+    × Prints text held held' status.Ok
+GenerateEnds n held held' status.WriteFault = (text : List ℕ) × IsGenerated n text
+    × Prints text held held' status.WriteFault
 GenerateEnds n held held' status.NoMemory = held' ≡ held
 GenerateEnds n held held' _ = ⊥

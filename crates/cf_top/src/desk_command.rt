@@ -37,12 +37,16 @@ fn keep_desk<I: Source, O: Sink, D: Disk + Drop>(
     out: &mut O,
 ) -> (Ended, D)
     requires { book.doubt ≡ None }
-    ensures kept { DeskKept (device D.tells D.content D.is_image D.moment D.was_image D.faults) (opened book.plan book.entries (D.faults book.disk)) book.disk result.1
+    ensures kept { DeskKept (device D.tells D.content D.is_image D.moment D.was_image D.faults)
+        (opened book.plan book.entries (D.faults book.disk)) book.disk result.1
         (I.left input.old) (I.left input.new) (O.held out.old) (O.held out.new) result.0 }
-    ensures silent { result.0 ≡ ended.NoMemory → Consumes (I.left input.old) (I.left input.new) [] × (O.held out.new ≡ O.held out.old) × (result.1 ≡ book.disk) }
+    ensures silent { result.0 ≡ ended.NoMemory
+        → Consumes (I.left input.old) (I.left input.new) [] × (O.held out.new ≡ O.held out.old)
+        × (result.1 ≡ book.disk) }
     ensures read { result.0 ≡ ended.ReadFault → Rose (I.faults input.old) (I.faults input.new) }
     ensures write { result.0 ≡ ended.WriteFault → Rose (O.faults out.old) (O.faults out.new) }
-    ensures memory { result.0 ≡ ended.NoMemory → (I.faults input.new ≡ I.faults input.old) × (O.faults out.new ≡ O.faults out.old) }
+    ensures memory { result.0 ≡ ended.NoMemory
+        → (I.faults input.new ≡ I.faults input.old) × (O.faults out.new ≡ O.faults out.old) }
     ensures input_quiet { result.0 ≢ ended.ReadFault → I.faults input.new ≡ I.faults input.old }
     ensures out_quiet { result.0 ≢ ended.WriteFault → O.faults out.new ≡ O.faults out.old }
 {
@@ -59,12 +63,15 @@ fn desk_over<I: Source, O: Sink, D: Disk + Drop>(
     out: &mut O,
     disk: D,
 ) -> Ran<D>
-    ensures ends { DeskEnds (device D.tells D.content D.is_image D.moment D.was_image D.faults) disk result.disk
+    ensures ends { DeskEnds
+        (device D.tells D.content D.is_image D.moment D.was_image D.faults) disk result.disk
         (I.left input.old) (I.left input.new) (O.held out.old) (O.held out.new) result.status }
-    ensures read { result.status ≡ Status.ReadFault → Rose (I.faults input.old) (I.faults input.new) }
+    ensures read { result.status ≡ Status.ReadFault
+        → Rose (I.faults input.old) (I.faults input.new) }
     ensures write { result.status ≡ Status.WriteFault → Rose (O.faults out.old) (O.faults out.new) }
     ensures disk { result.status ≡ Status.DiskFault → Rose (D.faults disk) (D.faults result.disk) }
-    ensures memory { result.status ≡ Status.NoMemory → (I.faults input.new ≡ I.faults input.old) × (O.faults out.new ≡ O.faults out.old)
+    ensures memory { result.status ≡ Status.NoMemory
+        → (I.faults input.new ≡ I.faults input.old) × (O.faults out.new ≡ O.faults out.old)
         × (D.faults result.disk ≡ D.faults disk) }
     ensures input_quiet { result.status ≢ Status.ReadFault → I.faults input.new ≡ I.faults input.old }
     ensures out_quiet { result.status ≢ Status.WriteFault → O.faults out.new ≡ O.faults out.old }
@@ -84,8 +91,8 @@ fn desk_over<I: Source, O: Sink, D: Disk + Drop>(
     }
 }
 
-/// The run of `desk`: opens the journal, then reads one call per line of the input and answers each on one line.
-/// Other words are `BadWords`, and nothing is read or written.
+/// The run of `desk`: opens the journal, then reads one call per line of the input and answers each
+/// on one line. Other words are `BadWords`, and nothing is read or written.
 pub fn run_desk<I: Source, O: Sink, D: Disk + Drop>(
     alloc: Global,
     words: &[String],
@@ -94,14 +101,19 @@ pub fn run_desk<I: Source, O: Sink, D: Disk + Drop>(
     disk: D,
 ) -> Ran<D>
     ensures ends { command_of (map string_bytes words.now) ≡ Some Command.Desk
-        → DeskEnds (device D.tells D.content D.is_image D.moment D.was_image D.faults) disk result.disk
+        → DeskEnds (device D.tells D.content D.is_image D.moment D.was_image D.faults) disk
+        result.disk
         (I.left input.old) (I.left input.new) (O.held out.old) (O.held out.new) result.status }
     ensures words { (command_of (map string_bytes words.now) ≡ Some Command.Desk → ⊥)
-        → ((result.status ≡ Status.BadWords) ⊎ (result.status ≡ Status.NoMemory)) × (I.left input.new ≡ I.left input.old) × (O.held out.new ≡ O.held out.old) × (result.disk ≡ disk) }
-    ensures read { result.status ≡ Status.ReadFault → Rose (I.faults input.old) (I.faults input.new) }
+        → ((result.status ≡ Status.BadWords) ⊎ (result.status ≡ Status.NoMemory))
+        × (I.left input.new ≡ I.left input.old) × (O.held out.new ≡ O.held out.old)
+        × (result.disk ≡ disk) }
+    ensures read { result.status ≡ Status.ReadFault
+        → Rose (I.faults input.old) (I.faults input.new) }
     ensures write { result.status ≡ Status.WriteFault → Rose (O.faults out.old) (O.faults out.new) }
     ensures disk { result.status ≡ Status.DiskFault → Rose (D.faults disk) (D.faults result.disk) }
-    ensures memory { result.status ≡ Status.NoMemory → (I.faults input.new ≡ I.faults input.old) × (O.faults out.new ≡ O.faults out.old)
+    ensures memory { result.status ≡ Status.NoMemory
+        → (I.faults input.new ≡ I.faults input.old) × (O.faults out.new ≡ O.faults out.old)
         × (D.faults result.disk ≡ D.faults disk) }
     ensures input_quiet { result.status ≢ Status.ReadFault → I.faults input.new ≡ I.faults input.old }
     ensures out_quiet { result.status ≢ Status.WriteFault → O.faults out.new ≡ O.faults out.old }

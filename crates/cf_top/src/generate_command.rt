@@ -42,14 +42,16 @@ fn total_lines(alloc: Global, count: u64, recon: &ReconShown) -> Result<Vec<u8>,
 
 /// The lines of a history, at the end of the fiscal year of all drawn calls.
 fn history_lines(alloc: Global, history: &History) -> Result<Vec<u8>, AllocError>
-    ensures { IfOk result (λ text. text.items ≡ spec.office_lines history.now.plan history.now.entries) }
+    ensures { IfOk result
+        (λ text. text.items ≡ spec.office_lines history.now.plan history.now.entries) }
 {
     total_lines(alloc, history.len(), &history.recon(2026))
 }
 
 /// The lines of an office, at the end of the fiscal year of all drawn calls.
 fn office_lines(alloc: Global, office: &BookOffice) -> Result<Vec<u8>, AllocError>
-    ensures { IfOk result (λ text. text.items ≡ spec.office_lines office.now.plan office.now.entries) }
+    ensures { IfOk result
+        (λ text. text.items ≡ spec.office_lines office.now.plan office.now.entries) }
 {
     history_lines(alloc, &office.history())
 }
@@ -74,14 +76,16 @@ fn print_generated<O: Sink>(alloc: Global, n: u32, out: &mut O) -> Status
     print(run_lines(alloc, n), out)
 }
 
-/// The run of `generate`: an office in memory takes so many calls, drawn by a fixed formula, and how many entries there
-/// are then, the total of fund balances and net position are written, a line each. Other words are `BadWords`, and
-/// nothing is written.
+/// The run of `generate`: an office in memory takes so many calls, drawn by a fixed formula, and
+/// how many entries there are then, the total of fund balances and net position are written, a line
+/// each. Other words are `BadWords`, and nothing is written.
 pub fn run_generate<O: Sink>(alloc: Global, words: &[String], out: &mut O) -> Status
     ensures ends { (n : ℕ) → command_of (map string_bytes words.now) ≡ Some (Command.Generate n)
         → GenerateEnds n (O.held out.old) (O.held out.new) result }
-    ensures words { ((n : ℕ) → command_of (map string_bytes words.now) ≡ Some (Command.Generate n) → ⊥)
-        → ((result ≡ Status.BadWords) ⊎ (result ≡ Status.NoMemory)) × (O.held out.new ≡ O.held out.old) }
+    ensures words { ((n : ℕ) → command_of (map string_bytes words.now) ≡ Some (Command.Generate n)
+        → ⊥)
+        → ((result ≡ Status.BadWords) ⊎ (result ≡ Status.NoMemory))
+        × (O.held out.new ≡ O.held out.old) }
     ensures write { result ≡ Status.WriteFault → Rose (O.faults out.old) (O.faults out.new) }
     ensures memory { result ≡ Status.NoMemory → O.faults out.new ≡ O.faults out.old }
     ensures out_quiet { result ≢ Status.WriteFault → O.faults out.new ≡ O.faults out.old }

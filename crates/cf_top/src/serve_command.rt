@@ -37,7 +37,8 @@ pub enum Kept {
     Unopened { why: BookRefused },
 }
 
-/// What a run of `serve` takes before it opens the journal: nothing that it does later wants memory.
+/// What a run of `serve` takes before it opens the journal: nothing that it does later wants
+/// memory.
 #[derive(Drop)]
 struct Prepared<R: Drop> {
     opening: Opening,
@@ -165,7 +166,8 @@ fn kept_by(end: ServeEnd, links: u64) -> Kept
     }
 }
 
-/// Opens the journal of the disk, and serves links at each door. The names of the hall are picked at its one call.
+/// Opens the journal of the disk, and serves links at each door. The names of the hall are picked
+/// at its one call.
 fn keep_doors<H: Threads + Wait + Sync, D: Disk + Drop + Send, R: Door + Drop + Send>(
     rt: &H,
     alloc: Global,
@@ -196,7 +198,8 @@ where
     }
 }
 
-/// Serves links at the first doors, which stand in a list of their own meanwhile, and puts all doors back in their order.
+/// Serves links at the first doors, which stand in a list of their own meanwhile, and puts all
+/// doors back in their order.
 fn keep_first<H: Threads + Wait + Sync, D: Disk + Drop + Send, R: Door + Drop + Send>(
     rt: &H,
     alloc: Global,
@@ -235,7 +238,8 @@ where
     kept
 }
 
-/// Serves links at so many doors, and says how many it served. Where there are fewer doors, the words are bad.
+/// Serves links at so many doors, and says how many it served. Where there are fewer doors, the
+/// words are bad.
 fn serve_over<H: Threads + Wait + Sync, O: Sink, D: Disk + Drop + Send, R: Door + Drop + Send>(
     rt: &H,
     alloc: Global,
@@ -278,9 +282,9 @@ where
     }
 }
 
-/// The run of `serve`: opens the journal, and serves so many links at each of the first doors, each door by a thread of
-/// its own. It says how many links it served. Other words, and words that ask for more doors than there are, are `BadWords`,
-/// and nothing is read or written.
+/// The run of `serve`: opens the journal, and serves so many links at each of the first doors, each
+/// door by a thread of its own. It says how many links it served. Other words, and words that ask
+/// for more doors than there are, are `BadWords`, and nothing is read or written.
 pub fn run_serve<H: Threads + Wait + Sync, O: Sink, D: Disk + Drop + Send, R: Door + Drop + Send>(
     rt: &H,
     alloc: Global,

@@ -1,4 +1,5 @@
--- Entries with the pass that each was recorded for, calls with the pass that made them, and lists of numbers.
+-- Entries with the pass that each was recorded for, calls with the pass that made them, and lists
+-- of numbers.
 use Rattle.std.specs.Prelude.{ℕ, ◌+◌, ◌==◌, List, [], ◌∷◌, ◌++◌, length, if◌then◌else◌, ltb}
 use Rattle.cf_calls.specs.declared.call.Call.{Call}
 use Rattle.cf_calls.specs.declared.entry.Entry.{Entry}

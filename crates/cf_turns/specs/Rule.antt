@@ -1,4 +1,5 @@
--- The rule of the shared word: own rule. The word is the length of one list, and each seat's view is true of that list.
+-- The rule of the shared word: own rule. The word is the length of one list, and each seat's view
+-- is true of that list.
 use Rattle.std.specs.Prelude.{◌≡◌, ℕ, ◌<◌, ◌≤◌, true, false, List, [], ◌∷◌, length}
 use mathlib.Core.Option.{some}
 use mathlib.Core.List.{IsPrefix}
@@ -11,14 +12,30 @@ use Rattle.cf_turns.specs.Lists.{TaggedCall, TaggedEntry, calls_of, count_of, pl
 -- the view that says nothing, as a seat has it that was spent
 abbrev pub blank : View
 blank =
-    record { records = false; list = []; joined = []; has_number = false; number = 0; floor = 0; reads = 0; last_read = 0; opened = 0; ended = []; places = []; failed = []; own_failed = [] }
+    record {
+      records = false;
+      list = [];
+      joined = [];
+      has_number = false;
+      number = 0;
+      floor =
+          0;
+      reads = 0;
+      last_read = 0;
+      opened = 0;
+      ended = [];
+      places = [];
+      failed = [];
+      own_failed =
+          [];
+    }
 
 -- the recorder's view at the start
 abbrev pub first_view : View
 first_view = record blank { records = true }
 
--- what stands behind the word: which seat records, its list, how many passes were opened, the numbers
--- of the ended ones, and the calls that were answered by a fault of the disk
+-- what stands behind the word: which seat records, its list, how many passes were opened, the
+-- numbers of the ended ones, and the calls that were answered by a fault of the disk
 pub record Shared : Type 0 where
   pub recorder : ℕ
   pub list : List TaggedEntry
@@ -34,8 +51,8 @@ pub record IsRecorders (t : Shared) (seat : ℕ) (v : View) : Type 0 where
   pub ended : v.ended ≡ t.ended
   pub failed : v.failed ≡ t.failed
 
--- a live pass has a number that was given out and isn't among the ended ones, and has the places of its entries
--- and its calls that failed
+-- a live pass has a number that was given out and isn't among the ended ones, and has the places of
+-- its entries and its calls that failed
 pub record IsLive (t : Shared) (number : ℕ) (known : List ℕ) (calls : List Call) : Type 0 where
   pub given : number < t.opened
   pub live : count_of number t.ended ≡ 0
@@ -50,8 +67,8 @@ pub record Fits (t : Shared) (seat : ℕ) (v : View) : Type 0 where
   pub floor : v.floor ≤ length t.list
   pub number : v.has_number ≡ true → IsLive t v.number v.places v.own_failed
 
--- the numbers of ended passes differ. They, and the numbers of passes that entries were recorded for or that
--- calls failed of, were given out
+-- the numbers of ended passes differ. They, and the numbers of passes that entries were recorded
+-- for or that calls failed of, were given out
 pub record AreGivenOut (t : Shared) : Type 0 where
   pub once : (n : ℕ) → count_of n t.ended ≤ 1
   pub ended : (n : ℕ) → t.opened ≤ n → count_of n t.ended ≡ 0

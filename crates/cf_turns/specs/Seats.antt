@@ -1,4 +1,5 @@
--- What a recorder and a pass keep of their own: the numbers that they run with are those of their seats' views.
+-- What a recorder and a pass keep of their own: the numbers that they run with are those of their
+-- seats' views.
 use Rattle.std.specs.Prelude.{◌≡◌, ℕ, true, false, [], length}
 use Rattle.cf_turns.specs.Steps.{Seated}
 

@@ -14,26 +14,42 @@ Seated = Me (Unit {0}) View
 abbrev pub Leaves : Seated → View → Seated → Type 0
 Leaves old view new = (new.1 ≡ old.1) × (new.0 ≡ view)
 
--- record and fail: a pass lends the recorder its number, its places and its calls that failed, and gets them back by the
--- same two steps
+-- record and fail: a pass lends the recorder its number, its places and its calls that failed, and
+-- gets them back by the same two steps
 abbrev pub without_number : View → View
 without_number v = record v { has_number = false; number = 0; places = []; own_failed = [] }
 
 abbrev pub view_of_number : View → View
-view_of_number v = record blank { has_number = v.has_number; number = v.number; places = v.places; own_failed = v.own_failed }
+view_of_number v = record blank
+    { has_number = v.has_number; number = v.number; places = v.places; own_failed = v.own_failed }
 
 abbrev pub with_number : View → View → View
-with_number v lent = record v { has_number = lent.has_number; number = lent.number; places = lent.places; own_failed = lent.own_failed }
+with_number v lent =
+    record v {
+      has_number = lent.has_number;
+      number = lent.number;
+      places =
+          lent.places;
+      own_failed = lent.own_failed;
+    }
 
--- record, while the recorder has them: the list has these entries more, and the number one more place
-pub record Records (entries : List TaggedEntry) (old : Seated) (found : ℕ) (new : Seated) : Type 0 where
-  pub leaves : Leaves old (record old.0 { list = old.0.list ++ entries; places = old.0.places ++ (found + 1) ∷ [] }) new
+-- record, while the recorder has them: the list has these entries more, and the number one more
+-- place
+pub record Records (entries : List TaggedEntry) (old : Seated) (found : ℕ)
+    (new : Seated) : Type 0 where
+  pub leaves : Leaves old
+      (record old.0 { list = old.0.list ++ entries; places = old.0.places ++ (found + 1) ∷ [] }) new
   pub length_is : found ≡ length old.0.list
   pub few_places : length old.0.places ≤ found
 
 -- fail, while the recorder has them: these calls failed too, and are the number's
 pub record Fails (calls : List TaggedCall) (old : Seated) (found : ℕ) (new : Seated) : Type 0 where
-  pub leaves : Leaves old (record old.0 { failed = old.0.failed ++ calls; own_failed = old.0.own_failed ++ map (λ c. c.0) calls }) new
+  pub leaves : Leaves old
+      (record old.0 {
+        failed = old.0.failed ++ calls;
+        own_failed =
+            old.0.own_failed ++ map (λ c. c.0) calls;
+      }) new
 
 -- note: the recorder's list goes with the note
 abbrev pub view_of_note : View → View
@@ -60,15 +76,32 @@ view_of_pass v = record blank { has_number = true; number = v.opened }
 abbrev pub view_of_receipts : View → View
 view_of_receipts v = record blank { number = v.number; places = v.places }
 
--- end_pass, the join: the recorder takes the pass's list, its number, its places and its calls that failed
+-- end_pass, the join: the recorder takes the pass's list, its number, its places and its calls that
+-- failed
 abbrev pub with_pass : View → View → View
-with_pass v pass = record v { joined = pass.list; has_number = pass.has_number; number = pass.number; places = pass.places; own_failed = pass.own_failed }
+with_pass v pass = record v {
+  joined = pass.list;
+  has_number = pass.has_number;
+  number = pass.number;
+  places =
+      pass.places;
+  own_failed = pass.own_failed;
+}
 
--- end_pass, the load: the pass's number, not ended before, is ended now. Its list begins the recorder's, in which its
--- places are those of its entries. No entry has a number that wasn't given
+-- end_pass, the load: the pass's number, not ended before, is ended now. Its list begins the
+-- recorder's, in which its places are those of its entries. No entry has a number that wasn't given
 -- out. Its calls that failed are those of the recorder's that have its number
 pub record Ends (old : Seated) (found : ℕ) (new : Seated) : Type 0 where
-  pub leaves : Leaves old (record old.0 { joined = []; has_number = false; number = 0; places = []; own_failed = []; ended = old.0.ended ++ old.0.number ∷ [] }) new
+  pub leaves : Leaves old
+      (record old.0 {
+        joined = [];
+        has_number = false;
+        number = 0;
+        places = [];
+        own_failed =
+            [];
+        ended = old.0.ended ++ old.0.number ∷ [];
+      }) new
   pub seen : IsPrefix old.0.joined old.0.list
   pub given : old.0.number < old.0.opened
   pub fresh : count_of old.0.number old.0.ended ≡ 0
@@ -78,7 +111,8 @@ pub record Ends (old : Seated) (found : ℕ) (new : Seated) : Type 0 where
 
 -- ask, the load: one more read, of a length that isn't below what was seen
 pub record Asks (old : Seated) (found : ℕ) (new : Seated) : Type 0 where
-  pub leaves : Leaves old (record old.0 { floor = found; reads = old.0.reads + 1; last_read = found }) new
+  pub leaves : Leaves old
+      (record old.0 { floor = found; reads = old.0.reads + 1; last_read = found }) new
   pub seen : length old.0.list ≤ found
 
 -- ask, the split: the floor goes with the ask

@@ -1,6 +1,6 @@
-//! One list of entries that several threads see, each a beginning of it (own rule). The list exists in the proofs
-//! alone: what threads share is one word, the list's length. What holds between any two steps on it stands in
-//! `specs/Rule.antt`, and what each step tells in `specs/Steps.antt`.
+//! One list of entries that several threads see, each a beginning of it (own rule). The list exists
+//! in the proofs alone: what threads share is one word, the list's length. What holds between any
+//! two steps on it stands in `specs/Rule.antt`, and what each step tells in `specs/Steps.antt`.
 #![tactic(auto)]
 
 mod pass;

@@ -9,8 +9,8 @@ use crate::rule::{AskLoad, AskSplit, LearnJoin, LearnLoad};
 use crate::turns::{Turns, ViewSeat};
 use std::marker::Model;
 
-/// A caller's own beginning of the list, with the places of its accepted calls, its calls that were answered by a
-/// fault of the disk, and their count.
+/// A caller's own beginning of the list, with the places of its accepted calls, its calls that were
+/// answered by a fault of the disk, and their count.
 #[derive(Drop)]
 pub struct Pass {
     pub(crate) seat: ViewSeat,
@@ -53,7 +53,8 @@ impl Model for Note {
 
     ghost Value = { NoteState };
 
-    ghost view = { λ n. record { table = n.seat.table_id; list = n.seat.me.0.list; floor = n.seat.me.0.floor } };
+    ghost view = { λ n.
+        record { table = n.seat.table_id; list = n.seat.me.0.list; floor = n.seat.me.0.floor } };
 
     ghost invariant = { λ n. (n.seat.me.1 ≡ []) × (n.len ≡ length n.seat.me.0.list) };
 }

@@ -5,7 +5,8 @@ ghost use Rattle.std.specs.Prelude.{◌≡◌, length};
 use crate::turns::ViewSeat;
 use std::marker::Model;
 
-/// The accepted calls and the fault replies of a pass that was ended. Contracts see the places of the accepted calls.
+/// The accepted calls and the fault replies of a pass that was ended. Contracts see the places of
+/// the accepted calls.
 #[derive(Drop)]
 pub struct Receipts {
     pub(crate) seat: ViewSeat,

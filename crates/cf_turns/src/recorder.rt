@@ -16,7 +16,8 @@ use cf_calls::{Call, Entry};
 use std::marker::{Brand, Model};
 use std::snapshot::Snapshot;
 
-/// Who adds to the list. There is one for each word, so it stands under a lock where several threads add.
+/// Who adds to the list. There is one for each word, so it stands under a lock where several
+/// threads add.
 #[derive(Drop)]
 pub struct Recorder {
     pub(crate) seat: ViewSeat,
@@ -42,12 +43,13 @@ impl Model for Recorder {
 }
 
 impl Recorder {
-    /// Adds the entry at the end of the list, for this pass, and answers its place there, from 1. A history has at most
-    /// 1,500,000 entries (own rule).
+    /// Adds the entry at the end of the list, for this pass, and answers its place there, from 1. A
+    /// history has at most 1,500,000 entries (own rule).
     pub fn record(&mut self, turns: &Turns, entry: &Entry, pass: &mut Pass) -> u64
         requires own { (self.old.table ≡ turns.now) × (pass.old.table ≡ turns.now) }
         requires few { length self.old.list < most_entries }
-        ensures recorder { self.new ≡ record self.old { list = self.old.list ++ (entry.now, pass.old.number) ∷ [] } }
+        ensures recorder { self.new
+            ≡ record self.old { list = self.old.list ++ (entry.now, pass.old.number) ∷ [] } }
         ensures pass { pass.new ≡ record pass.old { places = pass.old.places ++ result ∷ [] } }
         ensures place { result ≡ length self.new.list }
     {
@@ -62,11 +64,12 @@ impl Recorder {
         place
     }
 
-    /// Notes that a call of this pass was answered by a fault of the disk, and counts it. A count that stands at its greatest
-    /// value stays there.
+    /// Notes that a call of this pass was answered by a fault of the disk, and counts it. A count
+    /// that stands at its greatest value stays there.
     pub fn fail(&mut self, turns: &Turns, call: Snapshot<Call>, pass: &mut Pass)
         requires own { (self.old.table ≡ turns.now) × (pass.old.table ≡ turns.now) }
-        ensures recorder { self.new ≡ record self.old { failed = self.old.failed ++ (call.value, pass.old.number) ∷ [] } }
+        ensures recorder { self.new
+            ≡ record self.old { failed = self.old.failed ++ (call.value, pass.old.number) ∷ [] } }
         ensures pass { pass.new ≡ record pass.old {
           faults = min (pass.old.faults + 1) (2 ^ 64 - 1);
           failed = pass.old.failed ++ call.value ∷ [];
@@ -119,13 +122,15 @@ impl Recorder {
         }
     }
 
-    /// Ends a pass. What it has seen begins the list, and its places are those of the entries recorded for it, as its
-    /// calls that failed are those noted for it. Its number was given out and was not among those of ended passes. No entry has
-    /// a number that was not given out.
+    /// Ends a pass. What it has seen begins the list, and its places are those of the entries
+    /// recorded for it, as its calls that failed are those noted for it. Its number was given out
+    /// and was not among those of ended passes. No entry has a number that was not given out.
     pub fn end_pass(&mut self, turns: &Turns, pass: Pass) -> Receipts
         requires own { (self.old.table ≡ turns.now) × (pass.table ≡ turns.now) }
-        ensures recorder { self.new ≡ record self.old { ended = self.old.ended ++ pass.number ∷ [] } }
-        ensures receipts { result ≡ record { number = pass.number; places = pass.places; faults = pass.faults } }
+        ensures recorder { self.new
+            ≡ record self.old { ended = self.old.ended ++ pass.number ∷ [] } }
+        ensures receipts { result
+            ≡ record { number = pass.number; places = pass.places; faults = pass.faults } }
         ensures places { pass.places ≡ places_of pass.number self.old.list }
         ensures failed { pass.failed ≡ calls_of pass.number self.old.failed }
         ensures given { pass.number < self.old.opened }

@@ -28,13 +28,15 @@ pub struct View {
     pub ended: LinkedList<u64>,
     /// Where the accepted calls of a pass stand in the list, from 1.
     pub places: LinkedList<u64>,
-    /// The recorder's: the calls that were answered by a fault of the disk, with the number of the pass of each.
+    /// The recorder's: the calls that were answered by a fault of the disk, with the number of the
+    /// pass of each.
     pub failed: LinkedList<(Call, u64)>,
     /// A pass's own of these calls.
     pub own_failed: LinkedList<Call>,
 }
 
-/// The entries that a recording step adds, which no argument of the step says. The caller picks them.
+/// The entries that a recording step adds, which no argument of the step says. The caller picks
+/// them.
 pub trait Told {
     ghost use Rattle.std.specs.Prelude.{List};
     ghost use Rattle.cf_turns.specs.Lists.{TaggedEntry};

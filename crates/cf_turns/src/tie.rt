@@ -28,8 +28,8 @@ impl Stripe for Brand {
     ghost touches = { λ _. false };
 }
 
-/// A pass, with the stripe's whole share, which is how many entries that touch the stripe the pass has seen.
-/// Contracts see the pass.
+/// A pass, with the stripe's whole share, which is how many entries that touch the stripe the pass
+/// has seen. Contracts see the pass.
 #[derive(Drop)]
 pub struct Tie<S: Stripe> {
     pass: Pass,
@@ -45,7 +45,8 @@ impl<S: Stripe> Model for Tie<S> {
 
     ghost view = { λ t. t.pass };
 
-    ghost invariant = { λ t. (t.share.parts ≡ S.all) × (t.share.amount ≡ touch_count S.touches t.pass.seen) };
+    ghost invariant = { λ t. (t.share.parts ≡ S.all)
+        × (t.share.amount ≡ touch_count S.touches t.pass.seen) };
 }
 
 impl<S: Stripe> Tie<S> {
@@ -58,8 +59,8 @@ impl<S: Stripe> Tie<S> {
         Tie { pass, share }
     }
 
-    /// Sees the whole list. Of the entries past what was seen, those that the book doesn't count yet touch the stripe,
-    /// and no others.
+    /// Sees the whole list. Of the entries past what was seen, those that the book doesn't count
+    /// yet touch the stripe, and no others.
     pub fn catch_up(
         &mut self,
         turns: &Turns,

@@ -34,7 +34,16 @@ impl Model for Turns {
 impl Turns {
     /// The word of an empty list, and its recorder. No other call of this crate takes memory.
     pub fn new(alloc: Global) -> Result<(Turns, Recorder), AllocError>
-        ensures { IfOk result (λ r. r.1 ≡ record { table = r.0; list = []; opened = 0; ended = []; floor = 0; failed = [] }) }
+        ensures { IfOk result
+            (λ r. r.1 ≡ record {
+              table = r.0;
+              list = [];
+              opened = 0;
+              ended = [];
+              floor = 0;
+              failed =
+                  [];
+            }) }
     {
         let (table, seat) = Word::of_words(alloc, &[0], &())?;
         Ok((Turns { table }, Recorder { seat, len: 0 }))

@@ -8,8 +8,8 @@ use std::thread;
 /// How many turns a caller waits for the others before it gives up.
 const MOST_TURNS: u32 = 16_777_216;
 
-/// How many turns a call is kept at its gate while another one is under way. A turn is a yield, which on a busy machine
-/// costs a part of a millisecond.
+/// How many turns a call is kept at its gate while another one is under way. A turn is a yield,
+/// which on a busy machine costs a part of a millisecond.
 const KEPT_TURNS: u32 = 16_384;
 
 /// When a call is begun.
@@ -91,7 +91,8 @@ impl Board {
         count_one(&self.answered);
     }
 
-    /// Keeps a call until so many were begun, and lets some turns go by. A call that is answered meanwhile has overtaken it.
+    /// Keeps a call until so many were begun, and lets some turns go by. A call that is answered
+    /// meanwhile has overtaken it.
     fn keep(&self, calls: u64) {
         let before = counted(&self.answered);
         count_one(&self.held);

@@ -22,7 +22,8 @@ use std::time::Clock;
 /// How many callers a hall has at most.
 const MOST_CALLERS: usize = 64;
 
-/// The callers of a hall, with what they tell each other. Each caller is locked by its own thread alone.
+/// The callers of a hall, with what they tell each other. Each caller is locked by its own thread
+/// alone.
 #[derive(Drop)]
 pub struct Table {
     pub alloc: Global,
@@ -30,7 +31,8 @@ pub struct Table {
     pub callers: Vec<Mutex<Caller>>,
 }
 
-/// What playing left: how many entries there are, the receipts of each caller, and how many nanoseconds the calls took.
+/// What playing left: how many entries there are, the receipts of each caller, and how many
+/// nanoseconds the calls took.
 #[derive(Drop)]
 pub struct Played {
     pub entries: u64,
@@ -106,7 +108,8 @@ struct Rooms<N: City> {
 /// Room for so many callers.
 fn reserve<N: City>(alloc: Global, count: usize) -> Result<Rooms<N>, AllocError>
     ensures empty { IfOk result (λ r. (r.passes.items ≡ []) × (r.receipts.items ≡ [])) }
-    ensures room { IfOk result (λ r. (count ≤ vec_capacity r.passes) × (count ≤ vec_capacity r.receipts)) }
+    ensures room { IfOk result
+        (λ r. (count ≤ vec_capacity r.passes) × (count ≤ vec_capacity r.receipts)) }
 {
     Ok(Rooms {
         passes: Vec::with_capacity(alloc, count)?,
@@ -151,8 +154,8 @@ fn play_within<N: City + Send + Sync, D: Disk + Drop + Send, H: Threads + Wait +
     }
 }
 
-/// Opens a hall over a book, lets so many callers play, and closes the hall, where there is memory for the passes and the
-/// receipts.
+/// Opens a hall over a book, lets so many callers play, and closes the hall, where there is memory
+/// for the passes and the receipts.
 fn play_over<N: City + Send + Sync, D: Disk + Drop + Send, H: Threads + Wait + Clock + Sync>(
     rt: &H,
     book: Book<D>,
@@ -180,8 +183,8 @@ fn play_over<N: City + Send + Sync, D: Disk + Drop + Send, H: Threads + Wait + C
     }
 }
 
-/// Opens the journal of a disk, and lets all callers of a table play in a hall over it. The names of the hall are picked at
-/// its one call.
+/// Opens the journal of a disk, and lets all callers of a table play in a hall over it. The names
+/// of the hall are picked at its one call.
 pub fn play_table<D: Disk + Drop + Send, H: Threads + Wait + Clock + Sync>(
     rt: &H,
     table: &Table,

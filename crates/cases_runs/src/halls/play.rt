@@ -140,7 +140,8 @@ fn play_others<R: Print + Threads + Wait + Clock + Sync>(
     println!(rt; "= {times} times")
 }
 
-/// Plays all callers so many times, and prints what is the same, whoever came first. A time that differs is printed too.
+/// Plays all callers so many times, and prints what is the same, whoever came first. A time that
+/// differs is printed too.
 fn play_mixed<R: Print + Threads + Wait + Clock + Sync>(
     rt: &R,
     stage: &mut Stage,

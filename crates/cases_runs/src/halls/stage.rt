@@ -114,7 +114,8 @@ impl Stage {
         }
     }
 
-    /// Has a desk over a new journal take all calls: how many entries there are then, and how many nanoseconds that took.
+    /// Has a desk over a new journal take all calls: how many entries there are then, and how many
+    /// nanoseconds that took.
     pub fn play_desk<R: Clock>(&mut self, rt: &R) -> Option<(u64, u64)> {
         let disk = self.journal()?;
         match book_of(self.alloc, disk) {
