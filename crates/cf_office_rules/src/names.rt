@@ -11,6 +11,7 @@ ghost use Rattle.cf_model.specs.Calendar as calendar;
 ghost use Rattle.cf_model.specs.Documents.{is_drawn};
 ghost use Rattle.cf_model.specs.OrderItems.{item_named};
 
+use crate::rules::or;
 use cf_base::Day;
 use cf_calls::acts::{Adoption, LineTransfer, OrderChange};
 use cf_calls::items::{AccountItem, Charge, LineAmount, SourceAmount, VoucherItem};
@@ -298,10 +299,18 @@ fn adoption_refusal(chart: &Chart, orders: &Orders, adoption: &Adoption) -> Opti
     ensures { (on : OnDay)
         → result ≡ spec.name_refusal chart.now orders.now.documents on (Act.Adopt adoption.now) }
 {
-    let fund = adoption.fund;
-    fund_refusal(chart, fund)
-        .or_else(|| lines_refusal(chart, fund, adoption.year, adoption.lines.as_slice()))
-        .or_else(|| sources_refusal(chart, fund, adoption.estimates.as_slice()))
+    or(
+        fund_refusal(chart, adoption.fund),
+        or(
+            lines_refusal(
+                chart,
+                adoption.fund,
+                adoption.year,
+                adoption.lines.as_slice(),
+            ),
+            sources_refusal(chart, adoption.fund, adoption.estimates.as_slice()),
+        ),
+    )
 }
 
 #[tactic(auto, using(cf_model::proofs::First::firsts))]
@@ -362,13 +371,10 @@ pub fn name_refusal(chart: &Chart, orders: &Orders, on: Day, act: &Act) -> Optio
             accounts_refusal(chart, document_year(chart, on, act), r.items.as_slice())
         }
         Act::Withdraw(number) => requisition_refusal(orders, *number),
-        Act::Order(o) => {
-            taken_up_refusal(chart, orders, o.requisition).or_else(|| accounts_refusal(
-                chart,
-                document_year(chart, on, act),
-                o.items.as_slice(),
-            ))
-        }
+        Act::Order(o) => or(
+            taken_up_refusal(chart, orders, o.requisition),
+            accounts_refusal(chart, document_year(chart, on, act), o.items.as_slice()),
+        ),
         Act::ChangeOrder(c) => change_refusal(chart, orders, on, c),
         Act::CancelOrder(number) => order_refusal(orders, *number),
         Act::Voucher(v) => {

@@ -22,6 +22,16 @@ use cf_office_history::History;
 use cf_register_parts::{document_year, year_of_day};
 use cf_revenue::Revenue;
 
+/// The first of two refusals.
+pub fn or(first: Option<Refusal>, second: Option<Refusal>) -> Option<Refusal>
+    ensures { result ≡ spec.or_else first second }
+{
+    match first {
+        Some(refusal) => Some(refusal),
+        None => second,
+    }
+}
+
 // ---- desks
 
 /// The chart has no such desk.
