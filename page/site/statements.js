@@ -43,6 +43,8 @@ export class Statements {
     }
 
     async changed() {
+        // What is chosen by hand comes before what an address wanted.
+        this.wanted = undefined;
         this.spanned();
         await this.show();
         this.told();

@@ -71,7 +71,8 @@ def places(stand, clerk):
 
 def chosen(stand, clerk):
     """By the fields: they are there where neither a month nor a close is chosen."""
-    go(clerk, "#statements/2026/budget", "document.querySelectorAll('#report tr').length > 5")
+    title = "document.querySelector('#report h2')?.textContent.includes('Budgetary comparison')"
+    go(clerk, "#statements/2026/budget", title)
     hidden = "document.getElementById('report-through').closest('.field').hidden"
     stand.holds("no day is asked for now", clerk.page.do(hidden))
     clerk.choose("report-at", "other")
@@ -82,7 +83,7 @@ def chosen(stand, clerk):
     stand.same(
         "what was chosen is the address",
         clerk.page.until("location.hash.includes('07-18') && location.hash"),
-        f"#statements/2026/budget/{DAY}",
+        f"#statements//budget/{DAY}",
     )
     stand.picture(clerk.page, "statement-through")
     clerk.choose("report-entries", str(PLACE))
