@@ -123,15 +123,15 @@ def printed(command, until, is_there):
                     said[key.fileobj] += piece
                     if not piece:
                         ready.unregister(key.fileobj)
-                check(said[run.stdout], until, is_there)
+                check(sum(map(len, said.values())), until, is_there)
         except (Answer, Gone):
             run.kill()
             raise
     return run.returncode, *(text.decode("utf-8", "replace") for text in said.values())
 
 
-def check(text, until, is_there):
-    if len(text) > MOST:
+def check(size, until, is_there):
+    if size > MOST:
         raise Answer(500, "books", f"The statement has more than {MOST} bytes.")
     if time.monotonic() > until:
         raise Answer(504, "time", "It takes too long. Whoever runs the machine can print it.")
@@ -218,10 +218,10 @@ class Caller(http.server.BaseHTTPRequestHandler):
 class Listener(socketserver.ThreadingMixIn, socketserver.UnixStreamServer):
     daemon_threads, request_queue_size = True, 64
 
-    def handle_error(self, *_):
+    def handle_error(self, request, client_address):
         """A caller that has gone is no fault."""
         if not isinstance(sys.exc_info()[1], (Gone, OSError)):
-            super().handle_error(*_)
+            super().handle_error(request, client_address)
 
 
 def main():
