@@ -87,23 +87,7 @@ impl Assets {
             Act::Asset(what) => self.take_asset(chart, on, what, drawn),
             Act::Close(period) => self.close(period),
             Act::Lease(lease) => self.accept_lease(chart, on, lease, drawn.number),
-            Act::Adopt(_)
-            | Act::Amend(_)
-            | Act::Transfer(_)
-            | Act::Requisition(_)
-            | Act::Withdraw(_)
-            | Act::Order(_)
-            | Act::ChangeOrder(_)
-            | Act::CancelOrder(_)
-            | Act::Pay(_)
-            | Act::Bill(_)
-            | Act::Collect(_)
-            | Act::Receive(_)
-            | Act::WriteOff(_)
-            | Act::Issue(_)
-            | Act::PayDue(_)
-            | Act::Leave(_)
-            | Act::Interfund(_) => self.count_act(),
+            _ => self.count_act(),
         }
     }
 

@@ -102,23 +102,7 @@ impl Debt {
             Act::PayDue(payment) => self.pay(payment),
             Act::Leave(leave) => self.change_leave(chart, on, leave),
             Act::Close(period) => self.close(chart, period),
-            Act::Adopt(_)
-            | Act::Amend(_)
-            | Act::Transfer(_)
-            | Act::Requisition(_)
-            | Act::Withdraw(_)
-            | Act::Order(_)
-            | Act::ChangeOrder(_)
-            | Act::CancelOrder(_)
-            | Act::Voucher(_)
-            | Act::VoidVoucher(_)
-            | Act::Pay(_)
-            | Act::Bill(_)
-            | Act::Collect(_)
-            | Act::Receive(_)
-            | Act::WriteOff(_)
-            | Act::Asset(_)
-            | Act::Interfund(_) => self.count_act(),
+            _ => self.count_act(),
         }
         drawn
     }

@@ -129,14 +129,7 @@ pub fn touched_stripes(chart: &Chart, act: &Act) -> [bool; 8]
         | Act::CancelOrder(_)
         | Act::VoidVoucher(_)
         | Act::Close(_) => marks = ALL,
-        Act::Pay(_)
-        | Act::Bill(_)
-        | Act::Collect(_)
-        | Act::Receive(_)
-        | Act::WriteOff(_)
-        | Act::Asset(_)
-        | Act::Issue(_)
-        | Act::Interfund(_) => {}
+        _ => {}
     }
     marks
 }

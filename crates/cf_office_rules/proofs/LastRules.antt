@@ -24,6 +24,10 @@ either None None (Some a) d x = refl
 either None None None (Some d) x = refl
 either None None None None x = refl
 
+or_none : (r : Option Refusal) → r ≡ or_else r None
+or_none None = refl
+or_none (Some x) = refl
+
 module _ (plan : Plan) (h : List Entry) (c : Change) where
   abbrev by_registers : Option Refusal
   by_registers = first_of (register_rules plan (registers_of plan h) c.on c.desk c.act)
@@ -50,8 +54,9 @@ module _ (plan : Plan) (h : List Entry) (c : Change) where
   pub at_room : (x : Refusal) → by_registers ≡ None → by_room ≡ Some x → Some x ≡ first_of (last_rules plan h c)
   at_room x none some = sym (split ∙ (λ i. or_else (none i) (or_else (some i) by_cash)))
 
-  pub at_cash : by_registers ≡ None → by_room ≡ None → by_cash ≡ first_of (last_rules plan h c)
-  at_cash none none' = sym (split ∙ (λ i. or_else (none i) (or_else (none' i) by_cash)))
+  pub at_cash : by_registers ≡ None → by_room ≡ None → cash_refusal plan h c.act ≡ first_of (last_rules plan h c)
+  at_cash none none' =
+      or_none (cash_refusal plan h c.act) ∙ sym (split ∙ (λ i. or_else (none i) (or_else (none' i) by_cash)))
 
   pub documents_allow : by_registers ≡ None → document_refusal plan (documents_of plan h) c.on c.desk c.act ≡ None
   documents_allow none =

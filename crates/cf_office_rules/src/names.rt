@@ -11,7 +11,6 @@ ghost use Rattle.cf_model.specs.Calendar as calendar;
 ghost use Rattle.cf_model.specs.Documents.{is_drawn};
 ghost use Rattle.cf_model.specs.OrderItems.{item_named};
 
-use crate::rules::or;
 use cf_base::Day;
 use cf_calls::acts::{Adoption, LineTransfer, OrderChange};
 use cf_calls::items::{AccountItem, Charge, LineAmount, SourceAmount, VoucherItem};
@@ -226,6 +225,17 @@ fn accounts_refusal(chart: &Chart, year: u16, items: &[AccountItem]) -> Option<R
     None
 }
 
+#[tactic(auto, using(cf_model::proofs::First::firsts))]
+fn charge_refusal(chart: &Chart, orders: &Orders, charge: Charge) -> Option<Refusal>
+    ensures { result ≡ first_refusal (spec.unknown chart.now orders.now.documents)
+        (spec.charge_names charge) }
+{
+    match charge {
+        Charge::Direct => None,
+        Charge::OnOrder { order, .. } => order_refusal(orders, order),
+    }
+}
+
 /// An item of a voucher of a fiscal year names its account, then the order that it is charged
 /// against.
 #[tactic(auto, using(cf_model::proofs::First::firsts))]
@@ -233,13 +243,11 @@ fn item_refusal(chart: &Chart, orders: &Orders, year: u16, item: &VoucherItem) -
     ensures { result ≡ first_refusal (spec.unknown chart.now orders.now.documents)
         (spec.item_names year item.now) }
 {
-    if let Some(refusal) = account_refusal(chart, year, &item.account) {
-        return Some(refusal);
-    }
-    match item.charge {
-        Charge::Direct => None,
-        Charge::OnOrder { order, .. } => or(order_refusal(orders, order), None),
-    }
+    account_refusal(chart, year, &item.account).or_else(|| charge_refusal(
+        chart,
+        orders,
+        item.charge,
+    ))
 }
 
 #[tactic(auto, using(cf_model::proofs::First::firsts))]
@@ -280,7 +288,7 @@ fn taken_up_refusal(chart: &Chart, orders: &Orders, requisition: Option<u32>) ->
         (spec.requisition_names requisition) }
 {
     match requisition {
-        Some(number) => or(requisition_refusal(orders, number), None),
+        Some(number) => requisition_refusal(orders, number),
         None => None,
     }
 }
@@ -290,18 +298,10 @@ fn adoption_refusal(chart: &Chart, orders: &Orders, adoption: &Adoption) -> Opti
     ensures { (on : OnDay)
         → result ≡ spec.name_refusal chart.now orders.now.documents on (Act.Adopt adoption.now) }
 {
-    or(
-        fund_refusal(chart, adoption.fund),
-        or(
-            lines_refusal(
-                chart,
-                adoption.fund,
-                adoption.year,
-                adoption.lines.as_slice(),
-            ),
-            sources_refusal(chart, adoption.fund, adoption.estimates.as_slice()),
-        ),
-    )
+    let fund = adoption.fund;
+    fund_refusal(chart, fund)
+        .or_else(|| lines_refusal(chart, fund, adoption.year, adoption.lines.as_slice()))
+        .or_else(|| sources_refusal(chart, fund, adoption.estimates.as_slice()))
 }
 
 #[tactic(auto, using(cf_model::proofs::First::firsts))]
@@ -309,16 +309,11 @@ fn transfer_refusal(chart: &Chart, orders: &Orders, transfer: &LineTransfer) -> 
     ensures { (on : OnDay)
         → result ≡ spec.name_refusal chart.now orders.now.documents on (Act.Transfer transfer.now) }
 {
-    or(
-        fund_refusal(chart, transfer.fund),
-        or(
-            line_refusal(chart, transfer.fund, transfer.year, transfer.from),
-            or(
-                line_refusal(chart, transfer.fund, transfer.year, transfer.to),
-                None,
-            ),
-        ),
-    )
+    let fund = transfer.fund;
+    let year = transfer.year;
+    fund_refusal(chart, fund)
+        .or_else(|| line_refusal(chart, fund, year, transfer.from))
+        .or_else(|| line_refusal(chart, fund, year, transfer.to))
 }
 
 /// The fiscal year of an order's item that is changed; that of the day where there is no such item.
@@ -341,13 +336,13 @@ fn change_refusal(chart: &Chart, orders: &Orders, on: Day, change: &OrderChange)
         (Act.ChangeOrder change.now) }
 {
     let year = changed_year(chart, orders, on, change);
-    or(
-        order_refusal(orders, change.order),
-        or(
-            any_account_refusal(chart, year, change.fund, change.dept, change.object),
-            None,
-        ),
-    )
+    order_refusal(orders, change.order).or_else(|| any_account_refusal(
+        chart,
+        year,
+        change.fund,
+        change.dept,
+        change.object,
+    ))
 }
 
 /// The first name of an act that there is nothing of, but for acts on bills, assets, debt and
@@ -359,21 +354,23 @@ pub fn name_refusal(chart: &Chart, orders: &Orders, on: Day, act: &Act) -> Optio
 {
     match act {
         Act::Adopt(a) => adoption_refusal(chart, orders, a),
-        Act::Amend(a) => or(
-            fund_refusal(chart, a.fund),
-            or(line_refusal(chart, a.fund, a.year, a.line), None),
-        ),
+        Act::Amend(a) => {
+            fund_refusal(chart, a.fund).or_else(|| line_refusal(chart, a.fund, a.year, a.line))
+        }
         Act::Transfer(t) => transfer_refusal(chart, orders, t),
         Act::Requisition(r) => {
             accounts_refusal(chart, document_year(chart, on, act), r.items.as_slice())
         }
-        Act::Withdraw(number) => or(requisition_refusal(orders, *number), None),
-        Act::Order(o) => or(
-            taken_up_refusal(chart, orders, o.requisition),
-            accounts_refusal(chart, document_year(chart, on, act), o.items.as_slice()),
-        ),
+        Act::Withdraw(number) => requisition_refusal(orders, *number),
+        Act::Order(o) => {
+            taken_up_refusal(chart, orders, o.requisition).or_else(|| accounts_refusal(
+                chart,
+                document_year(chart, on, act),
+                o.items.as_slice(),
+            ))
+        }
         Act::ChangeOrder(c) => change_refusal(chart, orders, on, c),
-        Act::CancelOrder(number) => or(order_refusal(orders, *number), None),
+        Act::CancelOrder(number) => order_refusal(orders, *number),
         Act::Voucher(v) => {
             items_refusal(
                 chart,
@@ -382,14 +379,11 @@ pub fn name_refusal(chart: &Chart, orders: &Orders, on: Day, act: &Act) -> Optio
                 v.items.as_slice(),
             )
         }
-        Act::VoidVoucher(number) => or(voucher_refusal(orders, *number), None),
+        Act::VoidVoucher(number) => voucher_refusal(orders, *number),
         Act::Pay(p) => vouchers_refusal(orders, p.vouchers.as_slice()),
-        Act::Bill(b) => or(any_source_refusal(chart, b.source), None),
-        Act::Receive(r) => or(any_source_refusal(chart, r.source), None),
-        Act::Interfund(m) => or(
-            fund_refusal(chart, m.from),
-            or(fund_refusal(chart, m.to), None),
-        ),
+        Act::Bill(b) => any_source_refusal(chart, b.source),
+        Act::Receive(r) => any_source_refusal(chart, r.source),
+        Act::Interfund(m) => { fund_refusal(chart, m.from).or_else(|| fund_refusal(chart, m.to)) }
         Act::Collect(_)
         | Act::WriteOff(_)
         | Act::Asset(_)

@@ -12,7 +12,6 @@ ghost use Rattle.cf_model.specs.RegisterRules as spec;
 ghost use Rattle.cf_model.specs.Rules as rules;
 
 use crate::names::{account_refusal_if, fund_refusal, undrawn, unknown};
-use crate::rules::or;
 use cf_assets::Assets;
 use cf_base::Day;
 use cf_calls::acts::{AssetAct, DebtPayment, LeaveAct};
@@ -94,24 +93,11 @@ fn payment_refusal(chart: &Chart, year: u16, payment: &DebtPayment) -> Option<Re
     let dept = payment.dept;
     let principal = payment.principal;
     let interest = payment.interest;
-    or(
-        account_refusal_if(
-            chart,
-            is_principal(chart, principal),
-            year,
-            fund,
-            dept,
-            principal,
-        ),
-        account_refusal_if(
-            chart,
-            is_interest(chart, interest),
-            year,
-            fund,
-            dept,
-            interest,
-        ),
-    )
+    let is_fit = is_principal(chart, principal);
+    account_refusal_if(chart, is_fit, year, fund, dept, principal).or_else(|| {
+        let is_fit = is_interest(chart, interest);
+        account_refusal_if(chart, is_fit, year, fund, dept, interest)
+    })
 }
 
 /// A fund and a department.
@@ -119,7 +105,7 @@ pub fn leave_refusal(chart: &Chart, fund: u16, dept: u16) -> Option<Refusal>
     ensures { result ≡ rules.or_else (spec.unknown_fund chart.now fund)
         (spec.unknown_dept chart.now dept) }
 {
-    or(fund_refusal(chart, fund), dept_refusal(chart, dept))
+    fund_refusal(chart, fund).or_else(|| dept_refusal(chart, dept))
 }
 
 fn asset_act_refusal(chart: &Chart, registers: &Registers, act: &AssetAct) -> Option<Refusal>
@@ -128,14 +114,15 @@ fn asset_act_refusal(chart: &Chart, registers: &Registers, act: &AssetAct) -> Op
         (Act.Asset act.now) }
 {
     match act {
-        AssetAct::Donate(gift) => or(
-            dept_refusal(chart, gift.dept),
-            capital_refusal(chart, gift.object),
-        ),
-        AssetAct::Dispose(disposal) => or(
-            asset_refusal(registers.assets(), disposal.asset),
-            fund_refusal(chart, disposal.fund),
-        ),
+        AssetAct::Donate(gift) => {
+            dept_refusal(chart, gift.dept).or_else(|| capital_refusal(chart, gift.object))
+        }
+        AssetAct::Dispose(disposal) => {
+            asset_refusal(registers.assets(), disposal.asset).or_else(|| fund_refusal(
+                chart,
+                disposal.fund,
+            ))
+        }
     }
 }
 
@@ -192,14 +179,12 @@ pub fn register_name_refusal(
         Act::WriteOff(part) => bill_refusal(registers.revenue(), part.bill),
         Act::Asset(asset) => asset_act_refusal(chart, registers, asset),
         Act::Issue(bond) => fund_refusal(chart, bond.fund),
-        Act::PayDue(payment) => or(
-            bond_refusal(registers.debt(), payment.bond),
-            payment_refusal(
-                chart,
-                payment_year(chart, registers.debt(), on, payment.bond),
-                payment,
-            ),
-        ),
+        Act::PayDue(payment) => {
+            let debt = registers.debt();
+            bond_refusal(debt, payment.bond).or_else(|| {
+                payment_refusal(chart, payment_year(chart, debt, on, payment.bond), payment)
+            })
+        }
         Act::Leave(leave) => leave_act_refusal(chart, registers, on, leave),
         Act::Lease(lease) => leased_refusal(chart, on, &lease.account),
         Act::Adopt(_)

@@ -22,16 +22,6 @@ use cf_office_history::History;
 use cf_register_parts::{document_year, year_of_day};
 use cf_revenue::Revenue;
 
-/// The first of two refusals.
-pub fn or(first: Option<Refusal>, second: Option<Refusal>) -> Option<Refusal>
-    ensures { result ≡ spec.or_else first second }
-{
-    match first {
-        Some(refusal) => Some(refusal),
-        None => second,
-    }
-}
-
 // ---- desks
 
 /// The chart has no such desk.
@@ -177,8 +167,8 @@ fn asset_amount_refusal(act: &AssetAct) -> Option<Refusal>
     ensures { result ≡ first_refusal spec.bad_amount (spec.asset_amounts act.now) }
 {
     match act {
-        AssetAct::Donate(gift) => or(one_amount_refusal(gift.amount), None),
-        AssetAct::Dispose(disposal) => or(amount_or_none_refusal(disposal.proceeds), None),
+        AssetAct::Donate(gift) => one_amount_refusal(gift.amount),
+        AssetAct::Dispose(disposal) => amount_or_none_refusal(disposal.proceeds),
     }
 }
 
@@ -187,9 +177,9 @@ fn leave_amount_refusal(act: &LeaveAct) -> Option<Refusal>
     ensures { result ≡ first_refusal spec.bad_amount (spec.leave_amounts act.now) }
 {
     match act {
-        LeaveAct::Earn(leave) => or(one_amount_refusal(leave.amount), None),
-        LeaveAct::Use(leave) => or(one_amount_refusal(leave.amount), None),
-        LeaveAct::Mature(leave) => or(one_amount_refusal(leave.amount), None),
+        LeaveAct::Earn(leave) => one_amount_refusal(leave.amount),
+        LeaveAct::Use(leave) => one_amount_refusal(leave.amount),
+        LeaveAct::Mature(leave) => one_amount_refusal(leave.amount),
     }
 }
 
@@ -199,31 +189,34 @@ pub fn amount_refusal(act: &Act) -> Option<Refusal>
     ensures { result ≡ spec.amount_refusal act.now }
 {
     match act {
-        Act::Adopt(a) => or(
-            lines_amount_refusal(a.lines.as_slice()),
-            sources_amount_refusal(a.estimates.as_slice()),
-        ),
-        Act::Amend(a) => or(one_amount_refusal(a.by.unsigned_abs()), None),
-        Act::Transfer(t) => or(one_amount_refusal(t.amount), None),
+        Act::Adopt(a) => {
+            lines_amount_refusal(a.lines.as_slice()).or_else(|| sources_amount_refusal(
+                a.estimates.as_slice(),
+            ))
+        }
+        Act::Amend(a) => one_amount_refusal(a.by.unsigned_abs()),
+        Act::Transfer(t) => one_amount_refusal(t.amount),
         Act::Requisition(r) => accounts_amount_refusal(r.items.as_slice()),
         Act::Order(o) => accounts_amount_refusal(o.items.as_slice()),
-        Act::ChangeOrder(c) => or(one_amount_refusal(c.by.unsigned_abs()), None),
+        Act::ChangeOrder(c) => one_amount_refusal(c.by.unsigned_abs()),
         Act::Voucher(v) => items_amount_refusal(v.items.as_slice()),
-        Act::Bill(b) => or(one_amount_refusal(b.amount), None),
-        Act::Collect(part) => or(one_amount_refusal(part.amount), None),
-        Act::Receive(r) => or(one_amount_refusal(r.amount), None),
-        Act::WriteOff(part) => or(one_amount_refusal(part.amount), None),
+        Act::Bill(b) => one_amount_refusal(b.amount),
+        Act::Collect(part) => one_amount_refusal(part.amount),
+        Act::Receive(r) => one_amount_refusal(r.amount),
+        Act::WriteOff(part) => one_amount_refusal(part.amount),
         Act::Asset(asset) => asset_amount_refusal(asset),
-        Act::Issue(bond) => or(
-            one_amount_refusal(bond.amount),
-            principals_amount_refusal(bond.principals.as_slice()),
-        ),
+        Act::Issue(bond) => {
+            one_amount_refusal(bond.amount).or_else(|| principals_amount_refusal(
+                bond.principals.as_slice(),
+            ))
+        }
         Act::Leave(leave) => leave_amount_refusal(leave),
-        Act::Interfund(m) => or(one_amount_refusal(m.amount), None),
-        Act::Lease(lease) => or(
-            one_amount_refusal(lease.account.amount),
-            principals_amount_refusal(lease.principals.as_slice()),
-        ),
+        Act::Interfund(m) => one_amount_refusal(m.amount),
+        Act::Lease(lease) => {
+            one_amount_refusal(lease.account.amount).or_else(|| principals_amount_refusal(
+                lease.principals.as_slice(),
+            ))
+        }
         Act::Withdraw(_)
         | Act::CancelOrder(_)
         | Act::VoidVoucher(_)
@@ -267,10 +260,10 @@ fn stated_refusal(first_open: u16, act: &Act) -> Option<Refusal>
     ensures { result ≡ first_refusal (spec.not_open first_open) (spec.stated_years act.now) }
 {
     match act {
-        Act::Adopt(a) => or(open_refusal(first_open, a.year), None),
-        Act::Amend(a) => or(open_refusal(first_open, a.year), None),
-        Act::Transfer(t) => or(open_refusal(first_open, t.year), None),
-        Act::Bill(b) => or(open_refusal(first_open, b.levy_year), None),
+        Act::Adopt(a) => open_refusal(first_open, a.year),
+        Act::Amend(a) => open_refusal(first_open, a.year),
+        Act::Transfer(t) => open_refusal(first_open, t.year),
+        Act::Bill(b) => open_refusal(first_open, b.levy_year),
         Act::Requisition(_)
         | Act::Withdraw(_)
         | Act::Order(_)
@@ -299,10 +292,7 @@ pub fn year_refusal(history: &History, on: Day, act: &Act) -> Option<Refusal>
 {
     let first_open = history.open_year();
     let year = year_of_day(history.chart(), on);
-    or(
-        open_refusal(first_open, year),
-        stated_refusal(first_open, act),
-    )
+    open_refusal(first_open, year).or_else(|| stated_refusal(first_open, act))
 }
 
 /// The fiscal year of the month that is closed is too far ahead, or the year isn't the next one to
@@ -423,23 +413,22 @@ pub fn closed_refusal(history: &History, on: Day, act: &Act) -> Option<Refusal>
 {
     let first_open = history.open_year();
     match act {
-        Act::Adopt(a) => or(closed_year_refusal(first_open, a.year), None),
-        Act::Amend(a) => or(closed_year_refusal(first_open, a.year), None),
-        Act::Transfer(t) => or(closed_year_refusal(first_open, t.year), None),
-        Act::Bill(b) => or(closed_year_refusal(first_open, b.levy_year), None),
+        Act::Adopt(a) => closed_year_refusal(first_open, a.year),
+        Act::Amend(a) => closed_year_refusal(first_open, a.year),
+        Act::Transfer(t) => closed_year_refusal(first_open, t.year),
+        Act::Bill(b) => closed_year_refusal(first_open, b.levy_year),
         Act::ChangeOrder(c) => closed_year_refusal_if(
             first_open,
             history.orders().item_year(c.order, c.item),
         ),
-        Act::Voucher(_) => or(
-            closed_year_refusal(first_open, document_year(history.chart(), on, act)),
-            None,
-        ),
+        Act::Voucher(_) => {
+            closed_year_refusal(first_open, document_year(history.chart(), on, act))
+        }
         Act::VoidVoucher(number) => closed_year_refusal_if(
             first_open,
             history.orders().voucher_year(*number),
         ),
-        Act::Close(Period::Year(year)) => or(closed_year_refusal(first_open, *year), None),
+        Act::Close(Period::Year(year)) => closed_year_refusal(first_open, *year),
         Act::Requisition(_)
         | Act::Withdraw(_)
         | Act::Order(_)
@@ -524,10 +513,7 @@ fn unadopted_item_refusal(history: &History, year: u16, item: &VoucherItem) -> O
         (spec.funds_if_direct item.now.charge item.now.account.fund) }
 {
     match &item.charge {
-        Charge::Direct => or(
-            unadopted_fund_refusal(history, item.account.fund, year),
-            None,
-        ),
+        Charge::Direct => unadopted_fund_refusal(history, item.account.fund, year),
         Charge::OnOrder { .. } => None,
     }
 }
@@ -557,8 +543,8 @@ pub fn unadopted_refusal(history: &History, on: Day, act: &Act) -> Option<Refusa
     ensures { result ≡ spec.unadopted_refusal history.now.plan history.now.entries on act.now }
 {
     match act {
-        Act::Amend(a) => or(unadopted_fund_refusal(history, a.fund, a.year), None),
-        Act::Transfer(t) => or(unadopted_fund_refusal(history, t.fund, t.year), None),
+        Act::Amend(a) => unadopted_fund_refusal(history, a.fund, a.year),
+        Act::Transfer(t) => unadopted_fund_refusal(history, t.fund, t.year),
         Act::Requisition(r) => {
             let year = document_year(history.chart(), on, act);
             unadopted_accounts_refusal(history, year, r.items.as_slice())
@@ -573,14 +559,11 @@ pub fn unadopted_refusal(history: &History, on: Day, act: &Act) -> Option<Refusa
         }
         Act::Leave(LeaveAct::Mature(leave)) => {
             let year = document_year(history.chart(), on, act);
-            or(unadopted_fund_refusal(history, leave.fund, year), None)
+            unadopted_fund_refusal(history, leave.fund, year)
         }
         Act::Lease(lease) => {
             let year = document_year(history.chart(), on, act);
-            or(
-                unadopted_fund_refusal(history, lease.account.fund, year),
-                None,
-            )
+            unadopted_fund_refusal(history, lease.account.fund, year)
         }
         Act::Adopt(_)
         | Act::Withdraw(_)

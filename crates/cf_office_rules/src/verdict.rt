@@ -18,8 +18,8 @@ use crate::names::name_refusal;
 use crate::register_names::register_name_refusal;
 use crate::rules::{
     adopted_refusal, ahead_refusal, amount_refusal, closed_refusal, closing_refusal, desk_refusal,
-    full_refusal, levy_refusal, or, payment_refusal, period_refusal, role_refusal,
-    unadopted_refusal, year_refusal,
+    full_refusal, levy_refusal, payment_refusal, period_refusal, role_refusal, unadopted_refusal,
+    year_refusal,
 };
 use crate::windows::window_refusal;
 use cf_calls::{Change, Refusal, Verdict};
@@ -31,10 +31,10 @@ fn first_rules(history: &History, change: &Change) -> Option<Refusal>
     ensures { result ≡ rules.first_of
         (step.first_rules history.now.plan history.now.entries change.now) }
 {
-    or(
-        desk_refusal(history.chart(), change.desk),
-        or(ahead_refusal(change.after, history.len()), None),
-    )
+    desk_refusal(history.chart(), change.desk).or_else(|| ahead_refusal(
+        change.after,
+        history.len(),
+    ))
 }
 
 /// The rules of the desk's role, the history's length, amounts and names.
@@ -45,22 +45,11 @@ fn call_rules(history: &History, change: &Change) -> Option<Refusal>
 {
     let chart = history.chart();
     let act = &change.act;
-    if let Some(refusal) = role_refusal(chart, change.desk, act) {
-        return Some(refusal);
-    }
-    if let Some(refusal) = full_refusal(history.len()) {
-        return Some(refusal);
-    }
-    if let Some(refusal) = amount_refusal(act) {
-        return Some(refusal);
-    }
-    if let Some(refusal) = name_refusal(chart, history.orders(), change.on, act) {
-        return Some(refusal);
-    }
-    or(
-        register_name_refusal(chart, history.registers(), change.on, act),
-        None,
-    )
+    role_refusal(chart, change.desk, act)
+        .or_else(|| full_refusal(history.len()))
+        .or_else(|| amount_refusal(act))
+        .or_else(|| name_refusal(chart, history.orders(), change.on, act))
+        .or_else(|| register_name_refusal(chart, history.registers(), change.on, act))
 }
 
 /// The rules of periods and adopted budgets.
@@ -69,31 +58,17 @@ fn period_rules(history: &History, change: &Change) -> Option<Refusal>
     ensures { result ≡ rules.first_of
         (step.period_rules history.now.plan history.now.entries change.now) }
 {
-    if let Some(refusal) = period_refusal(history, change.on) {
-        return Some(refusal);
-    }
-    if let Some(refusal) = year_refusal(history, change.on, &change.act) {
-        return Some(refusal);
-    }
-    if let Some(refusal) = closing_refusal(history, change.on, &change.act) {
-        return Some(refusal);
-    }
-    if let Some(refusal) = levy_refusal(history, change.on, &change.act) {
-        return Some(refusal);
-    }
-    if let Some(refusal) = closed_refusal(history, change.on, &change.act) {
-        return Some(refusal);
-    }
-    if let Some(refusal) = adopted_refusal(history, &change.act) {
-        return Some(refusal);
-    }
-    if let Some(refusal) = unadopted_refusal(history, change.on, &change.act) {
-        return Some(refusal);
-    }
-    if let Some(refusal) = payment_refusal(history, &change.act) {
-        return Some(refusal);
-    }
-    or(window_refusal(history, change.on, &change.act), None)
+    let on = change.on;
+    let act = &change.act;
+    period_refusal(history, on)
+        .or_else(|| year_refusal(history, on, act))
+        .or_else(|| closing_refusal(history, on, act))
+        .or_else(|| levy_refusal(history, on, act))
+        .or_else(|| closed_refusal(history, on, act))
+        .or_else(|| adopted_refusal(history, act))
+        .or_else(|| unadopted_refusal(history, on, act))
+        .or_else(|| payment_refusal(history, act))
+        .or_else(|| window_refusal(history, on, act))
 }
 
 /// The first broken rule of the registers.
@@ -130,7 +105,7 @@ fn last_rules(history: &History, change: &Change) -> Option<Refusal>
     if let Some(refusal) = exceed_refusal(history, change) {
         return Some(refusal);
     }
-    or(cash_refusal(history, change.on, &change.act), None)
+    cash_refusal(history, change.on, &change.act)
 }
 
 /// The rules after a repeat, the least broken one first.

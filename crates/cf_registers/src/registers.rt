@@ -108,16 +108,11 @@ impl Registers {
         requires { is_day on ≡ true }
         ensures { result ≡ first_of (register_rules chart.now self.now.registers on desk act.now) }
     {
-        if let Some(refusal) = self.orders.check(chart, on, desk, act) {
-            return Some(refusal);
-        }
-        if let Some(refusal) = self.revenue.check(chart, on, desk, act) {
-            return Some(refusal);
-        }
-        if let Some(refusal) = self.assets.check(chart, on, act) {
-            return Some(refusal);
-        }
-        self.debt.check(chart, on, desk, act)
+        self.orders
+            .check(chart, on, desk, act)
+            .or_else(|| self.revenue.check(chart, on, desk, act))
+            .or_else(|| self.assets.check(chart, on, act))
+            .or_else(|| self.debt.check(chart, on, desk, act))
     }
 
     /// Takes all memory of an act. The registers stay.

@@ -21,7 +21,7 @@ returns-in-Some-exceed_refusal c =
 
 pub returns : goal.returns
 returns c =
-    c.or.ensures ∙ ap (λ o. or_else o None) c.cash_refusal.ensures
+    c.cash_refusal.ensures
     ∙ at_cash c.args.history.now.plan c.args.history.now.entries c.args.change.now
     (sym c.register_refusal.ensures ∙ none_is c.register_refusal.result c.in_default.not-Some)
     (sym c.exceed_refusal.ensures ∙ none_is c.exceed_refusal.result c.in_default-exceed_refusal.not-Some)
