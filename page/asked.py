@@ -42,7 +42,7 @@ from kept import BY_DAY, KINDS
 
 SECONDS, WAITING = 60, 8
 HEAD = 5  # seconds until the head of a request is there
-MOST = 8 * 2**20  # bytes that are taken of `books`; the longest chart has a statement of two million
+MOST = 8 * 2**20  # bytes of `books`; the longest chart has a statement of two million
 REFUSED = (20, 22, 23)  # the statuses of `books` for a day and for a number of entries
 PATH = "/asked"
 

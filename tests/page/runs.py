@@ -127,8 +127,8 @@ HOLD = """(() => { const real = window.fetch; window.fetch = async (...words) =>
 
 
 def later(stand):
-    """Vouchers that a run has paid aren't ticked any more, wherever the clerk is when the answers come, and before the lists are made
-    anew.
+    """Vouchers that a run has paid aren't ticked any more, wherever the clerk is when the answers
+    come, and before the lists are made anew.
     """
     clerk = stand.clerk("treasury")
     page = clerk.page

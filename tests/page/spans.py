@@ -1,6 +1,6 @@
-"""Statements that no list keeps: through any day and at any entry, printed and as a sheet; questions
-out of form; callers at once, one that goes, one that waits too long; and a page without what makes
-them.
+"""Statements that no list keeps: through any day and at any entry, printed and as a sheet;
+questions out of form; callers at once, one that goes, one that waits too long; and a page without
+what makes them.
 """
 import csv
 import os

@@ -1,5 +1,5 @@
-"""What the tests of the page stand on: the program behind the proxy, the lists, what makes statements that are asked for, and a browser
-with a context a user.
+"""What the tests of the page stand on: the program behind the proxy, the lists, what makes
+statements that are asked for, and a browser with a context a user.
 """
 import json
 import os
