@@ -1,4 +1,4 @@
-"""Runs `books`, which only reads a journal, for lists.py."""
+"""Runs `books`, which only reads a journal, for lists.py and asked.py."""
 import csv
 import subprocess
 
@@ -13,12 +13,15 @@ class Books:
     def __init__(self, program, journal, entries=None):
         self.program, self.journal, self.entries = program, journal, entries
 
+    def command(self, *words):
+        """The words of a list: the program first, the journal last."""
+        at = [] if self.entries is None else ["--entries", str(self.entries)]
+        return [self.program, *words, *at, self.journal]
+
     def lines(self, *words):
         """The lines of a list, as they come. Where the program fails a fault follows the last."""
-        at = [] if self.entries is None else ["--entries", str(self.entries)]
-        command = [self.program, *words, *at, self.journal]
         pipes = {"stdout": subprocess.PIPE, "stderr": subprocess.PIPE}
-        with subprocess.Popen(command, encoding="utf-8", **pipes) as run:
+        with subprocess.Popen(self.command(*words), encoding="utf-8", **pipes) as run:
             yield from run.stdout
             said = run.stderr.read().strip()
         # 13: what stands before a damage is given. That the journal is damaged the service says.

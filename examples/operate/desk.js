@@ -80,6 +80,14 @@ function post(r) {
     r.internalRedirect('@doors');
 }
 
+// A statement is made for this server's own pages, and for programs.
+function asked(r) {
+    if (isForeign(r.headersIn)) {
+        return said(r, 403, {proxy: 'a foreign page'});
+    }
+    r.internalRedirect('@asked');
+}
+
 // Who asks, and for which desk: 0 where for none.
 function whoami(r) {
     said(r, 200, {user: r.variables.remote_user, desk: Number(r.variables.cityfund_desk) || 0});
@@ -156,4 +164,4 @@ function entered(r, data, flags) {
     r.sendBuffer(data, flags);
 }
 
-export default {post, whoami, entered};
+export default {post, asked, whoami, entered};

@@ -142,7 +142,8 @@ export class Doors extends EventTarget {
     }
 }
 
-function reasonOf(status, reply) {
+/** Why no answer came, by its status. */
+export function reasonOf(status, reply) {
     if (status === 403 && reply.includes('not this user')) return 'another user has signed in in this browser: load the page again';
     if (status === 403) return 'the proxy doesn’t let this user speak for this desk';
     if (status === 401) return 'the password is asked for';

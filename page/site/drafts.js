@@ -21,11 +21,30 @@ export class Drafts {
         for (const item of form.querySelectorAll('.item')) {
             items.push(Object.fromEntries([...item.querySelectorAll('[name]')].map(input => [input.name, input.type === 'checkbox' ? input.checked : input.value])));
         }
+        this.store(name, {fields, items, ownKey, key: form.elements.key.value, ticked: [...ticked]});
+    }
+
+    store(name, draft) {
         try {
-            sessionStorage.setItem(this.mark + name, JSON.stringify({fields, items, ownKey, key: form.elements.key.value, ticked: [...ticked]}));
+            sessionStorage.setItem(this.mark + name, JSON.stringify(draft));
         } catch {
             // Without room the form alone has it.
         }
+    }
+
+    /**
+     * What was taken while another form was shown is half filled in no more. Vouchers that were
+     * paid aren't ticked.
+     */
+    took({call: name, key, family, text}) {
+        const draft = this.of(name);
+        if (!draft) return;
+        const {vouchers = []} = JSON.parse(text);
+        const ticked = draft.ticked.filter(number => !vouchers.includes(number));
+        // The calls of a family have numbers behind the key of the form.
+        const isWhole = family ? key.startsWith(draft.key + '-') && !ticked.length : draft.key === key;
+        if (isWhole) this.forget(name);
+        else if (vouchers.length) this.store(name, {...draft, ticked});
     }
 
     forget(name) {

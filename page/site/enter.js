@@ -408,7 +408,7 @@ export class Enter {
     async answered(call, reply) {
         const said = JSON.parse(call.text), about = call.about || this.calls.about(said);
         const which = reply.no && said.vouchers ? refusedVouchers(said, reply.no, this.lists, this.vendors, this.words) : '';
-        if (reply.ok) this.lists.took(said, reply.ok, reply.at);
+        if (reply.ok) this.lists.took(said, reply.ok);
         if (reply.no?.was) await this.lists.find(reply.no.was).catch(() => {});
         const {kind, text, todo} = this.words.of(reply, call.call);
         const what = reply.ok ? ` ${[about, local(call.made)].filter(Boolean).join(', ')}.` : '';
@@ -418,24 +418,20 @@ export class Enter {
         if (reply.ok || which) this.run?.renew();
     }
 
-/**
- * Begins a new form where what this one says was taken. Of a payment run what wasn't taken stays
- * ticked.
- */
+    /**
+     * Begins a new form where what this one says was taken. Of a payment run what wasn't taken
+     * stays ticked.
+     */
     done(call) {
-        const form = byId('form'), isShown = this.context?.name === call.call;
-        if (isShown && this.run) this.run.took(JSON.parse(call.text).vouchers);
+        if (this.context?.name !== call.call) return this.drafts.took(call);
+        const form = byId('form');
+        if (this.run) this.run.took(JSON.parse(call.text).vouchers);
         const isDone = call.family ? !this.run?.ticked.size : form.elements.key?.value === call.key;
-        if (isShown && isDone) {
-            const isAt = [form, byId('prepared')].some(part => part.contains(document.activeElement)) || document.activeElement === document.body;
-            this.drafts.forget(call.call);
-            this.show();
-            if (isAt) form.elements.on.focus({preventScroll: true});
-        } else if (isShown) {
-            this.keep();
-        } else if (this.drafts.of(call.call)?.key === call.key) {
-            this.drafts.forget(call.call);
-        }
+        if (!isDone) return this.keep();
+        const isAt = [form, byId('prepared')].some(part => part.contains(document.activeElement)) || document.activeElement === document.body;
+        this.drafts.forget(call.call);
+        this.show();
+        if (isAt) form.elements.on.focus({preventScroll: true});
     }
 }
 

@@ -1,6 +1,9 @@
 // The lists beside the doors, which a timer makes of what `books` prints of the journal: what is
 // open, documents, entries, ledgers, and the statements and months that are kept. They are some
-// minutes old; what became of an open document a door is asked.
+// minutes old; what became of an open document a door is asked. A statement that isn't kept is made
+// when it is asked for.
+
+import {reasonOf} from './doors.js';
 
 const DOCUMENT = ['kind', 'number', 'item', 'day', 'desk', 'key', 'party', 'fund', 'dept', 'object', 'line', 'source', 'year', 'cents', 'left', 'state',
     'paid', 'run', 'entries'];
@@ -16,9 +19,11 @@ export class Lists {
 
     async load() {
         const [state, open] = await Promise.all([got('data/state.json'), got('data/open.json')]);
-        // Lists from before this page's own last call would show again what it ended.
-        if (!(state.entries < this.own)) Object.assign(this, {state, open});
-        else this.state = state;
+        Object.assign(this, {state, open});
+        // What this browser ended since they were made would be shown again, also after a reload.
+        for (const {text, reply} of this.doors.kept()) {
+            if (reply?.ok && (reply.was ?? reply.at) > state.entries) this.took(JSON.parse(text), reply.ok);
+        }
         this.vendors.take(await got('data/vendors.json').catch(() => ({vendors: [], fault: ''})));
     }
 
@@ -31,10 +36,9 @@ export class Lists {
         return (this.open[kind] || []).find(each => each.number === Number(number));
     }
 
-    /** What this page's own call did, until the lists are made anew. */
-    took(call, ok, at) {
+    /** What a call of this browser did, until the lists are made anew. */
+    took(call, ok) {
         const number = ok[call.call], {open} = this;
-        this.own = Math.max(at || 0, this.own || 0);
         if (number && open[call.call] && !this.document(call.call, number)) {
             const items = call.items?.map(item => [item.fund, item.dept, item.object, item.amount]);
             const cents = items ? items.reduce((all, item) => all + item[3], 0) : call.amount;
@@ -78,6 +82,20 @@ export class Lists {
     /** The rows of a kept statement or month, as `books` prints them. */
     keptRows({year, kind, at}) {
         return got(kind === 'month' ? `data/month-${at}.json` : `data/statement-${year}-${kind}-${at}.json`);
+    }
+
+    /**
+     * The names and rows of a statement of the first entries, and through a day where one is said;
+     * or a fault with what is said in its place. Without `entries` it is of all that this browser
+     * knows of.
+     */
+    async asked({year, kind, through, entries}, signal) {
+        const count = entries || String(Math.max(this.state.entries || 0, this.doors.seen));
+        const words = {year, kind, entries: count, ...through && {through}};
+        const answer = await fetch('/asked?' + new URLSearchParams(words), {cache: 'no-store', signal});
+        const said = await answer.json().catch(() => ({}));
+        if (answer.ok) return {...said, entries: count};
+        throw new Error(said.says || `The statement can’t be made now: ${reasonOf(answer.status, '')}.`);
     }
 
     /** Rows of a kind of papers, of all years or of the last ones. */

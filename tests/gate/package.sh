@@ -85,7 +85,7 @@ cp "$scratch/desk.js" "$city/examples/operate/desk.js"
 dpkg-deb --fsys-tarfile "$made" | tar -tv > "$scratch/list"
 ! grep -vE '^[-dl]r[-w]xr-xr-x root/root|^-rw-r--r-- root/root' "$scratch/list"
 verdict "all belongs to root, and others only read" $?
-! awk '{ print $6 }' "$scratch/list" | grep -vE '^\./(opt/(cityfund/.*)?|usr/(lib/(systemd/(system/(cityfund(-page|-ship|-trail)?\.(service|timer))?)?)?)?)?$'
+! awk '{ print $6 }' "$scratch/list" | grep -vE '^\./(opt/(cityfund/.*)?|usr/(lib/(systemd/(system/(cityfund(-asked|-page|-ship|-trail)?\.(service|timer))?)?)?)?)?$'
 verdict "all stands in /opt/cityfund but the units" $?
 mkdir "$scratch/raw"
 dpkg-deb --raw-extract "$made" "$scratch/raw"

@@ -1,6 +1,7 @@
 """The lists of the page (page/lists.py) of the journal in a folder, beside what `books` says:
 
-    listed.py books BOOKS FOLDER           what is open, each document, and the ledger of each line
+    listed.py books BOOKS FOLDER           what is open, each document, the ledger of each line, and
+                                           what the next payment of a debt comes to
     listed.py skips BOOKS FOLDER WHAT..    where rows can't be read, that is said, with the time
 
 It says the first difference, with status 1.
@@ -16,6 +17,9 @@ from records import rows_of
 
 HERE = os.path.dirname(os.path.abspath(__file__))
 TOP = os.path.dirname(os.path.dirname(HERE))
+sys.path.append(os.path.join(TOP, "page"))
+from papers import Debt
+
 PAGE = {"issue": "bond", "lease": "bond"}  # what the page calls what `books` lists
 SUMS = {"final": -5, "on_order": -4, "actual": -2}  # of a line, in the columns of its ledger
 
@@ -39,6 +43,11 @@ class Lists:
     def file(self, name):
         with open(os.path.join(self.out, name), encoding="utf-8") as file:
             return json.load(file)
+
+    def lines(self, *words):
+        journal = os.path.join(self.folder, "fund.journal")
+        done = subprocess.run([self.books, *words, journal], stdout=subprocess.PIPE, check=True)
+        return done.stdout.decode().splitlines()
 
     def rows(self, *words):
         return rows_of(self.books, os.path.join(self.folder, "fund.journal"), *words)
@@ -132,6 +141,24 @@ def lines(lists):
     )
 
 
+def debts(lists):
+    """What the page says that a debt's next payment pays is what the books list of the payment."""
+    calls = [json.loads(line) for line in lists.lines("calls")]
+    found = {}
+    for row, call in zip(lists.rows("list"), calls):
+        if call["call"] == "pay_due":
+            debt = found[call["bond"]]
+            same(f"the payment at {row['place']}", sum(debt.due()), cents(row["amount"]))
+            debt.pay(call)
+        elif "principals" in call:
+            found[int(row["number" if call["call"] == "issue" else "second"])] = Debt(call)
+    same(
+        "what debts pay next",
+        {number: due for number, (due, _) in lists.file("debts.json").items()},
+        {str(number): debt.due() for number, debt in found.items()},
+    )
+
+
 def skips(lists, *skipped):
     moment = datetime.datetime.fromisoformat(lists.state["made"])
     if not 0 <= (datetime.datetime.now(datetime.timezone.utc) - moment).total_seconds() < 600:
@@ -160,3 +187,4 @@ if __name__ == "__main__":
         opened(made)
         documents(made)
         lines(made)
+        debts(made)

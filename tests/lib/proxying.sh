@@ -10,8 +10,9 @@ module=/usr/lib/nginx/modules/ngx_http_js_module.so
 # of a city. `installed` names another folder that stands for /opt/cityfund than this checkout.
 placed() {
     sed -e "s|/etc/cityfund/|$etc/|g" -e "s|/opt/cityfund/|${installed:-$top}/|g" -e "s|/var/lib/cityfund-page|$etc/page|g" \
-        -e "s|/var/log/nginx/|$etc/|g" -e "s|/var/log/cityfund/|$etc/|g" -e "s|listen 80 |listen 127.0.0.1:$plain |" \
-        -e "s|listen 443 |listen 127.0.0.1:$port |" -e "s|127.0.0.1:8101|127.0.0.1:$first|" -e "s|127.0.0.1:8102|127.0.0.1:$((first + 1))|" \
+        -e "s|/run/cityfund-asked|$etc/asked|g" -e "s|/var/log/nginx/|$etc/|g" -e "s|/var/log/cityfund/|$etc/|g" \
+        -e "s|listen 80 |listen 127.0.0.1:$plain |" -e "s|listen 443 |listen 127.0.0.1:$port |" \
+        -e "s|127.0.0.1:8101|127.0.0.1:$first|" -e "s|127.0.0.1:8102|127.0.0.1:$((first + 1))|" \
         -e "s|127.0.0.1:8103|127.0.0.1:$((first + 2))|" -e "s|127.0.0.1:8104|127.0.0.1:$((first + 3))|" "${installed:-$top}/examples/operate/$1"
 }
 
@@ -19,7 +20,7 @@ placed() {
 # `url`, `plain`, the port without TLS, and `proxy`, the process.
 proxying() {
     etc=${etc:-$scratch/etc}
-    mkdir -p "$etc/tls" "$etc/page"
+    mkdir -p "$etc/tls" "$etc/page" "$etc/asked"
     port=${site:-$(PYTHONPATH=$top/tests/lib python3 -c 'import doors; print(doors.free_ports(2))')}
     plain=${bare:-$((port + 1))}
     url=https://localhost:$port

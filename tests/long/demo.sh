@@ -50,6 +50,9 @@ for signal in TERM INT HUP; do
     verdict "its lists" $?
     asked auditor /desk/data/vendors.json | grep -q '"fault":""'
     verdict "its vendors" $?
+    day=$(asked auditor /desk/data/state.json | sed 's/.*"last":"\([0-9-]*\)".*/\1/')
+    asked auditor "/asked?year=2027&kind=balance&entries=100&through=$day" | grep -q '^{"names":\["section","name","amount"\],"rows":\[\['
+    verdict "its statements" $?
     kill "-$signal" "$demo"
     wait "$demo"
     verdict "it ends by $signal" $?

@@ -18,7 +18,7 @@ PATH=$PATH:/usr/sbin
 . tests/lib/program.sh
 books=${BOOKS:-$(built books)}
 scratch=$(mktemp -d) || exit 1
-trap 'kill $serving $proxy $keeping 2> /dev/null; rm -rf "$scratch"' EXIT
+trap 'kill $serving $proxy $keeping $making 2> /dev/null; rm -rf "$scratch"' EXIT
 . tests/lib/expect.sh
 
 # missing TOOL..: says which tool isn't there.
@@ -72,6 +72,8 @@ if part units; then
     has cityfund.service "After=local-fs.target nftables.service"
     has cityfund.service "TimeoutStartSec=15min"
     has cityfund-ship.service "StateDirectory=cityfund-ship"
+    has cityfund-asked.service "RuntimeDirectoryMode=0750"
+    has cityfund-asked.service "PrivateNetwork=yes"
     grep -q '^ExecStart=.* ssh .* -o ServerAliveInterval=15 ' examples/operate/cityfund-ship.service
     verdict "a link to the second machine that breaks without a word is noticed" $?
 fi
@@ -264,6 +266,23 @@ if part page; then
     asked "who asks without a desk" auditor 200 '^{"user":"auditor","desk":0}$' "$url/whoami"
     asked "who asks without a password" - 401 "" "$url/whoami"
     asked "signing out" payables 401 "You are signed out" "$url/signout"
+
+    # A statement that the page asks for, made by page/asked.py behind its socket.
+    question="$url/asked?year=2026&kind=balance&entries=1"
+    asked "a statement that nobody makes" auditor 502 '^{"proxy":"no door"}$' "$question"
+    page/asked.py "$books" "$scratch/serving/fund.journal" "$etc/asked/door" &
+    making=$!
+    for try in $(seq 100); do [ ! -S "$etc/asked/door" ] || break; sleep 0.1; done
+    asked "a statement" auditor 200 '^{"names":\["section","name","amount"\],"rows":\[\["General Fund","Cash","0.00"\],' "$question"
+    asked "a statement through a day" auditor 200 '^{"names":' "$question&through=2025-07-18"
+    asked "a statement without a password" - 401 "" "$question"
+    asked "a statement for a foreign page" auditor 403 '^{"proxy":"a foreign page"}$' --header 'Sec-Fetch-Site: cross-site' "$question"
+    asked "a question with a body" auditor 200 '^{"names":' --request GET --data x "$question"
+    asked "a change of a statement" council 403 "" --data x "$question"
+    asked "a question with another word" auditor 400 '"fault":"journal"' "$question&journal=/etc/passwd"
+    asked "a question with a word twice" auditor 400 '"fault":"entries"' "$question&entries=0"
+    asked "a question whose path is in percents" auditor 404 "" "$url/%61sked?year=2026&kind=balance&entries=1"
+    kill $making
 fi
 
 if part slow; then
@@ -303,7 +322,7 @@ fi
 
 if part rate; then
     # One user asks for more than its rate. Another one at the same address goes on.
-    said=$(python3 tests/lib/asking.py "$url" "$etc")
+    said=$(python3 tests/lib/hasty.py "$url" "$etc")
     [ "$said" = "bounded 200" ]
     verdict "a user's rate: $said" $?
     sleep 3

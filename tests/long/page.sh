@@ -9,7 +9,7 @@ top=$(pwd)
 if [ -z "$PARTS" ]; then
     # What is asked of the books has a city of its own, whose first months are open.
     PARTS="entering faults slips runs looking traps words" sh "$top/tests/long/page.sh" &&
-        PARTS=asking sh "$top/tests/long/page.sh"
+        PARTS="spans asking" sh "$top/tests/long/page.sh"
     exit
 fi
 PATH=$PATH:/usr/sbin

@@ -1,15 +1,13 @@
 """What the page finds and adds up: documents, entries, ledgers, a line's documents, months, and the
-ten statements as of now, through a day and at an entry; and an order that a void opens again behind
-the close of its year.
+statements that are kept; and an order that a void opens again behind the close of its year.
 """
 import csv
-import json
 import os
 import shutil
 import tempfile
 
 from looking import money, ON_PAPER, SHEETS
-from records import rows_of
+from shown import books, CELLS, cents, go, ROWS, statement
 
 MOVED = ("appropriated", "ordered", "held", "spent")
 LOOK = {
@@ -18,8 +16,6 @@ LOOK = {
     "held": "held",
     "spent": "expended",
 }
-CELLS = ".map(row => [...row.children].map(cell => cell.textContent))"
-ROWS = "[...document.querySelectorAll('{} tbody tr')]" + CELLS
 TEXT = "document.getElementById('{}').textContent"
 
 
@@ -75,20 +71,6 @@ def debt(stand):
             "interest": 821,
         }
     )
-
-
-def books(stand, *words):
-    """The rows of a list as dictionaries."""
-    return rows_of(stand.books, os.path.join(stand.journal, "fund.journal"), *words)
-
-
-def cents(text):
-    return int(text.replace(".", "").replace(",", "") or 0)
-
-
-def go(clerk, address, until):
-    clerk.page.do(f"location.hash = {json.dumps(address)}; true")
-    return clerk.page.until(until)
 
 
 def said_with(words, name):
@@ -397,7 +379,7 @@ def kept(clerk):
 
 def statements(stand, clerk):
     """Each kind that is kept, with its rows and its span."""
-    shown, spans = {}, {}
+    spans = {}
     for year, kind, at, (entries, _) in kept(clerk):
         if kind != "month" and year == 2026:
             spans.setdefault(
@@ -410,36 +392,10 @@ def statements(stand, clerk):
             wanted[:3],
         )
         for kind, at, entries in {kind: each for each in wanted for kind in [each[0]]}.values():
-            words = (
-                ["--through", at]
-                if span == "day"
-                else ["--entries", str(at)]
-                if span == "place"
-                else []
-            )
-            rows = books(stand, "statement", "2026", kind, *words)
+            words = {"day": ["--through", at], "place": ["--entries", str(at)]}.get(span, [])
             text = {"now": "As of", "day": "Through", "place": "As it stood at entry"}[span]
-            clerk.page.do("document.getElementById('report').replaceChildren(); true")
-            go(
-                clerk,
-                f"#statements/2026/{kind}/{at}",
-                f"/{text}/.test(document.querySelector('#report .span')?.textContent)",
-            )
-            cells = [row for row in clerk.page.do(ROWS.format("#report")) if any(row[1:])]
-            names = [
-                name
-                for name in rows[0]
-                if name not in ("section", "name", "line", "part", "part_name")
-            ]
-            amounts = [[money(cents(row[name])) for name in names if row[name]] for row in rows]
-            stand.same(
-                f"the statement {kind} {span} {at}",
-                [[cell for cell in row[1:] if cell] for row in cells],
-                amounts,
-            )
-            said = clerk.page.do("document.querySelector('#report .span').textContent")
-            if (kind, span) == ("balance", "day"):
-                stand.picture(clerk.page, "statement-through")
+            address = f"#statements/2026/{kind}/{at}"
+            said = statement(stand, clerk, address, text, "2026", kind, *words)
             stand.holds(
                 f"its entries: {kind} {at}", said.endswith(f"entries 1 to {entries}."), said
             )

@@ -27,7 +27,7 @@ class Browser:
 
         # Root has no sandbox; the page comes from this machine alone.
         words = ["chromium", "--headless=new", "--no-sandbox", "--disable-gpu", "--remote-debugging-pipe", "--ignore-certificate-errors",
-                 "--no-first-run", "--disable-background-networking", "--user-data-dir=" + self.profile, "--window-size=" + size, "about:blank"]
+                 "--no-first-run", "--disable-background-networking", "--hide-scrollbars", "--user-data-dir=" + self.profile, "--window-size=" + size, "about:blank"]
         self.run = subprocess.Popen(words, preexec_fn=descriptors, close_fds=False, stdout=subprocess.DEVNULL, stderr=subprocess.DEVNULL)
         os.close(to_read)
         os.close(to_write)

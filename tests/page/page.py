@@ -17,6 +17,7 @@ import faults
 import looking
 import runs
 import slips
+import spans
 import traps
 import words
 from stand import Stand
@@ -28,7 +29,7 @@ def main():
         parts = os.environ.get("PARTS", "entering faults slips runs looking traps words").split()
         if "entering" not in parts:
             entering.send(stand)
-        for part in (entering, faults, slips, runs, looking, traps, words, asking):
+        for part in (entering, faults, slips, runs, looking, traps, words, spans, asking):
             if part.__name__ in parts:
                 part.run(stand)
         stand.verdicts.same("no fault in the console of a page", stand.logs(), [])

@@ -27,6 +27,7 @@ def run(stand):
     stand.make_lists()
     many(stand)
     short(stand)
+    later(stand)
     papers(stand)
     names(stand)
     behind(stand)
@@ -117,6 +118,72 @@ def short(stand):
     stand.same("its vouchers stay ticked", clerk.page.do(TICKED), 3)
     stand.ask({"call": "pay", "desk": 15, "key": "run-late", "on": DAY, "vouchers": [made[0], made[2]]})
     clerk.page.close()
+
+
+# A run's calls come through only after so many milliseconds.
+HOLD = """(() => { const real = window.fetch; window.fetch = async (...words) => {
+    if (words[0] === '/calls' && words[1].body.includes('"key":"run-')) await new Promise(go => setTimeout(go, %d));
+    return real(...words); }; })()"""
+
+
+def later(stand):
+    """Vouchers that a run has paid aren't ticked any more, wherever the clerk is when the answers
+    come, and before the lists are made anew.
+    """
+    clerk = stand.clerk("treasury")
+    page = clerk.page
+    sent(stand, clerk, "50", 1500)
+    clerk.choose("call", "collect")
+    page.until("document.querySelectorAll('#said > div').length >= 2")
+    clerk.choose("call", "pay")
+    unticked(stand, clerk, "another form")
+    for paper, address in (("51", "#enter/collect"), ("52", "#enter/pay"), ("53", "#lines")):
+        before = stand.entries() + LATER
+        sent(stand, clerk, paper, 600000)
+        page.go(f"{stand.url}/desk/?{paper}{address}")
+        clerk.begin()
+        stand.holds(f"a run is paid after a reload at {address}", stand.waited(lambda: stand.entries() == before + 2), stand.entries() - before)
+        page.until("document.getElementById('waiting').hidden")
+        if address == "#lines":
+            clerk.view("enter")
+        if address != "#enter/pay":
+            clerk.choose("call", "pay")
+        unticked(stand, clerk, f"a reload at {address}")
+        page.go(f"{stand.url}/desk/?again{paper}#enter/pay")
+        clerk.begin()
+        unticked(stand, clerk, f"a reload at {address}, and another one")
+    page.close()
+
+
+LATER = 66  # vouchers, which are two calls
+
+
+def sent(stand, clerk, paper, held):
+    """Sends a run of vouchers of their own, and holds its calls."""
+    for place in range(LATER):
+        stand.ask({"call": "voucher", "desk": 4, "key": f"later-{paper}-{place}", "on": DAY, "vendor": 652,
+                   "items": [{"fund": 1, "dept": 40, "object": 522, "amount": 100}]})
+    stand.make_lists()
+    clerk.page.do("dispatchEvent(new Event('focus')); true")
+    clerk.fill({"call": "pay", "on": DAY}, paper=paper)
+    clerk.page.until(f"/later-{paper}-65/.test(document.querySelector('#form .run').textContent)")
+    clerk.page.do("clerk.set(document.getElementById('form').elements['run-vendor'], '652')")
+    clerk.page.do(BUTTON.format("Tick all shown"))
+    stand.same(f"ticked: run {paper}", clerk.page.do(TICKED), LATER)
+    clerk.page.do(HOLD % held)
+    clerk.page.do(SUBMIT)
+    clerk.page.until(SAID)
+    clerk.page.do("clerk.confirm()")
+    clerk.page.until(f"document.getElementById('waiting').textContent.includes('run-{paper}-1')")
+
+
+def unticked(stand, clerk, when):
+    """The form of a run is a new one, and lists nothing that was paid."""
+    form = "document.getElementById('form')"
+    clerk.page.until(f"{form}.elements.paper")
+    said = clerk.page.do(f"[{TICKED}, {form}.elements.paper.value, {form}.querySelector('.run-funds + .total').textContent]")
+    stand.same(f"nothing is ticked after {when}", said, [0, "", ""])
+    stand.holds(f"nothing that was paid is listed after {when}", "later-" not in clerk.text("form"), clerk.text("form")[:300])
 
 
 def papers(stand):

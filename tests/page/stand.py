@@ -1,4 +1,6 @@
-"""What the tests of the page stand on: the program behind the proxy, the lists, and a browser with a context a user."""
+"""What the tests of the page stand on: the program behind the proxy, the lists, what makes
+statements that are asked for, and a browser with a context a user.
+"""
 import json
 import os
 import subprocess
@@ -20,13 +22,21 @@ CLOCK = """(() => { const Real = Date; window.ahead = Number(sessionStorage.getI
         static now() { return Real.now() + shift + window.ahead; } }; })()"""
 
 
+# Prints what `books` does, late by as many seconds as a file `slow` says.
+SLOW = """#!/bin/sh
+[ ! -s '{0}/slow' ] || sleep "$(cat '{0}/slow')"
+exec '{1}' "$@"
+"""
+
+
 class Stand:
     def __init__(self, url, journal, lists, program, first, pictures=None):
         self.url, self.journal, self.lists, self.program, self.first, self.pictures = url, journal, lists, program, int(first), pictures
         self.books = os.environ["BOOKS"]
         self.verdicts, self.browser = doors.Verdicts("page"), Browser()
-        self.contexts, self.pages, self.serving = {}, [], None
+        self.contexts, self.pages, self.serving, self.asked = {}, [], None, None
         self.start()
+        self.answer()
 
     def start(self):
         words = ["serve", "--port", str(self.first), "--doors", "4", "--links", "1000000"]
@@ -37,7 +47,33 @@ class Stand:
         self.serving.kill()
         self.serving.wait()
 
+    def answer(self, seconds=9):
+        """Starts what makes statements when they are asked for, each in so many seconds at most."""
+        self.silence()
+        program = os.path.join(self.journal, "books")
+        with open(program, "w", encoding="utf-8", opener=lambda path, flags: os.open(path, flags, 0o755)) as file:
+            file.write(SLOW.format(self.journal, self.books))
+        door = os.path.join(os.path.dirname(self.lists), "asked", "door")
+        words = [os.path.join(TOP, "page", "asked.py"), program, os.path.join(self.journal, "fund.journal"), door, str(seconds)]
+        self.asked = subprocess.Popen([sys.executable, *words])
+        while not os.path.exists(door) and self.asked.poll() is None:
+            time.sleep(0.05)
+
+    def silence(self):
+        """Ends it, and its socket."""
+        if self.asked:
+            self.asked.kill()
+            self.asked.wait()
+            self.asked = None
+            os.unlink(os.path.join(os.path.dirname(self.lists), "asked", "door"))
+
+    def slow(self, seconds):
+        """Statements that are asked for come late by so many seconds."""
+        with open(os.path.join(self.journal, "slow"), "w", encoding="utf-8") as file:
+            file.write(str(seconds or ""))
+
     def end(self):
+        self.silence()
         self.kill()
         self.browser.end()
 

@@ -1,5 +1,5 @@
 """Asks a proxy for more than a user may have at an address, of a file of the page, and then
-for a look by another user: asking.py URL FOLDER, with the folder's certificate. Run by
+for a look by another user: hasty.py URL FOLDER, with the folder's certificate. Run by
 tests/long/operate.sh."""
 import base64
 import concurrent.futures
