@@ -18,10 +18,8 @@ function = [
 ]
 fund = [
   { id = 1, name = \"General Fund\", type = \"general\", level = \"object\", policy = \"lapse\" },
-  { id = 2, name = \"Grant Fund\", type = \"special_revenue\", level = \"object\", policy =
-      \"lapse\" },
-  { id = 3, name = \"Building Fund\", type = \"capital_projects\", level = \"department\", policy =
-      \"carry\" },
+  { id = 2, name = \"Grant Fund\", type = \"special_revenue\", level = \"object\", policy = \"lapse\" },
+  { id = 3, name = \"Building Fund\", type = \"capital_projects\", level = \"department\", policy = \"carry\" },
 ]
 department = [
   { id = 1, name = \"Dept 1\", function = 1 },
@@ -45,8 +43,7 @@ object = [
 source = [
   { id = 1, name = \"Property tax\", fund = 1, kind = \"property_tax\", window = 60 },
   { id = 4, name = \"Fees\", fund = 1, kind = \"general\", window = 30 },
-  { id = 5, name = \"State grant\", fund = 2, kind = \"operating_grant\", function = 2, window =
-      60 },
+  { id = 5, name = \"State grant\", fund = 2, kind = \"operating_grant\", function = 2, window = 60 },
   { id = 6, name = \"Investment income\", fund = 3, kind = \"general\", window = 30 },
 ]
 line = [
@@ -101,9 +98,7 @@ desk = [
   { id = 7, name = \"Desk 7\", roles = [\"assets\"] },
   { id = 8, name = \"Desk 8\", roles = [\"payroll\"] },
   { id = 9, name = \"Desk 9\", roles = [\"controller\"] },
-  { id = 10, name = \"Desk 10\", roles =
-      [\"council\", \"dept\", \"purchasing\", \"payables\", \"treasury\", \"revenue\", \"assets\",
-        \"payroll\", \"controller\"] },
+  { id = 10, name = \"Desk 10\", roles = [\"council\", \"dept\", \"purchasing\", \"payables\", \"treasury\", \"revenue\", \"assets\", \"payroll\", \"controller\"] },
 ]
 ";
 
