@@ -1,9 +1,12 @@
 #!/bin/sh
-# Tries the lists of `books` on the journals of the examples (lists.py): posts and balances beside the looks of a desk and beside what
-# the independent office makes of the same talk, row by row; what is open beside the looks at each number; and each statement beside the
-# records of `report`, with the names of funds and control lines. Then that a row which is changed, lost or moved is seen; two lists
-# of Rivertown's first day, worked by hand; and that the lists of the page (page/lists.py, tried by listed.py) have what is open, each
-# document and the ledger of each line, and go on where a row can't be read. BOOKS names another program than the one that rt built last.
+# Tries the lists of `books` on the journals of the examples (lists.py): posts and balances beside
+# the looks of a desk and beside what the independent office makes of the same talk, row by row;
+# what is open beside the looks at each number; and each statement beside the records of `report`,
+# with the names of funds and control lines. Then that a row which is changed, lost or moved is
+# seen; lists of Rivertown's first day and the ledger of a line of the town, worked by hand; and
+# that the lists of the page (page/lists.py, tried by listed.py) have what is open, each document
+# and the ledger of each line, and go on where a row can't be read. BOOKS names another program
+# than the one that rt built last.
 cd "$(dirname "$0")/../.." || exit 1
 top=$(pwd)
 . tests/lib/program.sh
@@ -96,6 +99,15 @@ expect "what vendors were paid in the year before" 0 "vendor,document,number,key
 expect "what is open of the first day" 0 "call,number,item,day,desk,key,party,year,line,fund_name,dept_name,open,next,closed
 bill,1,,2025-07-06,6,l1,5,2026,,,,900.00,,
 voucher,2,,2025-07-05,4,v2,77,2026,,,,400.00,," open --csv
+
+# ---- a ledger that was worked by hand
+
+# gate/books/streets.csv is the ledger of line 53, Streets in the Street Fund, over the town's year.
+# It was worked by hand, row by row, from the calls and replies of examples/town as text, and by no
+# program. What its rows of 2026 spend, 1430370.70, is Line 53 of the town's stored comparison.
+founded examples/town/year.jsonl
+(cd "$scratch" && "$books" ledger --line 53 --csv) | diff tests/gate/books/streets.csv -
+verdict "the ledger of Streets, worked by hand" $?
 
 # ---- what a spreadsheet takes for a formula
 

@@ -1,7 +1,8 @@
 """What `books` says through a day, of a history's first entries, and by what is asked, beside the independent office (../office):
 
     asked.py BOOKS FOLDER CHART TALK [PLACES DAYS]    at so many places and days of the talk
-    asked.py BOOKS FOLDER CHART TALK whole            the ledger of each line, source, vendor and department
+    asked.py BOOKS FOLDER CHART TALK whole            the ledger of each line, source, vendor and department, each month, and the
+                                                      statements through the end of each
     asked.py BOOKS FOLDER random TALKS CALLS [FIRST]  random talks of so many calls each (../office/talks.py), from a seed on
 
 The office writes the talk's journal into the folder, by docs/JOURNAL.md, and makes each list of the talk's calls alone. Says each
@@ -11,6 +12,7 @@ import concurrent.futures
 import csv
 import datetime
 import io
+import itertools
 import json
 import os
 import subprocess
@@ -19,7 +21,7 @@ from collections import Counter
 
 sys.path.insert(0, os.path.join(os.path.dirname(os.path.abspath(__file__)), "..", "office"))
 from answers import chart_of  # noqa: E402
-from asked_of import LEDGER, MONTH, PAID, LedgerFilter, Month, guarded, ledger, open_rows, paid  # noqa: E402
+from asked_of import LEDGER, MONTH, PAID, LedgerFilter, Month, guarded, ledger, month_end, open_rows, paid  # noqa: E402
 from documented import DOCUMENTS, KINDS, Documents, DocumentFilter, documents  # noqa: E402
 from lists import HEADS, balances_of, city_accounts, fund_accounts, named_rows  # noqa: E402
 from statements import COMMAND_TITLES, money  # noqa: E402
@@ -220,13 +222,32 @@ class Asked:
         first = max("1971-01-01", str(datetime.date(*self.whole.month_at(0), 1)))
         return sorted({max(first, days[round((len(days) - 1) * part / max(1, count - 1))]) for part in range(count)})
 
-    def at_months(self, most=24):
-        """The months from that of the first entry to the one behind that of the last."""
+    def months(self, most):
+        """The months from that of the first entry to the one behind that of the last, as (year, month)."""
         days = [call["on"] for call in self.taken]
         first, last = ((int(day[:4]), int(day[5:7])) for day in (min(days), max(days)))
-        for number in range(self.whole.number_of(*first), min(self.whole.number_of(*last) + 2, self.whole.number_of(*first) + most)):
-            if self.whole.month_at(number)[0] >= 1971:
-                self.of_month(self.whole, *self.whole.month_at(number))
+        numbers = range(self.whole.number_of(*first), min(self.whole.number_of(*last) + 2, self.whole.number_of(*first) + most))
+        return [month for month in map(self.whole.month_at, numbers) if month[0] >= 1971]
+
+    def at_months(self, most=24):
+        for month in self.months(most):
+            self.of_month(self.whole, *month)
+
+    def at_month_ends(self, most=24):
+        """The statements of each fiscal year through the last day of each month."""
+        months = self.months(most)
+        years = sorted({self.whole.fiscal_year(*month) for month in months})
+        for day in (str(month_end(*month)) for month in months):
+            of = self.whole.through(day)
+            for year, kind in itertools.product(years, THROUGH):
+                self.of_statement(self.whole, of, year, kind, ["--through", day])
+
+    def of_quiet_lines(self):
+        """The ledger of each line that nothing moved."""
+        moved = {row.line for row in self.whole.rows}
+        for number in range(len(self.whole.chart["line"])):
+            if number not in moved:
+                self.of_ledger(LedgerFilter(line=number))
 
     def at_days(self, count):
         for day in self.some_days(count):
@@ -249,6 +270,9 @@ def compared(asked, *counts):
     faults = asked.posts_differ()
     if counts == ("whole",):
         asked.of_filters(10**6)
+        asked.of_quiet_lines()
+        asked.at_months()
+        asked.at_month_ends()
     else:
         places, days = map(int, counts or (10, 10))
         asked.at_places(places)

@@ -1,7 +1,9 @@
 #!/bin/sh
-# What `books` says when it is asked, beside the independent office (lib/asked.py): of the year of a town (examples/town) the
-# ledger of each line, source, vendor, fund and department; and all lists of random talks, 20 of 800 calls or
-# as many as the arguments say. BOOKS names another program than the one that rt built last.
+# What `books` says when it is asked, beside the independent office (lib/asked.py): of the year of
+# a town (examples/town) the ledger of each line, source, vendor, fund and department, each month,
+# and five statements of each fiscal year through each month's end; and all lists of random talks,
+# 20 of 800 calls or as many as the arguments say. BOOKS names another program than the one that rt
+# built last.
 cd "$(dirname "$0")/../.." || exit 1
 top=$(pwd)
 . tests/lib/built.sh
