@@ -4,8 +4,8 @@
 # chart that stands beside it, with the statements that stand beside a talk. The journal of each talk is read by its
 # format alone (journal.py). Then, where no talk is named: a journal that an earlier program wrote (examples/older/), a
 # month's interest that is shared among the funds (examples/pooled/), a year of one grant (examples/grants/), the day of
-# examples/two-runs/ by two desks, one after the other, what founding and opening refuse, and where the doors of `serve`
-# listen (listens.py).
+# examples/two-runs/ by two desks, one after the other, what founding and opening refuse, where the doors of `serve`
+# listen (listens.py), and how long they wait for a silent peer (waits.py).
 cd "$(dirname "$0")/../.." || exit 1
 top=$(pwd)
 . tests/lib/program.sh
@@ -255,6 +255,12 @@ fresh rivertown
 expect "found for doors" 0 founded found
 (cd "$scratch" && python3 "$top/tests/lib/listens.py" "$city/out/cityfund")
 verdict "where doors listen" $?
+
+# A door waits ten seconds for a peer that is silent.
+fresh rivertown
+expect "found for patience" 0 founded found
+(cd "$scratch" && python3 "$top/tests/lib/waits.py" "$city/out/cityfund")
+verdict "how long doors wait" $?
 
 # Two doors are served at once.
 fresh rivertown

@@ -273,6 +273,29 @@ def slow_and_silent():
     ends("slow and silent links", serve, 0, "served 6 links\n")
 
 
+def untaken():
+    """A link whose answers nobody takes is ended: each write waits ten seconds for room, and one that found room for a part of
+    its bytes is followed by another. Then the link behind it is answered."""
+    found()
+    serve = Serve(PROGRAM, 1, 2)
+    start = time.time()
+    with serve.link(0) as stuck:
+        stuck.socket.setsockopt(socket.SOL_SOCKET, socket.SO_RCVBUF, 4096)
+        stuck.socket.settimeout(1)
+        try:
+            while True:
+                stuck.socket.send(1000 * get("/reports/2026/operating"))
+        except socket.timeout:
+            pass
+        with serve.link(0) as behind:
+            behind.socket.settimeout(2 * PATIENCE)
+            answer = behind.ask(get("/lines/0/2026"))
+    waited = time.time() - start
+    verdicts.same("a link behind one that takes nothing is answered", answer and answer.code, 200)
+    verdicts.verdict("after its patience, for a few writes", 10 <= waited < 45, f"{waited:.1f} s")
+    ends("a link that takes nothing", serve, 0, "served 2 links\n")
+
+
 def lost_replies():
     """A call whose reply is lost stays: its repeat, at another door, says where it was."""
     found(adopt([(0, 100000)]))
@@ -338,7 +361,7 @@ def beside_a_desk():
 
 
 for part in (texts, a_day, two_doors_at_once, one_line_at_many_doors, half_a_call, after_across_doors, one_link_at_a_door,
-             slow_and_silent, lost_replies, a_door_that_cannot_open, no_room_for_the_last_line, beside_a_desk):
+             slow_and_silent, untaken, lost_replies, a_door_that_cannot_open, no_room_for_the_last_line, beside_a_desk):
     try:
         part()
     except (OSError, AttributeError, TypeError, KeyError) as fault:
