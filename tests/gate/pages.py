@@ -22,7 +22,7 @@ import sys
 
 TOP = os.path.join(os.path.dirname(os.path.abspath(__file__)), "..", "..")
 MADE = "docs/CLAUSES.md"
-# How many lines of more than 100 columns the crates have: texts that are printed, and tables in comments.
+# The lines of more than 100 columns that the crates have: printed texts, and tables in comments.
 WIDE = 61
 
 

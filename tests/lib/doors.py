@@ -8,6 +8,7 @@ import os
 import random
 import socket
 import subprocess
+import sys
 import tempfile
 import time
 
@@ -56,6 +57,12 @@ class Serve:
             self.kill()
             return None, "", "it goes on"
         return (self.process.returncode, *((text or b"").decode() for text in said))
+
+    def end_served(self, links):
+        """Ends this run too, with a sentence, where the program doesn't end after so many links."""
+        status, out, said = self.end()
+        if (status, out, said) != (0, f"served {links} links\n", ""):
+            sys.exit(f"serve ended with {status}, {out!r} and {said!r}")
 
 
 class Link:

@@ -11,7 +11,7 @@ DOORS = 2
 
 
 def waited(serve, door):
-    """For how many seconds a link that sends nothing is kept. One that gets an answer counts as 0."""
+    """The seconds for which a link that sends nothing is kept, or 0 where it gets an answer."""
     with serve.link(door) as link:
         link.ask(b"GET / HTTP/1.0\r\n\r\n")
     began = time.monotonic()
@@ -28,9 +28,7 @@ def main(program):
     if not 10 <= min(seconds) < 10.5:
         serve.kill()
         sys.exit(f"the doors waited {seconds} seconds for a silent peer, and not 10")
-    status, out, said = serve.end()
-    if (status, out, said) != (0, f"served {2 * DOORS} links\n", ""):
-        sys.exit(f"serve ended with {status}, {out!r} and {said!r}")
+    serve.end_served(2 * DOORS)
 
 
 main(*sys.argv[1:])

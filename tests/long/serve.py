@@ -274,8 +274,8 @@ def slow_and_silent():
 
 
 def untaken():
-    """A link whose answers nobody takes is ended: each write waits ten seconds for room, and one that found room for a part of
-    its bytes is followed by another. Then the link behind it is answered."""
+    """A link whose answers nobody takes is ended, and then the link behind it is answered. Each write
+    waits ten seconds for room, and one that found room for a part of its bytes is followed by another."""
     found()
     serve = Serve(PROGRAM, 1, 2)
     start = time.time()
