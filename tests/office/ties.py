@@ -12,7 +12,7 @@ import os
 import sys
 
 from answers import calls_in_form, office_of
-from classes import CLASSES
+from classes import CLASSES, ELEMENTS
 from stored import JOINED, RIVERTOWN, TOP, talks
 
 LAST = 9999  # through all years
@@ -32,17 +32,14 @@ def items(office, year):
 
 
 def comparison(office, year):
-    """The actual amounts of a fund's lines and sources, and the totals of its operating statement."""
+    """The actual amounts of a fund's lines and sources on the comparison, and the totals of its operating statement."""
     for fund in office.chart["fund"]:
-        lines = [
-            number for number, line in enumerate(office.chart["line"])
-            if line["fund"] == fund["id"] and line.get("later", False) == office.is_later(fund["id"], year)
-        ]
         totals = {row[0]: row[1] for row in office.operating_of(year, fund)[1:]}
-        expended = sum(office.numbers(line, year)["expended"] for line in lines)
-        yield "expended of fund %d" % fund["id"], expended, totals["Total expenditures"]
-        part = [row for row in comparison_part(office, year, fund) if not row[0].startswith("Line ")]
-        yield "revenues of fund %d" % fund["id"], sum(row[3] for row in part), totals["Total revenues"]
+        actual = {True: 0, False: 0}  # of its lines, and of its sources
+        for name, _, _, amount, *_ in comparison_part(office, year, fund):
+            actual[name.startswith("Line ")] += amount
+        yield "expended of fund %d" % fund["id"], actual[True], totals["Total expenditures"]
+        yield "revenues of fund %d" % fund["id"], actual[False], totals["Total revenues"]
 
 
 def comparison_part(office, year, fund):
@@ -59,7 +56,7 @@ def comparison_part(office, year, fund):
 
 
 def three_statements(office, year):
-    """Assets less liabilities; the funds that aren't major; the classes of a balance that isn't below zero."""
+    """Assets less liabilities; the classes of a balance, each within it where it isn't below zero; the funds that aren't major."""
     for fund in office.chart["fund"]:
         assets, liabilities, _, _ = office.elements(year, fund["id"])
         balance = office.fund_balance(year, fund["id"])
@@ -68,6 +65,19 @@ def three_statements(office, year):
         yield "classes of fund %d" % fund["id"], sum(found.values()), balance
         if balance >= 0:
             yield "classes within fund %d" % fund["id"], all(0 <= found[name] <= balance for name in CLASSES), True
+    shown, others, total = shown_funds(office, year)
+    elements = [(fund["name"], office.elements(year, fund["id"])) for fund in office.chart["fund"]]
+    for place, name in enumerate(ELEMENTS):
+        yield "%s of other funds" % name, others[place], sum(of[place] for fund, of in elements if fund not in shown)
+        yield "%s of all funds" % name, total[place], sum(of[place] for _, of in elements)
+
+
+def shown_funds(office, year):
+    """The names of the major funds, and the four elements of the others and of all."""
+    rows = office.rows_of_major(year)
+    parts = [rows[at:at + 1 + len(ELEMENTS)] for at in range(0, len(rows), 1 + len(ELEMENTS))]
+    *major, others, total = ((part[0][0], [row[1] for row in part[1:]]) for part in parts)
+    return [name for name, _ in major], others[1], total[1]
 
 
 def open_documents(office, year):
