@@ -1,12 +1,12 @@
 #!/bin/sh
 # Tries the lists of `books` on the journals of the examples (lists.py): posts and balances beside
 # the looks of a desk and beside what the independent office makes of the same talk, row by row;
-# what is open beside the looks at each number; and each statement beside the records of `report`,
-# with the names of funds and control lines. Then that a row which is changed, lost or moved is
-# seen; lists of Rivertown's first day and the ledger of a line of the town, worked by hand; and
-# that the lists of the page (page/lists.py, tried by listed.py) have what is open, each document
-# and the ledger of each line, and go on where a row can't be read. BOOKS names another program
-# than the one that rt built last.
+# what is open beside the looks at each number, with what that office asks of a debt's next payment;
+# and each statement beside the records of `report`, with the names of funds and control lines. Then
+# that a row which is changed, lost or moved is seen; lists of Rivertown's first day and the ledger
+# of a line of the town, worked by hand; and that the lists of the page (page/lists.py, tried by
+# listed.py) have what is open, each document and the ledger of each line, and go on where a row
+# can't be read. BOOKS names another program than the one that rt built last.
 cd "$(dirname "$0")/../.." || exit 1
 top=$(pwd)
 . tests/lib/program.sh
@@ -96,9 +96,9 @@ expect "what vendors were paid in the first day's year" 0 "vendor,document,numbe
 77,total,,,,,600.00
 77,voucher,1,v1,2025-07-06,p1,600.00" paid 2025 --csv
 expect "what vendors were paid in the year before" 0 "vendor,document,number,key,day,run,amount" paid 2024 --csv
-expect "what is open of the first day" 0 "call,number,item,day,desk,key,party,year,line,fund_name,dept_name,open,next,closed
-bill,1,,2025-07-06,6,l1,5,2026,,,,900.00,,
-voucher,2,,2025-07-05,4,v2,77,2026,,,,400.00,," open --csv
+expect "what is open of the first day" 0 "call,number,item,day,desk,key,party,year,line,fund_name,dept_name,open,next,due,interest,closed
+bill,1,,2025-07-06,6,l1,5,2026,,,,900.00,,,,
+voucher,2,,2025-07-05,4,v2,77,2026,,,,400.00,,,," open --csv
 
 # ---- a ledger that was worked by hand
 

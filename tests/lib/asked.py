@@ -30,7 +30,7 @@ from talks import Talk, toml_of  # noqa: E402
 
 THROUGH = ("balance", "operating", "budget", "position", "activities")  # statements that go through a day
 BALANCES = "basis fund fund_name account account_name balance".split()
-OPEN = "call number item day desk key party year line fund_name dept_name open next closed".split()
+OPEN = "call number item day desk key party year line fund_name dept_name open next due interest closed".split()
 
 
 def records_of(text, delimiter=","):

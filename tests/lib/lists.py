@@ -313,24 +313,33 @@ class Lists:
 
     def open_of(self, call, number, look):
         if call == "requisition" and look["state"] == "open":
-            return [(call, number, str(place), str(item["line"]), int(item["amount"]), "") for place, item in enumerate(look["items"], 1)]
+            return [(call, number, str(place), str(item["line"]), int(item["amount"]), "", "", "") for place, item in enumerate(look["items"], 1)]
         if call == "order":
             items = [(place, item) for place, item in enumerate(look["items"], 1) if item["state"] == "live"]
-            return [(call, number, str(place), str(item["line"]), int(item["open"]), "") for place, item in items]
+            return [(call, number, str(place), str(item["line"]), int(item["open"]), "", "", "") for place, item in items]
         if call == "bill" and int(look["left"]):
-            return [(call, number, "", "", int(look["left"]), "")]
+            return [(call, number, "", "", int(look["left"]), "", "", "")]
         if call == "voucher" and look["state"] == "open":
-            return [(call, number, "", "", int(look["amount"]), "")]
+            return [(call, number, "", "", int(look["amount"]), "", "", "")]
         if call == "bond" and look.get("next"):
-            return [(call, number, "", "", int(look["outstanding"]), look["next"])]
+            return [(call, number, "", "", int(look["outstanding"]), look["next"], *self.due(number))]
         return []
+
+    def due(self, number):
+        """What the independent office asks of a debt's next payment: principal and interest, and the interest alone."""
+        bond = self.office.bonds[number - 1]
+        interest = self.office.coupon(bond, bond["paid"] + 1)
+        return money(bond["principals"][bond["paid"]] + interest), money(interest)
 
     def test_open(self):
         entries = [json.loads(line) for line in printed(self.folder, self.books, "calls").splitlines()]
         same("the number of entries", len(entries), len(self.office.entries))
         rows = self.rows_of("open")
         found = [
-            ("bond" if row["call"] in ("issue", "lease") else row["call"], int(row["number"]), row["item"], row["line"], cents(row["open"]), row["next"])
+            (
+                "bond" if row["call"] in ("issue", "lease") else row["call"], int(row["number"]), row["item"], row["line"],
+                cents(row["open"]), row["next"], row["due"], row["interest"],
+            )
             for row in rows
             if row["call"] != "close"
         ]

@@ -179,7 +179,7 @@ def open_row(history, place, number, amount, **fields):
     call = history.entries[place - 1][0]
     party = call.get("vendor", call.get("payer", 0)) or ""
     row = dict(call=call["call"], number=number, item="", day=call["on"], desk=call["desk"], key=call["key"], party=party, year="", line="")
-    row |= dict(fund_name="", dept_name="", open=money(amount), next="", closed="") | fields
+    row |= dict(fund_name="", dept_name="", open=money(amount), next="", due="", interest="", closed="") | fields
     return [text(field) for field in row.values()]
 
 
@@ -211,10 +211,13 @@ def open_rows(history):
     for place, _, made in places:
         its = history.bonds[made["bond"] - 1] if "bond" in made else None
         if its and its["paid"] < len(its["principals"]):
-            yield open_row(history, place, made["bond"], history.owed_before(its, its["paid"] + 1), next=history.due(its, its["paid"] + 1)[1])
+            payment = its["paid"] + 1
+            interest = history.coupon(its, payment)
+            due = dict(next=history.due(its, payment)[1], due=money(its["principals"][payment - 1] + interest), interest=money(interest))
+            yield open_row(history, place, made["bond"], history.owed_before(its, payment), **due)
     for _, call, _ in places:
         if call["call"] == "close":
-            yield ["close", "", "", call["on"], str(call["desk"]), call["key"], *[""] * 7, str(call.get("month", call.get("year")))]
+            yield ["close", "", "", call["on"], str(call["desk"]), call["key"], *[""] * 9, str(call.get("month", call.get("year")))]
 
 
 # ---- what was paid in a calendar year

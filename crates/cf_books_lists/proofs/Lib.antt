@@ -5,3 +5,4 @@ pub mod RowLines
 pub mod Formulas
 mod OpenDrawn
 mod OpenSums
+mod OpenDues

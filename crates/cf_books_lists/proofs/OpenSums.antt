@@ -18,6 +18,7 @@ use Rattle.cf_calls.specs.declared.shown.Shown.TheVariants as shown
 use Rattle.cf_calls.specs.declared.shown.VoucherState.{VoucherState}
 use Rattle.cf_calls.specs.declared.shown.VoucherState.TheVariants as voucher
 use Rattle.cf_chart.specs.Plan.{Plan, line_of}
+use Rattle.cf_debt.specs.declared.debt.Due.{Due}
 use Rattle.cf_model.specs.Charted.{fund_of}
 use Rattle.cf_model.specs.Documents.{Documents, Expenditure, is_drawn, voucher_at}
 use Rattle.cf_model.specs.DocumentsShown.{item_shown, or_zero}
@@ -35,8 +36,8 @@ use Rattle.cf_registers.specs.RegistersState.{register_shown}
 use Rattle.cf_books_lists.specs.declared.open.Part.{Part}
 use Rattle.cf_books_lists.specs.declared.open.Section.{Section}
 use Rattle.cf_books_lists.specs.declared.open.Section.TheVariants.{Orders, Bills, Vouchers}
-use Rattle.cf_books_lists.specs.Open.{bill_text, debt_text, held_text, item_text, items_text, look_by, look_of, looked_text, part_text, requisition_text, section_text, shown_text, voucher_text}
-use Rattle.cf_books_lists.specs.OpenSums.{IsVoucherRow, OpenAddsUp, bill_is_of, bill_parts, debt_parts, held_parts, item_parts, of_bill, of_voucher, on_line, order_parts, parts_looked, parts_of, parts_shown, requisition_parts, rows_text, voucher_parts, voucher_rows, whole_part}
+use Rattle.cf_books_lists.specs.Open.{bill_text, debt_text, due_at, held_text, item_text, items_text, look_by, look_of, looked_text, part_text, requisition_text, section_text, shown_text, voucher_text, whole_part}
+use Rattle.cf_books_lists.specs.OpenSums.{IsVoucherRow, OpenAddsUp, bill_is_of, bill_parts, debt_parts, held_parts, item_parts, of_bill, of_voucher, on_line, order_parts, parts_looked, parts_of, parts_shown, requisition_parts, rows_text, voucher_parts, voucher_rows}
 use Rattle.cf_books_lists.proofs.OpenDrawn.{AreStates, HasState, IsBilled, IsOrdered, all_drawn, drawn_one, drew, is_bill, is_order, is_voucher, number_is}
 
 -- ---- the text is a row for each part
@@ -54,14 +55,14 @@ module _ (csv : Bool) (plan : Plan) (e : Entry) where
 
   held_are : (year place : ℕ) (items : List LineAmount) → held_text csv plan e year place items ≡ flat_map row (held_parts year place items)
   held_are year place [] = refl
-  held_are year place (i ∷ items) = ap (λ t. row (record { item = place; line = Some i.line; year = Some year; amount = i.amount; next = None }) ++ t) (held_are year (place + 1) items)
+  held_are year place (i ∷ items) = ap (λ t. row (record { item = place; line = Some i.line; year = Some year; amount = i.amount; next = None; due = None }) ++ t) (held_are year (place + 1) items)
 
   requisition_is : (items : List LineAmount) (year : ℕ) (state : RequisitionState) → requisition_text csv plan e items year state ≡ flat_map row (requisition_parts items year state)
   requisition_is items year requisition.Open = held_are year 1 items
   requisition_is items year _ = refl
 
   item_is : (place : ℕ) (i : OrderItemShown) (state : ItemState) → item_text csv plan e place i state ≡ flat_map row (item_parts place i state)
-  item_is place i item.Live = alone (record { item = place; line = Some i.line; year = Some i.year; amount = i.open_cents; next = None })
+  item_is place i item.Live = alone (record { item = place; line = Some i.line; year = Some i.year; amount = i.open_cents; next = None; due = None })
   item_is place i _ = refl
 
   items_are : (place : ℕ) (items : List OrderItemShown) → items_text csv plan e place items ≡ flat_map row (order_parts place items)
@@ -69,31 +70,31 @@ module _ (csv : Bool) (plan : Plan) (e : Entry) where
   items_are place (i ∷ items) = (λ k. item_is place i i.state k ++ items_are (place + 1) items k) ∙ sym (flat_append row (item_parts place i i.state) (order_parts (place + 1) items))
 
   voucher_is : (amount year : ℕ) (state : VoucherState) → voucher_text csv plan e amount year state ≡ flat_map row (voucher_parts amount year state)
-  voucher_is amount year voucher.Open = alone (whole_part (Some year) amount None)
+  voucher_is amount year voucher.Open = alone (whole_part (Some year) amount None None)
   voucher_is amount year _ = refl
 
   bill_is : (left year : ℕ) → bill_text csv plan e left year ≡ flat_map row (bill_parts left year)
   bill_is left year = by (left == 0)
     where
-      by : (b : Bool) → (if b then [] else row (whole_part (Some year) left None)) ≡ flat_map row (if b then [] else whole_part (Some year) left None ∷ [])
+      by : (b : Bool) → (if b then [] else row (whole_part (Some year) left None None)) ≡ flat_map row (if b then [] else whole_part (Some year) left None None ∷ [])
       by true = refl
-      by false = alone (whole_part (Some year) left None)
+      by false = alone (whole_part (Some year) left None None)
 
-  debt_is : (outstanding : ℕ) (next : Option Day) → debt_text csv plan e outstanding next ≡ flat_map row (debt_parts outstanding next)
-  debt_is outstanding None = refl
-  debt_is outstanding (Some next) = alone (whole_part None outstanding (Some next))
+  debt_is : (due : Option Due) (outstanding : ℕ) (next : Option Day) → debt_text csv plan e due outstanding next ≡ flat_map row (debt_parts due outstanding next)
+  debt_is due outstanding None = refl
+  debt_is due outstanding (Some next) = alone (whole_part None outstanding (Some next) due)
 
-  shown_is : (o : Option Shown) → shown_text csv plan e o ≡ flat_map row (parts_shown o)
-  shown_is (Some (shown.Requisition items state year)) = requisition_is items year state
-  shown_is (Some (shown.Order items vendor)) = items_are 1 items
-  shown_is (Some (shown.Voucher amount state year)) = voucher_is amount year state
-  shown_is (Some (shown.Bill left year source)) = bill_is left year
-  shown_is (Some (shown.Bond accrued next outstanding)) = debt_is outstanding next
-  shown_is _ = refl
+  shown_is : (due : Option Due) (o : Option Shown) → shown_text csv plan e due o ≡ flat_map row (parts_shown due o)
+  shown_is due (Some (shown.Requisition items state year)) = requisition_is items year state
+  shown_is due (Some (shown.Order items vendor)) = items_are 1 items
+  shown_is due (Some (shown.Voucher amount state year)) = voucher_is amount year state
+  shown_is due (Some (shown.Bill left year source)) = bill_is left year
+  shown_is due (Some (shown.Bond accrued next outstanding)) = debt_is due outstanding next
+  shown_is due _ = refl
 
   looked_is : (s : Registers) (look : Option Read) → looked_text csv plan s e look ≡ flat_map row (parts_looked plan s look)
   looked_is s None = refl
-  looked_is s (Some look) = shown_is (register_shown plan s look)
+  looked_is s (Some look) = shown_is (due_at plan s look) (register_shown plan s look)
 
 rows_are : (csv : Bool) (plan : Plan) (s : Registers) (section : Section) (entries : List Entry) → section_text csv plan s section entries ≡ rows_text csv plan s section entries
 rows_are csv plan s section [] = refl
@@ -149,7 +150,7 @@ one_bill n count bills b found e = by (is_drawn count n) e (found_passes (λ (y 
     by false e l = absurd (omega (arith, e, l))
 
 left_row : (t : Bool) (left year : ℕ) (z : Bool) → (left == 0) ≡ z →
-    int_sum (λ (p : Part). if t then pos p.amount else pos 0) (if z then [] else whole_part (Some year) left None ∷ []) ≡ (if t then pos left else pos 0)
+    int_sum (λ (p : Part). if t then pos p.amount else pos 0) (if z then [] else whole_part (Some year) left None None ∷ []) ≡ (if t then pos left else pos 0)
 left_row true left year true e = ap pos (sym (number_is left 0 e))
 left_row false left year true e = refl
 left_row t left year false e = none_last (if t then pos left else pos 0)
@@ -160,7 +161,7 @@ bill_row : (plan : Plan) (s : Registers) (fund : ℕ) (e : Entry) → ((n : ℕ)
 bill_row plan s fund e one (act.Bill l) = by (bill_at e.drawn.number s.receivables.bills) refl
   where
     by : (o : Option Bill) → bill_at e.drawn.number s.receivables.bills ≡ o →
-        int_sum (λ (p : Part). if bill_is_of plan fund o then pos p.amount else pos 0) (parts_shown (option_map (λ b. shown.Bill (left_of s.receivables.settlements b) b.levy_year b.source) o))
+        int_sum (λ (p : Part). if bill_is_of plan fund o then pos p.amount else pos 0) (parts_shown None (option_map (λ b. shown.Bill (left_of s.receivables.settlements b) b.levy_year b.source) o))
         ≡ int_sum (λ (b : Bill). if b.number == e.drawn.number then left_part plan fund s.receivables b else pos 0) s.receivables.bills
     by None found = sym (none_found (λ (b : Bill). b.number == e.drawn.number) (left_part plan fund s.receivables) s.receivables.bills found)
     by (Some b) found =
@@ -224,7 +225,7 @@ voucher_row plan s fund e is (act.Voucher v) = by (voucher_at e.drawn.number s.d
     by_state amount year voucher.Void all = closed_sum fund e.drawn.number voucher.Void s.documents.expenditures (λ amount. refl) all
 
     by : (o : Option Expenditure) → voucher_at e.drawn.number s.documents.expenditures ≡ o →
-        int_sum (of_voucher s fund e) (parts_shown (option_map (λ first. shown.Voucher (sum_by (λ x. x.account.amount) (voucher_rows s e)) first.state first.year) o))
+        int_sum (of_voucher s fund e) (parts_shown None (option_map (λ first. shown.Voucher (sum_by (λ x. x.account.amount) (voucher_rows s e)) first.state first.year) o))
         ≡ int_sum (λ (x : Expenditure). if x.voucher == e.drawn.number then open_part fund x else pos 0) s.documents.expenditures
     by None found = sym (none_found (λ (x : Expenditure). x.voucher == e.drawn.number) (open_part fund) s.documents.expenditures found)
     by (Some y) found = by_state _ y.year y.state (states_at s.documents.expenditures s.documents.vouchers e.drawn.number y is found)
@@ -238,7 +239,7 @@ amount_row plan s e (act.Voucher v) = by (voucher_at e.drawn.number s.documents.
     by_state year _ = tt
 
     by : (o : Option Expenditure) →
-        AllByRecursion (IsVoucherRow s e) (parts_shown (option_map (λ first. shown.Voucher (sum_by (λ x. x.account.amount) (voucher_rows s e)) first.state first.year) o))
+        AllByRecursion (IsVoucherRow s e) (parts_shown None (option_map (λ first. shown.Voucher (sum_by (λ x. x.account.amount) (voucher_rows s e)) first.state first.year) o))
     by None = tt
     by (Some y) = by_state y.year y.state
 amount_row plan s e _ = tt
@@ -259,7 +260,7 @@ same_test line (Some n) e = refl
 
 -- an item that isn't live has no row, and nothing open
 live_row : (stage : Stage) (finished : Bool) (place : ℕ) (i : OrderItemShown) (f : Part → ℤ) (t : Bool) (amount : ℕ) → (is_live_at stage finished ≡ false → amount ≡ 0) →
-    f (record { item = place; line = Some i.line; year = Some i.year; amount = i.open_cents; next = None }) ≡ (if t then pos amount else pos 0) →
+    f (record { item = place; line = Some i.line; year = Some i.year; amount = i.open_cents; next = None; due = None }) ≡ (if t then pos amount else pos 0) →
     int_sum f (item_parts place i (state_at stage finished)) ≡ pos (if t then amount else 0)
 live_row stage finished place i f t amount none is = by stage finished none
   where
@@ -297,7 +298,7 @@ module _ (plan : Plan) (line year : ℕ) (e : Entry) where
   order_row s lined (act.Order o) = by (find (λ (i : OrderItem). i.order == e.drawn.number) s.documents.items) refl
     where
       by : (found : Option OrderItem) → find (λ (i : OrderItem). i.order == e.drawn.number) s.documents.items ≡ found →
-          int_sum (on_line line year e) (parts_shown (option_map (λ first. shown.Order (map (item_shown plan) (filter (λ (i : OrderItem). i.order == e.drawn.number) s.documents.items)) first.vendor) found))
+          int_sum (on_line line year e) (parts_shown None (option_map (λ first. shown.Order (map (item_shown plan) (filter (λ (i : OrderItem). i.order == e.drawn.number) s.documents.items)) first.vendor) found))
           ≡ int_sum (λ (i : OrderItem). if i.order == e.drawn.number then line_part plan line year i else pos 0) s.documents.items
       by None at = sym (none_found (λ (i : OrderItem). i.order == e.drawn.number) (line_part plan line year) s.documents.items at)
       by (Some y) at =

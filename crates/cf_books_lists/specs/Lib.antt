@@ -5,5 +5,6 @@ pub mod Posts
 pub mod Balances
 pub mod Open
 pub mod OpenSums
+pub mod OpenDues
 pub mod LineNames
 pub mod Statement

@@ -1,5 +1,5 @@
--- What is open of a history, by what looks at its documents, bills and debt show, and which months
--- and fiscal years are closed.
+-- What is open of a history, by what looks at its documents, bills and debt show, what is due next
+-- of debt, and which months and fiscal years are closed.
 use Rattle.std.specs.Prelude.{ℕ, Bool, ◌+◌, ◌==◌, if◌then◌else◌, pos, List, [], ◌∷◌, ◌++◌, Option, Some, None, codes, decimal, flat_map}
 use Rattle.cf_base.specs.declared.calendar.Day.{Day}
 use Rattle.cf_base.specs.Amounts.{money_of}
@@ -24,7 +24,10 @@ use Rattle.cf_calls.specs.declared.shown.VoucherState.{VoucherState}
 use Rattle.cf_calls.specs.declared.shown.VoucherState.TheVariants as voucher
 use Rattle.cf_chart.specs.declared.rows.Line.{Line}
 use Rattle.cf_chart.specs.Plan.{Plan, department_at, fund_at, line_at}
+use Rattle.cf_debt.specs.declared.debt.Due.{Due}
+use Rattle.cf_debt.specs.Register.{due_now}
 use Rattle.cf_model.specs.Registers.{Registers, registers_of}
+use Rattle.cf_model.specs.Results.{bond_at}
 use Rattle.cf_registers.specs.RegistersState.{register_shown}
 use Rattle.cf_books_lists.specs.declared.open.Part.{Part}
 use Rattle.cf_books_lists.specs.declared.open.Section.{Section}
@@ -39,7 +42,8 @@ abbrev pub head : List (List ℕ)
 head =
     codes "call" ∷ codes "number" ∷ codes "item" ∷ codes "day" ∷ codes "desk" ∷ codes "key"
     ∷ codes "party" ∷ codes "year" ∷ codes "line"
-    ∷ codes "fund_name" ∷ codes "dept_name" ∷ codes "open" ∷ codes "next" ∷ codes "closed" ∷ []
+    ∷ codes "fund_name" ∷ codes "dept_name" ∷ codes "open" ∷ codes "next" ∷ codes "due"
+    ∷ codes "interest" ∷ codes "closed" ∷ []
 
 -- the vendor, or the payer
 abbrev pub party_of : Act → ℕ
@@ -65,6 +69,15 @@ abbrev pub next_text : Option Day → List ℕ
 next_text None = []
 next_text (Some d) = day_text d
 
+-- the principal and the interest of the payment that is due next, and the interest alone
+abbrev pub due_text : Option Due → List ℕ
+due_text None = []
+due_text (Some d) = money_of (pos (d.principal + d.interest))
+
+abbrev pub interest_text : Option Due → List ℕ
+interest_text None = []
+interest_text (Some d) = money_of (pos d.interest)
+
 abbrev pub line_of : Plan → Option ℕ → Option Line
 line_of plan None = None
 line_of plan (Some n) = line_at plan n
@@ -84,7 +97,7 @@ part_row plan e p =
     ∷ decimal e.change.desk ∷ e.change.key
     ∷ drawn_text (party_of e.change.act) ∷ number_text p.year ∷ number_text p.line
     ∷ line_fund plan (line_of plan p.line) ∷ line_department plan (line_of plan p.line)
-    ∷ money_of (pos p.amount) ∷ next_text p.next ∷ [] ∷ []
+    ∷ money_of (pos p.amount) ∷ next_text p.next ∷ due_text p.due ∷ interest_text p.due ∷ [] ∷ []
 
 abbrev pub part_text : Bool → Plan → Entry → Part → List ℕ
 part_text csv plan e p = record_text csv (part_row plan e p)
@@ -103,6 +116,7 @@ held_text csv plan e year place (i ∷ items) =
       amount = i.amount;
       next =
           None;
+      due = None;
     }) ++ held_text csv plan e year (place + 1) items
 
 -- an item of an order, where it is live
@@ -116,6 +130,7 @@ item_text csv plan e place i item.Live =
       amount = i.open_cents;
       next =
           None;
+      due = None;
     })
 item_text csv plan e place i _ = []
 
@@ -125,10 +140,12 @@ items_text csv plan e place (i ∷ items) =
     item_text csv plan e place i i.state ++ items_text csv plan e (place + 1) items
 
 -- an amount that is no item's
-abbrev pub whole_text : Bool → Plan → Entry → Option ℕ → ℕ → Option Day → List ℕ
-whole_text csv plan e year amount next =
-    part_text csv plan e
-    (record { item = 0; line = None; year = year; amount = amount; next = next })
+abbrev pub whole_part : Option ℕ → ℕ → Option Day → Option Due → Part
+whole_part year amount next due =
+    record { item = 0; line = None; year = year; amount = amount; next = next; due = due }
+
+abbrev pub whole_text : Bool → Plan → Entry → Option ℕ → ℕ → Option Day → Option Due → List ℕ
+whole_text csv plan e year amount next due = part_text csv plan e (whole_part year amount next due)
 
 abbrev pub requisition_text : Bool → Plan → Entry → List LineAmount → ℕ → RequisitionState → List ℕ
 requisition_text csv plan e items year requisition.Open = held_text csv plan e year 1 items
@@ -136,29 +153,31 @@ requisition_text csv plan e items year _ = []
 
 -- a voucher that isn't paid, and not void
 abbrev pub voucher_text : Bool → Plan → Entry → ℕ → ℕ → VoucherState → List ℕ
-voucher_text csv plan e amount year voucher.Open = whole_text csv plan e (Some year) amount None
+voucher_text csv plan e amount year voucher.Open =
+    whole_text csv plan e (Some year) amount None None
 voucher_text csv plan e amount year _ = []
 
 -- a bill of which something is left
 abbrev pub bill_text : Bool → Plan → Entry → ℕ → ℕ → List ℕ
 bill_text csv plan e left year = if left == 0 then []
-    else whole_text csv plan e (Some year) left None
+    else whole_text csv plan e (Some year) left None None
 
 -- a bond or a lease with a payment to come
-abbrev pub debt_text : Bool → Plan → Entry → ℕ → Option Day → List ℕ
-debt_text csv plan e outstanding None = []
-debt_text csv plan e outstanding (Some next) = whole_text csv plan e None outstanding (Some next)
+abbrev pub debt_text : Bool → Plan → Entry → Option Due → ℕ → Option Day → List ℕ
+debt_text csv plan e due outstanding None = []
+debt_text csv plan e due outstanding (Some next) =
+    whole_text csv plan e None outstanding (Some next) due
 
-abbrev pub shown_text : Bool → Plan → Entry → Option Shown → List ℕ
-shown_text csv plan e (Some (shown.Requisition items state year)) =
+abbrev pub shown_text : Bool → Plan → Entry → Option Due → Option Shown → List ℕ
+shown_text csv plan e due (Some (shown.Requisition items state year)) =
     requisition_text csv plan e items year state
-shown_text csv plan e (Some (shown.Order items vendor)) = items_text csv plan e 1 items
-shown_text csv plan e (Some (shown.Voucher amount state year)) =
+shown_text csv plan e due (Some (shown.Order items vendor)) = items_text csv plan e 1 items
+shown_text csv plan e due (Some (shown.Voucher amount state year)) =
     voucher_text csv plan e amount year state
-shown_text csv plan e (Some (shown.Bill left year source)) = bill_text csv plan e left year
-shown_text csv plan e (Some (shown.Bond accrued next outstanding)) =
-    debt_text csv plan e outstanding next
-shown_text csv plan e _ = []
+shown_text csv plan e due (Some (shown.Bill left year source)) = bill_text csv plan e left year
+shown_text csv plan e due (Some (shown.Bond accrued next outstanding)) =
+    debt_text csv plan e due outstanding next
+shown_text csv plan e due _ = []
 
 -- ---- the sections
 
@@ -175,9 +194,15 @@ look_by _ _ e = None
 abbrev pub look_of : Section → Entry → Option Read
 look_of section e = look_by section e.change.act e
 
+-- what is due next of the bond or the lease that a look is at
+abbrev pub due_at : Plan → Registers → Read → Option Due
+due_at plan s (read.Bond n) = due_now plan (bond_at n s.bonds)
+due_at plan s _ = None
+
 abbrev pub looked_text : Bool → Plan → Registers → Entry → Option Read → List ℕ
 looked_text csv plan s e None = []
-looked_text csv plan s e (Some look) = shown_text csv plan e (register_shown plan s look)
+looked_text csv plan s e (Some look) =
+    shown_text csv plan e (due_at plan s look) (register_shown plan s look)
 
 -- what these entries entered in a section that is open now, by the registers of the whole history
 abbrev pub section_text : Bool → Plan → Registers → Section → List Entry → List ℕ
@@ -193,7 +218,7 @@ period_text (period.Year y) = decimal y
 abbrev pub close_row : Entry → Period → List (List ℕ)
 close_row e p =
     codes "close" ∷ [] ∷ [] ∷ day_text e.change.on ∷ decimal e.change.desk ∷ e.change.key ∷ [] ∷ []
-    ∷ [] ∷ [] ∷ [] ∷ [] ∷ [] ∷ period_text p ∷ []
+    ∷ [] ∷ [] ∷ [] ∷ [] ∷ [] ∷ [] ∷ [] ∷ period_text p ∷ []
 
 abbrev pub close_by : Bool → Act → Entry → List ℕ
 close_by csv (act.Close p) e = record_text csv (close_row e p)

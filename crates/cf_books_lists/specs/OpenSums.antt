@@ -16,6 +16,7 @@ use Rattle.cf_calls.specs.declared.shown.Shown.TheVariants as shown
 use Rattle.cf_calls.specs.declared.shown.VoucherState.{VoucherState}
 use Rattle.cf_calls.specs.declared.shown.VoucherState.TheVariants as voucher
 use Rattle.cf_chart.specs.Plan.{Plan}
+use Rattle.cf_debt.specs.declared.debt.Due.{Due}
 use Rattle.cf_ledger.specs.Posts.{is_of, sum_where}
 use Rattle.cf_model.specs.Charted.{fund_of}
 use Rattle.cf_model.specs.Documents.{Expenditure, is_number}
@@ -28,7 +29,7 @@ use Rattle.cf_registers.specs.RegistersState.{register_shown}
 use Rattle.cf_books_lists.specs.declared.open.Part.{Part}
 use Rattle.cf_books_lists.specs.declared.open.Section.{Section}
 use Rattle.cf_books_lists.specs.declared.open.Section.TheVariants.{Orders, Bills, Vouchers}
-use Rattle.cf_books_lists.specs.Open.{look_of, part_text, section_text}
+use Rattle.cf_books_lists.specs.Open.{due_at, look_of, part_text, section_text, whole_part}
 
 -- ---- the parts that are open of what a look shows: a row is printed for each
 
@@ -36,7 +37,15 @@ use Rattle.cf_books_lists.specs.Open.{look_of, part_text, section_text}
 abbrev pub held_parts : ℕ → ℕ → List LineAmount → List Part
 held_parts year place [] = []
 held_parts year place (i ∷ items) =
-    record { item = place; line = Some i.line; year = Some year; amount = i.amount; next = None }
+    record {
+      item = place;
+      line = Some i.line;
+      year = Some year;
+      amount = i.amount;
+      next =
+          None;
+      due = None;
+    }
     ∷ held_parts year (place + 1) items
 
 abbrev pub requisition_parts : List LineAmount → ℕ → RequisitionState → List Part
@@ -53,6 +62,7 @@ item_parts place i item.Live =
       amount = i.open_cents;
       next =
           None;
+      due = None;
     } ∷ []
 item_parts place i _ = []
 
@@ -60,33 +70,28 @@ abbrev pub order_parts : ℕ → List OrderItemShown → List Part
 order_parts place [] = []
 order_parts place (i ∷ items) = item_parts place i i.state ++ order_parts (place + 1) items
 
--- an amount that is no item's
-abbrev pub whole_part : Option ℕ → ℕ → Option Day → Part
-whole_part year amount next =
-    record { item = 0; line = None; year = year; amount = amount; next = next }
-
 abbrev pub voucher_parts : ℕ → ℕ → VoucherState → List Part
-voucher_parts amount year voucher.Open = whole_part (Some year) amount None ∷ []
+voucher_parts amount year voucher.Open = whole_part (Some year) amount None None ∷ []
 voucher_parts amount year _ = []
 
 abbrev pub bill_parts : ℕ → ℕ → List Part
-bill_parts left year = if left == 0 then [] else whole_part (Some year) left None ∷ []
+bill_parts left year = if left == 0 then [] else whole_part (Some year) left None None ∷ []
 
-abbrev pub debt_parts : ℕ → Option Day → List Part
-debt_parts outstanding None = []
-debt_parts outstanding (Some next) = whole_part None outstanding (Some next) ∷ []
+abbrev pub debt_parts : Option Due → ℕ → Option Day → List Part
+debt_parts due outstanding None = []
+debt_parts due outstanding (Some next) = whole_part None outstanding (Some next) due ∷ []
 
-abbrev pub parts_shown : Option Shown → List Part
-parts_shown (Some (shown.Requisition items state year)) = requisition_parts items year state
-parts_shown (Some (shown.Order items vendor)) = order_parts 1 items
-parts_shown (Some (shown.Voucher amount state year)) = voucher_parts amount year state
-parts_shown (Some (shown.Bill left year source)) = bill_parts left year
-parts_shown (Some (shown.Bond accrued next outstanding)) = debt_parts outstanding next
-parts_shown _ = []
+abbrev pub parts_shown : Option Due → Option Shown → List Part
+parts_shown due (Some (shown.Requisition items state year)) = requisition_parts items year state
+parts_shown due (Some (shown.Order items vendor)) = order_parts 1 items
+parts_shown due (Some (shown.Voucher amount state year)) = voucher_parts amount year state
+parts_shown due (Some (shown.Bill left year source)) = bill_parts left year
+parts_shown due (Some (shown.Bond accrued next outstanding)) = debt_parts due outstanding next
+parts_shown due _ = []
 
 abbrev pub parts_looked : Plan → Registers → Option Read → List Part
 parts_looked plan s None = []
-parts_looked plan s (Some look) = parts_shown (register_shown plan s look)
+parts_looked plan s (Some look) = parts_shown (due_at plan s look) (register_shown plan s look)
 
 -- the parts of what an entry entered in a section
 abbrev pub parts_of : Plan → Registers → Section → Entry → List Part

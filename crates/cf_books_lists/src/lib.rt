@@ -8,6 +8,7 @@ mod balances;
 mod lines;
 mod names;
 mod open;
+mod open_fields;
 mod posts;
 mod rows;
 mod statement;

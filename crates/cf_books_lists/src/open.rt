@@ -1,26 +1,32 @@
-//! What is open, as looks at documents, bills and debt show it, and what is closed.
+//! What is open, as looks at documents, bills and debt show it, with what is due next of debt, and
+//! what is closed.
 
-ghost use Rattle.std.specs.Prelude.{◌≡◌, ℕ, List, Ok, pos, string_bytes, IfOk, OnOk};
-ghost use Rattle.cf_base.specs.Amounts.{money_of};
+ghost use Rattle.std.specs.Prelude.{◌≡◌, ℕ, List, Ok, IfOk, OnOk};
 ghost use Rattle.std.specs.Option.{option_copied};
 ghost use Rattle.cf_books_lists.specs.Open as spec;
+ghost use Rattle.cf_books_lists.specs.OpenDues.{DuesAreAsked};
 ghost use Rattle.cf_books_lists.specs.OpenSums.{OpenAddsUp};
 ghost use Rattle.cf_books_lists.specs.Records.{head_text, record_text};
 ghost use Rattle.cf_books_lists.specs.Rows.{added};
 ghost use Rattle.cf_chart.specs.Reading.{chart_of};
 ghost use Rattle.cf_model.specs.Registers.{registers_of};
 
-use crate::names::{department_name, fund_name};
+use crate::open_fields::{
+    amount_text, due_text, interest_text, line_department, line_fund, line_of, next_text,
+    number_text,
+};
 use crate::rows::{Layout, Rows};
 use crate::texts::{decimal_text, drawn_text};
-use cf_base::{Day, day_text, money_text, month_text};
+use cf_base::{Day, day_text, month_text};
 use cf_calls::acts::Period;
 use cf_calls::items::LineAmount;
 use cf_calls::shown::{ItemState, OrderItemShown, RequisitionState, VoucherState};
 use cf_calls::{Act, Entry, Read, Shown};
-use cf_chart::{Chart, Line};
+use cf_chart::Chart;
+use cf_debt::Due;
 use cf_json_calls::call_word;
 use cf_office::Rest;
+use cf_registers::Registers;
 use std::alloc::{AllocError, Global};
 
 /// A kind of what can be open.
@@ -43,6 +49,8 @@ struct Part {
     amount: u64,
     /// The day of the next payment.
     next: Option<Day>,
+    /// What that payment pays.
+    due: Option<Due>,
 }
 
 /// The look at what an entry of a section entered.
@@ -153,56 +161,6 @@ fn number_of(entry: &Entry) -> u32
     }
 }
 
-pub(crate) fn number_text(alloc: Global, number: Option<u16>) -> Result<Vec<u8>, AllocError>
-    ensures { IfOk result (λ t. t.items ≡ spec.number_text number) }
-{
-    match number {
-        Some(number) => decimal_text(alloc, number as u64),
-        None => Ok(Vec::new(alloc)),
-    }
-}
-
-fn next_text(alloc: Global, next: Option<Day>) -> Result<Vec<u8>, AllocError>
-    ensures { IfOk result (λ t. t.items ≡ spec.next_text next) }
-{
-    match next {
-        Some(day) => Vec::from_slice(alloc, &day_text(day)),
-        None => Ok(Vec::new(alloc)),
-    }
-}
-
-/// The control line of this number.
-pub(crate) fn line_of(chart: &Chart, line: Option<u16>) -> Option<&Line>
-    ensures { option_copied result ≡ spec.line_of chart.now line }
-{
-    chart.line(line?)
-}
-
-fn line_fund<'a>(chart: &'a Chart, line: Option<&Line>) -> &'a str
-    ensures { result.now ≡ spec.line_fund chart.now (option_copied line.entry) }
-{
-    match line {
-        Some(line) => fund_name(chart.fund(line.fund)),
-        None => "",
-    }
-}
-
-fn line_department<'a>(chart: &'a Chart, line: Option<&Line>) -> &'a str
-    ensures { result.now ≡ spec.line_department chart.now (option_copied line.entry) }
-{
-    match line {
-        Some(line) => department_name(chart.dept(line.dept)),
-        None => "",
-    }
-}
-
-/// An amount of cents in units of money.
-fn amount_text(alloc: Global, amount: u64) -> Result<String, AllocError>
-    ensures { IfOk result (λ t. string_bytes t ≡ money_of (pos amount)) }
-{
-    money_text(alloc, amount as i128)
-}
-
 /// Writes the record of a part of what an entry entered.
 fn put_part(
     alloc: Global,
@@ -225,6 +183,8 @@ fn put_part(
     let line = number_text(alloc, part.line)?;
     let amount = amount_text(alloc, part.amount)?;
     let next = next_text(alloc, part.next)?;
+    let due = due_text(alloc, part.due)?;
+    let interest = interest_text(alloc, part.due)?;
     let closed = Vec::new(alloc);
     let fields = [
         call.as_slice(),
@@ -240,6 +200,8 @@ fn put_part(
         line_department(chart, line_of(chart, part.line)).as_bytes(),
         amount.as_str().as_bytes(),
         next.as_slice(),
+        due.as_slice(),
+        interest.as_slice(),
         closed.as_slice(),
     ];
     out.put(fields.as_slice())
@@ -266,6 +228,7 @@ fn put_held(
             year: Some(year),
             amount: item.amount,
             next: None,
+            due: None,
         };
         put_part(alloc, out, chart, entry, part)?;
     }
@@ -292,6 +255,7 @@ fn put_item(
                 year: Some(item.year),
                 amount: item.open_cents,
                 next: None,
+                due: None,
             };
             put_part(alloc, out, chart, entry, part)
         }
@@ -318,39 +282,31 @@ fn put_items(
     Ok(())
 }
 
-/// Writes an amount that is no item's.
-fn put_whole(
-    alloc: Global,
-    out: &mut Rows,
-    chart: &Chart,
-    entry: &Entry,
-    year: Option<u16>,
-    amount: u64,
-    next: Option<Day>,
-) -> Result<(), AllocError>
-    ensures { OnOk result (out.new
-        ≡ added out.old (spec.whole_text out.old.csv chart.now entry.now year amount next)) }
+/// An amount that is no item's.
+fn whole(year: Option<u16>, amount: u64, next: Option<Day>, due: Option<Due>) -> Part
+    ensures { result ≡ spec.whole_part year amount next due }
 {
-    let part = Part {
+    Part {
         item: 0,
         line: None,
         year,
         amount,
         next,
-    };
-    put_part(alloc, out, chart, entry, part)
+        due,
+    }
 }
 
-/// Writes what a look shows that is open.
+/// Writes what a look shows that is open, of a debt with what is due next.
 fn put_shown(
     alloc: Global,
     out: &mut Rows,
     chart: &Chart,
     entry: &Entry,
+    due: Option<Due>,
     shown: Option<&Shown>,
 ) -> Result<(), AllocError>
     ensures { OnOk result (out.new
-        ≡ added out.old (spec.shown_text out.old.csv chart.now entry.now
+        ≡ added out.old (spec.shown_text out.old.csv chart.now entry.now due
         (option_copied shown.entry))) }
 {
     match shown {
@@ -370,21 +326,30 @@ fn put_shown(
                 state: VoucherState::Open,
                 year,
             },
-        ) => { put_whole(alloc, out, chart, entry, Some(*year), *amount, None) }
+        ) => {
+            let part = whole(Some(*year), *amount, None, None);
+            put_part(alloc, out, chart, entry, part)
+        }
         Some(
             Shown::Bill {
                 left,
                 levy_year,
                 source: _,
             },
-        ) if *left != 0 => { put_whole(alloc, out, chart, entry, Some(*levy_year), *left, None) }
+        ) if *left != 0 => {
+            let part = whole(Some(*levy_year), *left, None, None);
+            put_part(alloc, out, chart, entry, part)
+        }
         Some(
             Shown::Bond {
                 accrued: _,
                 next: Some(next),
                 outstanding,
             },
-        ) => { put_whole(alloc, out, chart, entry, None, *outstanding, Some(*next)) }
+        ) => {
+            let part = whole(None, *outstanding, Some(*next), due);
+            put_part(alloc, out, chart, entry, part)
+        }
         None
         | Some(
             Shown::Line(_)
@@ -409,6 +374,25 @@ fn put_shown(
     }
 }
 
+/// What is due next of the bond or the lease that a look is at, and nothing at other looks.
+fn due_at(registers: &Registers, chart: &Chart, look: &Read) -> Option<Due>
+    ensures { result ≡ spec.due_at chart.now registers.now.registers look.now }
+{
+    match look {
+        Read::Bond { bond } => registers.debt().due(chart, *bond),
+        Read::Line { .. }
+        | Read::Requisition { .. }
+        | Read::Order { .. }
+        | Read::Voucher { .. }
+        | Read::Bill { .. }
+        | Read::Asset { .. }
+        | Read::Leave { .. }
+        | Read::Account { .. }
+        | Read::Reconcile { .. }
+        | Read::Report { .. } => None,
+    }
+}
+
 /// Writes what is open of that which an entry entered in a section.
 fn put_entry(
     alloc: Global,
@@ -425,7 +409,8 @@ fn put_entry(
         return Ok(());
     };
     let shown = rest.registers().look(alloc, rest.chart(), &look)?;
-    put_shown(alloc, out, rest.chart(), entry, shown.as_ref())
+    let due = due_at(rest.registers(), rest.chart(), &look);
+    put_shown(alloc, out, rest.chart(), entry, due, shown.as_ref())
 }
 
 /// Writes what is open of a section.
@@ -486,6 +471,8 @@ fn put_period(
         none,
         none,
         none,
+        none,
+        none,
         closed.as_slice(),
     ];
     out.put(fields.as_slice())
@@ -536,7 +523,7 @@ fn put_closes(alloc: Global, out: &mut Rows, entries: &[Entry]) -> Result<(), Al
 fn put_head(out: &mut Rows) -> Result<(), AllocError>
     ensures { OnOk result (out.new ≡ added out.old (head_text out.old.csv spec.head)) }
 {
-    let names: [&[u8]; 14] = [
+    let names: [&[u8]; 16] = [
         b"call",
         b"number",
         b"item",
@@ -550,6 +537,8 @@ fn put_head(out: &mut Rows) -> Result<(), AllocError>
         b"dept_name",
         b"open",
         b"next",
+        b"due",
+        b"interest",
         b"closed",
     ];
     out.put_names(names.as_slice())
@@ -576,15 +565,18 @@ fn all_text(layout: Layout, rest: &Rest) -> Result<Vec<u8>, AllocError>
 /// What is open, as records below a row of names: open requisitions by item, live items of orders
 /// with what is open of each, bills with what is left, vouchers that aren't paid, and bonds and
 /// leases with what is outstanding and the day of the next payment, each kind by rising number and
-/// as looks show them, in units of money; then the months and the fiscal years that are closed.
-/// Under any chart that was read, the rows of bills come to each fund's receivables (110000), those
-/// of vouchers to its vouchers payable (200000), and those of order items to what is encumbered on
-/// each line in each fiscal year.
+/// as looks show them, in units of money; then the months and the fiscal years that are closed. A
+/// row of a bond or a lease also has what is due at that payment, principal and interest, and the
+/// interest alone: what the office asks of the call that pays it, whatever its day. Under any chart
+/// that was read, the rows of bills come to each fund's receivables (110000), those of vouchers to
+/// its vouchers payable (200000), and those of order items to what is encumbered on each line in
+/// each fiscal year.
 pub fn open_text(layout: Layout, rest: &Rest) -> Result<Vec<u8>, AllocError>
     ensures text { IfOk result (λ v. v.items ≡ spec.open_text layout.csv rest.now.plan
         rest.now.entries) }
     ensures sums { (bytes : List ℕ) → chart_of bytes ≡ Ok rest.now.plan
         → OpenAddsUp rest.now.plan rest.now.entries }
+    ensures dues { DuesAreAsked rest.now.plan rest.now.entries }
 {
     // So that the proof knows that the history is legal.
     let _legal = rest.entries();

@@ -13,7 +13,7 @@ ghost use Rattle.cf_model.specs.Report.{report_rows, sums_of};
 
 use crate::lines::{later_of, part_and_years, part_name};
 use crate::names::department_name;
-use crate::open::{line_of, number_text};
+use crate::open_fields::{line_of, number_text};
 use crate::rows::{Layout, Rows};
 use cf_base::{Kind, money_text};
 use cf_calls::Row;

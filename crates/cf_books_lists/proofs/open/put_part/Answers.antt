@@ -2,7 +2,7 @@ use Rattle.std.proofs.Common.{◌≡◌, ◌∙◌, ap, decimal, pos, []}
 use Rattle.cf_base.specs.Amounts.{money_of}
 use Rattle.cf_base.specs.Calendar.{day_text}
 use Rattle.cf_json_calls.specs.CallText.{call_word}
-use Rattle.cf_books_lists.specs.Open.{line_department, line_fund, line_of, next_text, number_of, number_text, party_of}
+use Rattle.cf_books_lists.specs.Open.{due_text, interest_text, line_department, line_fund, line_of, next_text, number_of, number_text, party_of}
 use Rattle.cf_books_lists.specs.Records.{drawn_text}
 use Rattle.cf_books_lists.proofs.open.put_part.Goals as goal
 
@@ -24,5 +24,7 @@ returns c =
     let dept : c.as_bytes-4.result.now ≡ line_department plan (line_of plan p.line) = c.as_bytes-4.ensures.value ∙ c.line_department.ensures ∙ ap (line_department plan) c.line_of-2.ensures in
     let amount : c.as_bytes-5.result.now ≡ money_of (pos p.amount) = c.as_bytes-5.ensures.value ∙ c.as_str-2.ensures.value ∙ c.in_ok-amount.ensures in
     let next : c.as_slice-9.result.now ≡ next_text p.next = c.as_slice-9.ensures.value ∙ c.in_ok-next.ensures in
-    let closed : c.as_slice-10.result.now ≡ [] = c.as_slice-10.ensures.value ∙ c.new-closed.ensures.items in
-    rw (← call, ← number, ← item, ← day, ← desk, ← key, ← party, ← year, ← line, ← fund, ← dept, ← amount, ← next) (rw (c.as_slice-11.ensures, closed) at c.put.ensures)
+    let due : c.as_slice-10.result.now ≡ due_text p.due = c.as_slice-10.ensures.value ∙ c.in_ok-due.ensures in
+    let interest : c.as_slice-11.result.now ≡ interest_text p.due = c.as_slice-11.ensures.value ∙ c.in_ok-interest.ensures in
+    let closed : c.as_slice-12.result.now ≡ [] = c.as_slice-12.ensures.value ∙ c.new-closed.ensures.items in
+    rw (← call, ← number, ← item, ← day, ← desk, ← key, ← party, ← year, ← line, ← fund, ← dept, ← amount, ← next, ← due, ← interest) (rw (c.as_slice-13.ensures, closed) at c.put.ensures)
