@@ -110,9 +110,9 @@ export class Lists {
         return rows.filter(each => each[3].toLowerCase() === key).map(invoiceOf);
     }
 
-    /** What payments paid, by the places of their entries. */
-    async ofRun(places) {
-        return (await this.rows('invoices')).filter(each => places.includes(each[7])).map(invoiceOf);
+    /** All invoices, each with the place of the entry that ended it. */
+    async allInvoices() {
+        return (await this.rows('invoices')).map(invoiceOf);
     }
 
     /**

@@ -80,15 +80,14 @@ export class Papers {
     async run(number) {
         const places = number.split('+').map(Number), entries = [];
         for (const place of places) entries.push(await this.paid(place));
-        const listed = await this.lists.ofRun(places);
-        const found = [...listed, ...entries.flatMap(each => listed.some(one => one.ended === each.place) ? [] : this.unlisted(each.call))];
+        const invoices = await this.lists.allInvoices(), found = entries.flatMap(each => paidBy(each, invoices));
         const vendors = [...new Set(found.map(each => each.vendor))].sort((one, other) => one - other);
         const rows = vendors.flatMap(vendor => {
             const of = found.filter(each => each.vendor === vendor);
-            return [row([this.vendors.cell(vendor) || 'Not listed', '', '', money(sum(of.map(each => each.cents)))], 'part'),
-                ...of.map(each => row(['', String(each.number), each.key, money(each.cents)]))];
+            return [row([this.vendors.cell(vendor) || 'Not listed', '', '', totalOf(of)], 'part'),
+                ...of.map(each => row(['', String(each.number), each.key, totalOf([each])]))];
         });
-        rows.push(row(['Total', many(found.length, 'voucher'), '', money(sum(found.map(each => each.cents)))], 'sum'));
+        rows.push(row(['Total', many(found.length, 'voucher'), '', totalOf(found)], 'sum'));
         const days = [...new Set(entries.map(each => dated(each.day)))].join(', ');
         return [...this.head('remittance list', ['Payment run', entries.map(each => each.key).join(', ')], ['Day', days],
             [places.length === 1 ? 'Entry' : 'Entries', places.join(', ')]),
@@ -101,10 +100,6 @@ export class Papers {
         const entry = await this.lists.entryAt(place);
         if (!entry && !own) throw new Error(`Entry ${place} isn’t in the lists yet: they are made anew each minute.`);
         return {place, key: entry?.key ?? own.key, day: entry?.day ?? own.on, call: own && JSON.parse(own.text)};
-    }
-
-    unlisted(call) {
-        return (call?.vouchers || []).map(number => ({number, vendor: 0, key: 'not in the lists yet', cents: 0}));
     }
 
     async receipt(place) {
@@ -122,4 +117,21 @@ export class Papers {
         const call = JSON.parse(own.text), bill = call.bill && this.lists.document('bill', call.bill);
         return {key: call.key, day: call.on, desk: call.desk, bill: call.bill, payer: bill?.who, source: call.source ?? bill?.source, cents: call.amount};
     }
+}
+
+/**
+ * The vouchers that an entry paid. Where the lists don't have the entry yet, this browser has its
+ * call; they have the vouchers but for those of the last minute.
+ */
+function paidBy({place, call}, invoices) {
+    const listed = invoices.filter(each => each.ended === place);
+    if (listed.length) return listed;
+    const known = new Map(invoices.map(each => [each.number, each]));
+    const unknown = number => ({number, vendor: null, key: 'not in the lists yet', cents: null});
+    return (call?.vouchers || []).map(number => known.get(number) || unknown(number));
+}
+
+/** What vouchers come to; nothing where an amount isn't known. */
+function totalOf(vouchers) {
+    return vouchers.some(each => each.cents === null) ? '' : money(sum(vouchers.map(each => each.cents)));
 }

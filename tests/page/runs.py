@@ -7,7 +7,9 @@ from slips import AHEAD, DAY, HOUR, SAID, SUBMIT, prepared
 COUNT = 150
 BUTTON = "[...document.querySelectorAll('#form button')].find(each => each.textContent === '{}').click()"
 TICKED = "document.querySelectorAll('#form .run input:checked').length"
-NAMES = 'vendor,name,address\n650,"Acme <b>& Sons</b>","12 Mill Road\nHarborview"\n651,Ü. Olsen,\n612,Acme Paving,\n700,Harbor Fuel,\n'
+VENDORS = {650: "Acme <b>& Sons</b>", 651: "Ü. Olsen", 612: "Acme Paving", 620: "City Power & Light", 680: "Miller Office Supply",
+           690: "Lee & Partners", 700: "Harbor Fuel", 701: "Delta Fuel", 702: "Harbor Motors", 1000: "Harborview payroll"}
+NAMES = "vendor,name,address\n" + "".join(f'{number},"{name}","12 Mill Road\nHarborview"\n' for number, name in VENDORS.items())
 # In pictures a name is as a city has it.
 PLAIN = {"Acme <b>& Sons</b>": "Acme & Sons"}
 
@@ -18,9 +20,13 @@ def named(stand, text):
     return text
 
 
-def run(stand):
+def name_vendors(stand):
     with open(os.path.join(stand.journal, "vendors.csv"), "w", encoding="utf-8") as file:
         file.write(named(stand, NAMES))
+
+
+def run(stand):
+    name_vendors(stand)
     for place in range(COUNT):
         stand.ask({"call": "voucher", "desk": 4, "key": f"many-{place}", "on": DAY, "vendor": 650 + place % 3,
                    "items": [{"fund": 1 + place % 2, "dept": 40 if place % 2 == 0 else 30, "object": 522 if place % 2 == 0 else 513, "amount": 1000 + place}]})
@@ -78,10 +84,12 @@ def many(stand):
     place = stand.entries()
     way = page.do("document.querySelector('#said a').getAttribute('href')")
     stand.same("one remittance list of the run", way, f"#paper/run/{place - 2}+{place - 1}+{place}")
+    paper = "/Total/.test(document.getElementById('paper-sheet').textContent) && document.getElementById('paper-sheet').textContent"
+    page.do("document.querySelector('#said a').click()")
+    early = page.until(paper)
     page.close()
     stand.make_lists()
     clerk = stand.clerk("treasury")
-    paper = "/Total/.test(document.getElementById('paper-sheet').textContent) && document.getElementById('paper-sheet').textContent"
     clerk.page.do(f"location.hash = '#paper/run/{place}'; true")
     said = clerk.page.until(paper)
     one = f"{all_ - 128} voucher" in said and "run-40-3" in said and "run-40-2" not in said
@@ -91,6 +99,7 @@ def many(stand):
     said = clerk.page.until(paper)
     whole = "run-40-1, run-40-2, run-40-3" in said and f"{all_} vouchers" in said and named(stand, "650 Acme <b>& Sons</b>") in said
     stand.holds("a remittance list of a run", whole, said[:300])
+    stand.same("it is the same before the lists have the payment", early, said)
     stand.picture(clerk.page, "remittance")
     for scheme in ("light", "dark"):
         clerk.page.media(prefers_color_scheme=scheme)
@@ -198,7 +207,6 @@ def papers(stand):
         clerk.page.do(f"location.hash = '#paper/{address}'; true")
         said = clerk.page.until(f"/{words[0]}/.test(document.getElementById('paper-sheet').textContent) && document.getElementById('paper-sheet').textContent")
         stand.holds(f"paper: {words[0]}", all(word in said for word in words), said)
-        stand.picture(clerk.page, words[0].replace(" ", "-"))
     clerk.page.close()
 
 
@@ -220,9 +228,8 @@ def names(stand):
         said = clerk.page.until("document.getElementById('skipped').textContent")
         stand.holds(f"vendors: {wanted}", wanted in said and "The names that were read before stay" in said, said)
         kept = clerk.page.do("fetch('/desk/data/vendors.json').then(answer => answer.json()).then(found => found.vendors.length)")
-        stand.same("the old names stay", kept, 4)
-    with open(path, "w", encoding="utf-8") as file:
-        file.write(named(stand, NAMES))
+        stand.same("the old names stay", kept, len(VENDORS))
+    name_vendors(stand)
     stand.make_lists()
     clerk.page.close()
 
@@ -238,7 +245,6 @@ def behind(stand):
     clerk.page.do(AHEAD.format(HOUR // 20))
     said = clerk.page.until("document.getElementById('behind').textContent")
     stand.holds("lists that are behind", f"and the books have {stand.entries()}" in said, said)
-    stand.picture(clerk.page, "behind")
     stand.make_lists()
     clerk.page.do(AHEAD.format(0))
     stand.holds("no more once they are there", clerk.page.until(hidden))
