@@ -56,7 +56,10 @@ export class Find {
         return found;
     }
 
-    /** Whether a document has a text: in a key, as a number, as an amount, or its vendor's name. */
+    /**
+     * Whether a document has a text: in a key, as a number, as an amount, as its own name ("Voucher
+     * 12"), or in its vendor's.
+     */
     finder(text) {
         const part = text.toLowerCase(), has = its => (its || '').toLowerCase().includes(part);
         const number = /^\d{1,10}$/.test(text) ? Number(text) : null, amount = cents(text);
@@ -66,8 +69,9 @@ export class Find {
         const isNumber = each => number !== null && [each.number, each.party].includes(number);
         const isAmount = each => amount !== null &&
             [each.cents, each.left].includes(Number(amount));
+        const isName = each => this.rows.name({...each, item: null}).toLowerCase() === part;
         return each => has(each.key) || has(each.run) || isOf(each) || isNumber(each) ||
-            isAmount(each);
+            isAmount(each) || isName(each);
     }
 }
 

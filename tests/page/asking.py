@@ -7,6 +7,7 @@ import shutil
 import tempfile
 
 from looking import money, ON_PAPER, SHEETS
+from runs import name_vendors
 from shown import books, CELLS, cents, go, ROWS, statement
 
 MOVED = ("appropriated", "ordered", "held", "spent")
@@ -21,6 +22,7 @@ TEXT = "document.getElementById('{}').textContent"
 
 def run(stand):
     debt(stand)
+    name_vendors(stand)
     stand.make_lists(60)
     clerk = stand.clerk("auditor")
     found(stand, clerk)
@@ -100,6 +102,7 @@ def found(stand, clerk):
     for what, text in (
         ("a part of its key", row["key"][1:].upper()),
         ("its number", row["number"]),
+        ("its own name", name.lower()),
         ("its vendor", row["party"]),
         ("its amount", money(cents(row["amount"]))),
         ("its payment run", row["run"]),
@@ -195,7 +198,6 @@ def line(stand, clerk):
                 any(row[2] == "Enter an invoice" and row[-3].startswith("-") for row in rows),
                 rows[:4],
             )
-            stand.picture(clerk.page, "line")
         if number == 64:
             stand.holds(
                 "a payment of a debt",
