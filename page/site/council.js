@@ -4,7 +4,11 @@ import {byId, drawn, made, row, table} from './dom.js';
 import {added, fundsOf, PARTS} from './bars.js';
 import {money, sum} from './money.js';
 
-const WIDTH = 900, LEFT = 90, RIGHT = 300, BAR = 18, HIGH = 92;
+const BAR = 18;
+// The words of a bar stand beside it; on a phone above it, where `words` is their height.
+const BESIDE = {width: 900, left: 90, right: 300, words: 0, high: 92};
+const ABOVE = {width: 340, left: 0, right: 0, words: 18, high: 126};
+const PHONE = matchMedia('screen and (max-width: 720px)');
 
 export class Council {
     constructor(city) {
@@ -12,6 +16,7 @@ export class Council {
         byId('council-form').addEventListener('submit', event => { event.preventDefault(); this.show(); });
         byId('council-year').addEventListener('change', () => this.show());
         byId('council-print').addEventListener('click', () => print());
+        PHONE.addEventListener('change', () => { if (!byId('council').hidden) this.show(); });
     }
 
     async show() {
@@ -30,41 +35,48 @@ export class Council {
      * estimated with what came in.
      */
     picture(funds, title) {
-        const size = `0 0 ${WIDTH} ${funds.length * HIGH + 40}`, about = `${title}. The same figures stand in the table below`;
+        const form = PHONE.matches ? ABOVE : BESIDE, {width, high} = form;
+        const size = `0 0 ${width} ${funds.length * high + (form.words ? 62 : 40)}`;
+        const about = `${title}. The same figures stand in the table below`;
         const svg = drawn('svg', {class: 'picture', viewBox: size, role: 'img', 'aria-label': about});
-        funds.forEach((fund, place) => svg.append(this.ofFund(fund, place * HIGH + 8)));
-        svg.append(this.legend(funds.length * HIGH + 14));
+        funds.forEach((fund, place) => svg.append(this.ofFund(fund, place * high + 8, form)));
+        svg.append(this.legend(funds.length * high + 14, form));
         return svg;
     }
 
-    ofFund(fund, y) {
+    ofFund(fund, y, {width, left, right, words}) {
         const most = [fund.all, fund.estimated, fund.came].reduce((one, other) => other > one ? other : one, 1n);
-        const wide = amount => Math.max(0, Number(amount * 10000n / most) / 10000 * (WIDTH - LEFT - RIGHT));
+        const wide = amount => Math.max(0, Number(amount * 10000n / most) / 10000 * (width - left - right));
         const group = drawn('g', {}), text = (x, at, said, more = {}) => group.append(drawn('text', {x, y: at, ...more}, said));
-        const rect = (kind, x, at, width) => group.append(drawn('rect', {class: kind, x, y: at, width, height: BAR}));
-        const spending = y + 22, revenue = spending + BAR + 6, far = (one, other) => LEFT + wide(one > other ? one : other) + 8;
+        const rect = (kind, x, at, size) => group.append(drawn('rect', {class: kind, x, y: at, width: size, height: BAR}));
+        const spending = y + 22 + words, revenue = spending + BAR + 6 + words;
+        const says = (name, at, said, end) => {
+            if (words) return text(left, at - 5, `${name}: ${said}`);
+            text(left - 10, at + 14, name, {'text-anchor': 'end'});
+            return text(left + wide(end) + 8, at + 14, said);
+        };
         text(0, y + 12, fund.name, {class: 'name'});
-        text(LEFT - 10, spending + 14, 'Spending', {'text-anchor': 'end'});
-        text(LEFT - 10, revenue + 14, 'Revenue', {'text-anchor': 'end'});
-        let x = LEFT;
+        let x = left;
         for (const [part] of PARTS) {
             rect(part, x, spending, wide(fund[part]));
             x += wide(fund[part]);
         }
-        rect('frame', LEFT, spending, wide(fund.all));
-        rect('came', LEFT, revenue, wide(fund.came));
-        rect('frame', LEFT, revenue, wide(fund.estimated));
-        text(far(fund.all, 0n), spending + 14, partOf(fund.spent, fund.all));
-        text(far(fund.came, fund.estimated), revenue + 14, partOf(fund.came, fund.estimated));
+        rect('frame', left, spending, wide(fund.all));
+        rect('came', left, revenue, wide(fund.came));
+        rect('frame', left, revenue, wide(fund.estimated));
+        says('Spending', spending, partOf(fund.spent, fund.all), fund.all);
+        says('Revenue', revenue, partOf(fund.came, fund.estimated), fund.came > fund.estimated ? fund.came : fund.estimated);
         return group;
     }
 
-    legend(y) {
+    legend(y, {width, left}) {
         const group = drawn('g', {});
-        let x = LEFT;
+        let x = left;
         for (const [part, said] of [...PARTS, ['came', 'Came in'], ['frame', 'Budget']]) {
+            const size = 44 + said.length * 8;
+            if (x + size > width) [x, y] = [left, y + 22];
             group.append(drawn('rect', {class: part, x, y, width: 14, height: 14}), drawn('text', {x: x + 20, y: y + 12}, said));
-            x += 44 + said.length * 8;
+            x += size;
         }
         return group;
     }
