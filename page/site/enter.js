@@ -4,7 +4,7 @@
 
 import {byId, fill, labelled, made, wrong} from './dom.js';
 import {local, today} from './chart.js';
-import {dueOf, endOf, many} from './calls.js';
+import {dueOf, endOf} from './calls.js';
 import {Drafts, set} from './drafts.js';
 import {json, money} from './money.js';
 import {Account, Context, Fault, inputOf, known, principalsOf, read} from './fields.js';
@@ -381,9 +381,9 @@ export class Enter {
             this.enter(calls);
         };
         const back = () => { this.unprepare(); byId('form').querySelector('.go').focus(); };
-        const more = calls.length > 1 ? ` It is sent as ${many(calls.length, 'call')}, ${calls[0].key} to ${calls.at(-1).key}.` : '';
-        place.replaceChildren(made('p', {className: 'sentence', id: 'sentence'}, sentence + '.' + more),
-            ...notes.map(note => made('p', {}, note)), isFinal ? made('p', {className: 'hint'}, 'No call takes it back.') : '', ...ticks, said,
+        const more = calls.length > 1 ? [`It is sent as ${calls.length} calls, ${calls[0].key} to ${calls.at(-1).key}.`] : [];
+        place.replaceChildren(made('p', {className: 'sentence', id: 'sentence'}, sentence + '.'),
+            ...[...notes, ...more].map(note => made('p', {}, note)), isFinal ? made('p', {className: 'hint'}, 'No call takes it back.') : '', ...ticks, said,
             made('p', {className: 'buttons'}, made('button', {type: 'button', className: 'go', onclick: go}, isFinal ? 'Yes, send it' : 'Send it so'),
                 made('button', {type: 'button', onclick: back}, 'Back to the form')));
         place.hidden = false;

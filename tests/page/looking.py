@@ -76,7 +76,6 @@ def statements(stand, clerk):
         stand.holds(f"its names: {kind}", title is None or clerk.page.do("document.querySelectorAll('#report thead th').length") == width)
         if kind == "budget":
             stand.holds("its lines by name", not any(row[0].startswith("Line ") for row in shown), shown[:3])
-            stand.picture(clerk.page, "statement")
         clerk.page.do("document.getElementById('report-csv').click()")
         name = os.path.join(folder, f"2026-{kind}.csv")
         stand.waited(lambda: os.path.exists(name))
@@ -185,6 +184,7 @@ CONTRAST = """(() => {
     return found;
 })()"""
 SIDEWAYS = "[...document.querySelectorAll('.scroll')].filter(node => node.getClientRects().length && node.scrollWidth > node.clientWidth + 1).length"
+PICTURES = {("enter", "light", 390): "enter-phone", ("lines", "light", 390): "lines-phone", ("lines", "dark", 1280): "lines-dark"}
 NAMELESS = ("textbox", "combobox", "checkbox", "button", "link", "listbox", "spinbutton", "Date", "table", "img", "dialog")
 
 
@@ -205,8 +205,8 @@ def reached(stand):
                 stand.holds(f"width: {place}", page.do("document.documentElement.scrollWidth") <= width, page.do("document.documentElement.scrollWidth"))
                 if width < 500 and view != "statements":
                     stand.same(f"nothing sideways: {place}", page.do(SIDEWAYS), 0)
-                if view in ("enter", "lines") and (scheme, width) in (("light", 390), ("dark", 1280)):
-                    stand.picture(page, f"{view}-{'phone' if width < 500 else 'dark'}")
+                if name := PICTURES.get((view, scheme, width)):
+                    stand.picture(page, name)
     page.media()
     page.send("Emulation.clearDeviceMetricsOverride")
     for view in VIEWS:
