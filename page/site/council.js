@@ -7,7 +7,7 @@ import {money, sum} from './money.js';
 const BAR = 18;
 // The words of a bar stand beside it; on a phone above it, where `words` is their height.
 const BESIDE = {width: 900, left: 90, right: 300, words: 0, high: 92};
-const ABOVE = {width: 340, left: 0, right: 0, words: 18, high: 126};
+const ABOVE = {width: 340, left: 1, right: 1, words: 18, high: 126};
 const PHONE = matchMedia('screen and (max-width: 720px)');
 
 export class Council {
