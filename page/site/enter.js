@@ -163,7 +163,10 @@ export class Enter {
         parent.append(box);
     }
 
-    /** The name of the vendor whose number is typed, and numbers by a part of a name. */
+    /**
+     * The name of the vendor whose number is typed, and numbers by a part of a name; the number
+     * itself where one vendor alone has that part.
+     */
     nameVendor(input, box) {
         const place = made('p', {className: 'refers', role: 'status'}), say = () => { place.textContent = this.vendors.beside(input.value.trim()); };
         box.append(place);
@@ -172,7 +175,11 @@ export class Enter {
             byId('known-vendor').replaceChildren(...found.map(([number, name]) => made('option', {value: String(number), label: name})));
             say();
         });
-        input.addEventListener('change', say);
+        input.addEventListener('change', () => {
+            const found = /^\d*$/.test(input.value.trim()) ? [] : this.vendors.like(input.value, 2);
+            if (found.length === 1) input.value = String(found[0][0]);
+            say();
+        });
     }
 
     addList(field, form) {

@@ -46,6 +46,7 @@ def names_in_forms(stand):
     page.do("clerk.set(document.getElementById('form').elements.vendor, 'olsen')")
     offered = "[...document.getElementById('known-vendor').options].map(each => each.value + ' ' + each.label).join()"
     stand.same("a vendor by a part of its name", page.do(offered), "651 Ü. Olsen")
+    stand.same("its number, where one alone has that part", page.do(VALUE.format("vendor")), "651")
     said = clerk.enter(invoice("inv-650-named", 4, vendor=650))
     stand.holds("an answer names its vendor", f"11.00, vendor 650 {name}, 2025-08-12" in said, said)
     bodies = page.do("window.bodies")
