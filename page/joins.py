@@ -17,7 +17,9 @@ LEDGER = (
     " appropriated ordered held spent received"
 ).split()
 NUMBERS = set("number item desk party fund dept object line source year place document".split())
-AMOUNTS = set("amount left open appropriated ordered held spent received".split())
+AMOUNTS = set(
+    "amount left open due interest appropriated ordered held spent received".split()
+)
 OPEN = ("requisition", "order", "voucher", "bill", "bond", "asset")
 # What the page calls what `books` lists under these words.
 PAGE = {"issue": "bond", "lease": "bond"}
@@ -51,7 +53,7 @@ class Joins:
     def __init__(self, papers):
         self.papers = papers
         self.days = []  # of entries
-        self.numbers = {}  # of debts that were entered, and places of closes, by desk and key
+        self.closes = {}  # their places, by desk and key
         self.collected = []
         self.closed = []  # what each close closed, and its place
         self.opened = set()  # what is open, by the page's kind and the number
@@ -66,9 +68,8 @@ class Joins:
     def entry(self, row):
         self.days.append(row["day"])
         its = typed(row)
-        numbers = {"close": row["place"], "issue": row["number"], "lease": row["second"]}
-        if its["call"] in numbers:
-            self.numbers[its["desk"], its["key"]] = int(numbers[its["call"]])
+        if its["call"] == "close":
+            self.closes[its["desk"], its["key"]] = its["place"]
         if its["call"] == "collect":
             self.collected.append(its)
         self.put("entries", its, ENTRY)
@@ -76,16 +77,17 @@ class Joins:
     def put(self, kind, its, columns):
         self.by_year[kind][its["day"][:4]].append(compact([its[name] for name in columns]))
 
-    def debt(self, line):
-        """A call as `books` prints it, which enters or pays a debt."""
-        call = json.loads(line)
-        self.papers.debt(self.numbers.get((call["desk"], call["key"])), call)
+    def payment(self, line):
+        """A call as `books` prints it, which pays a debt."""
+        self.papers.payment(json.loads(line))
 
     def open(self, row):
-        if row["call"] == "close":
-            self.closed.append((row["closed"], self.numbers[int(row["desk"]), row["key"]]))
+        its = typed(row)
+        self.papers.open(its)
+        if its["call"] == "close":
+            self.closed.append((its["closed"], self.closes[its["desk"], its["key"]]))
         else:
-            self.opened.add((PAGE.get(row["call"], row["call"]), int(row["number"])))
+            self.opened.add((PAGE.get(its["call"], its["call"]), its["number"]))
 
     # ---- documents
 

@@ -104,9 +104,9 @@ class Skips:
         return {"made": self.made, "skips": self.count, "skipped": self.said}
 
 
-def is_of_debt(line):
-    """Whether a call enters or pays a debt. No key has such marks: its quotes are escaped."""
-    return '"principals":' in line or '"call":"pay_due"' in line
+def pays_debt(line):
+    """Whether a call pays a debt. No key has such marks: its quotes are escaped."""
+    return '"call":"pay_due"' in line
 
 
 def lists_of(books, folder):
@@ -120,7 +120,7 @@ def lists_of(books, folder):
     skips.each("document", books.rows("documents"), joins.document)
     skips.each("ledger row of entry", books.rows("ledger"), joins.ledger)
     skips.each("receipt of entry", joins.collected, paper.entry)
-    skips.each("debt", filter(is_of_debt, books.lines("calls")), joins.debt)
+    skips.each("payment of a debt", filter(pays_debt, books.lines("calls")), joins.payment)
     values = {"chart.json": chart, "open.json": joins.open_documents(), **paper.files()}
     files = joins.files() | {name: compact(value) for name, value in values.items()}
     for name, text in files.items():

@@ -5,43 +5,21 @@
     YEAR-invoices.json   place, day, desk, key, vendor, cents, voucher, then the place of the entry
                          that ended it, or 0, and its state then, or nothing
     YEAR-receipts.json   place, day, desk, key, bill (0 for none), payer (0 for none), source, cents
-    debts.json           bond or lease: what its next payment pays of principal and of interest, or
-                         nothing, and the fund, department and objects of its last payment, or none
+    debts.json           of each bond or lease that isn't paid off: what its next payment pays of
+                         principal and of interest, and the fund, department and objects of its
+                         last payment, or none
 
-No list of `books` has the principals of a debt, so they are read of its calls. The interest of a
-payment is computed as docs/GLOSSARY.md says it: by months of 30 days, cut to whole cents.
+Which object a payment charged for principal and which for interest its call alone tells.
 """
 from collections import defaultdict
 
-YEAR = 360 * 10_000  # a year's days, in basis points
 HEAD = ("place", "day", "desk", "key")
-
-
-class Debt:
-    """A bond or lease: its principals, how many are paid, and the accounts of its last payment."""
-
-    def __init__(self, call):
-        self.principals, self.rate_bp, self.days = (
-            call["principals"],
-            call["rate_bp"],
-            30 * call["every"],
-        )
-        self.paid, self.accounts = 0, []
-
-    def pay(self, call):
-        self.paid += 1
-        self.accounts = [call[part] for part in ("fund", "dept", "principal", "interest")]
-
-    def due(self):
-        """What its next payment pays: principal and interest, in cents."""
-        left = self.principals[self.paid :]
-        return [left[0], sum(left) * self.rate_bp * self.days // YEAR] if left else []
 
 
 class Papers:
     def __init__(self):
         self.years = {kind: defaultdict(list) for kind in ("orders", "invoices", "receipts")}
-        self.orders, self.bills, self.received, self.debts = {}, {}, [], {}
+        self.orders, self.bills, self.due, self.accounts = {}, {}, {}, {}
 
     def put(self, kind, paper):
         self.years[kind][int(paper[1][:4])].append(paper)
@@ -77,12 +55,15 @@ class Papers:
     def receipt(self, its, what, amount):
         self.put("receipts", [*(its[name] for name in HEAD), *what, amount])
 
-    def debt(self, number, call):
-        """A call that enters a debt of that number, or pays one."""
-        if call["call"] == "pay_due":
-            self.debts[call["bond"]].pay(call)
-        else:
-            self.debts[number] = Debt(call)
+    def open(self, its):
+        """A row of what is open."""
+        if its["due"] is not None:
+            self.due[its["number"]] = [its["due"] - its["interest"], its["interest"]]
+
+    def payment(self, call):
+        """A call that pays a debt."""
+        parts = ("fund", "dept", "principal", "interest")
+        self.accounts[call["bond"]] = [call[part] for part in parts]
 
     def files(self):
         """Each file's name, with its rows."""
@@ -94,7 +75,7 @@ class Papers:
         return {
             **years,
             "debts.json": {
-                number: [debt.due(), debt.accounts] for number, debt in self.debts.items()
+                number: [due, self.accounts.get(number, [])] for number, due in self.due.items()
             },
         }
 

@@ -17,8 +17,6 @@ from records import rows_of
 
 HERE = os.path.dirname(os.path.abspath(__file__))
 TOP = os.path.dirname(os.path.dirname(HERE))
-sys.path.append(os.path.join(TOP, "page"))
-from papers import Debt
 
 PAGE = {"issue": "bond", "lease": "bond"}  # what the page calls what `books` lists
 SUMS = {"final": -5, "on_order": -4, "actual": -2}  # of a line, in the columns of its ledger
@@ -142,21 +140,21 @@ def lines(lists):
 
 
 def debts(lists):
-    """What the page says that a debt's next payment pays is what the books list of the payment."""
-    calls = [json.loads(line) for line in lists.lines("calls")]
-    found = {}
-    for row, call in zip(lists.rows("list"), calls):
+    """What the next payment of each debt pays, and the accounts of its last one."""
+    accounts = {}
+    for call in map(json.loads, lists.lines("calls")):
         if call["call"] == "pay_due":
-            debt = found[call["bond"]]
-            same(f"the payment at {row['place']}", sum(debt.due()), cents(row["amount"]))
-            debt.pay(call)
-        elif "principals" in call:
-            found[int(row["number" if call["call"] == "issue" else "second"])] = Debt(call)
-    same(
-        "what debts pay next",
-        {number: due for number, (due, _) in lists.file("debts.json").items()},
-        {str(number): debt.due() for number, debt in found.items()},
-    )
+            parts = ("fund", "dept", "principal", "interest")
+            accounts[call["bond"]] = [call[part] for part in parts]
+    wanted = {
+        row["number"]: [
+            [cents(row["due"]) - cents(row["interest"]), cents(row["interest"])],
+            accounts.get(int(row["number"]), []),
+        ]
+        for row in lists.rows("open")
+        if row["call"] in PAGE
+    }
+    same("what debts pay next", lists.file("debts.json"), wanted)
 
 
 def skips(lists, *skipped):
