@@ -5,9 +5,9 @@
     YEAR-invoices.json   place, day, desk, key, vendor, cents, voucher, then the place of the entry
                          that ended it, or 0, and its state then, or nothing
     YEAR-receipts.json   place, day, desk, key, bill (0 for none), payer (0 for none), source, cents
-    debts.json           of each bond or lease that isn't paid off: what its next payment pays of
-                         principal and of interest, and the fund, department and objects of its
-                         last payment, or none
+    debts.json           of each bond or lease that isn't paid off: the day of its next payment,
+                         what that pays of principal and of interest, and the fund, department and
+                         objects of its last payment, or none
 
 Which object a payment charged for principal and which for interest its call alone tells.
 """
@@ -58,7 +58,8 @@ class Papers:
     def open(self, its):
         """A row of what is open."""
         if its["due"] is not None:
-            self.due[its["number"]] = [its["due"] - its["interest"], its["interest"]]
+            parts = [its["due"] - its["interest"], its["interest"]]
+            self.due[its["number"]] = [its["next"], parts]
 
     def payment(self, call):
         """A call that pays a debt."""
@@ -75,7 +76,7 @@ class Papers:
         return {
             **years,
             "debts.json": {
-                number: [due, self.accounts.get(number, [])] for number, due in self.due.items()
+                number: [*due, self.accounts.get(number, [])] for number, due in self.due.items()
             },
         }
 

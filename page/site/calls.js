@@ -93,7 +93,7 @@ export class Calls {
      * What is about to be done: "Close January 2027, 20 days before it ends". Of a debt it says what is
      * due, its principal and interest, where the lists have them.
      */
-    sentence(call, due = []) {
+    sentence(call, due) {
         const {chart} = this, about = this.about(call), on = `on ${dated(call.on)}`;
         const says = {
             close: () => this.closing(this.closed(call), endOf(call.what === 'month' ? call.month : this.lastMonth(Number(call.year)))),

@@ -228,7 +228,7 @@ export class Enter {
         const now = said.is ? this.states.say(kind, said.is) : this.words.of(said).text.replace(' Nothing was entered.', '');
         place.textContent = [found?.key, this.whose(kind, found)].filter(Boolean).join(', ') + (found ? ': ' : '') + now;
         if (kind === 'bill' && said.is?.left > 0 && byId('form').elements.amount) place.append(' ', this.allLeft(said.is.left));
-        if (kind === 'bond' && this.context?.name === 'pay_due' && said.is?.next) await this.debt(number, input, place);
+        if (kind === 'bond' && this.context?.name === 'pay_due' && said.is?.next) await this.debt(number, said.is.next, input, place);
         if (ofItems && said.is) this.orderItems(found, said.is.items.map((each, at) => this.states.item(each, at)));
     }
 
@@ -244,10 +244,10 @@ export class Enter {
     }
 
     /** The accounts of a debt's last payment, and what is due of its principal and interest. */
-    async debt(number, input, place) {
-        const {due, accounts} = await this.lists.debt(number).catch(() => ({accounts: []})), {elements} = byId('form');
+    async debt(number, next, input, place) {
+        const {due, accounts} = await this.lists.debt(number, next).catch(() => ({due: [], accounts: []})), {elements} = byId('form');
         if (input.value.trim() !== number || !place.isConnected) return;
-        if (due?.length) place.textContent += `, of ${dueOf(due)}`;
+        if (due.length) place.textContent += `, of ${dueOf(due)}`;
         const parts = ['fund', 'dept', 'principal', 'interest'], isOther = (part, at) => elements[part].value && elements[part].value !== String(accounts[at]);
         // What the clerk chose stays, and a form that stays as it is keeps what was prepared of it.
         if (!accounts.length || parts.some(isOther) || parts.every(part => elements[part].value)) return;

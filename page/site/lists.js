@@ -116,12 +116,13 @@ export class Lists {
     }
 
     /**
-     * What a bond's or lease's next payment pays, its principal and its interest, and the accounts
-     * of its last payment.
+     * What a bond's or lease's payment of a day pays, its principal and its interest, and the
+     * accounts of its last payment. Lists that don't have the last payment yet can't say what the
+     * next one pays.
      */
-    async debt(number) {
-        const [due, accounts] = (await got('data/debts.json'))[number] || [[], []];
-        return {due, accounts};
+    async debt(number, next) {
+        const [day, due, accounts] = (await got('data/debts.json'))[number] || ['', [], []];
+        return {due: day === next ? due : [], accounts};
     }
 
     async receipt(place) {

@@ -1,6 +1,7 @@
 // What is open: documents by the lists, each with its state as a door has it now.
 
 import {byId, fill, made, row, table} from './dom.js';
+import {dueOf} from './calls.js';
 import {dated} from './chart.js';
 import {money} from './money.js';
 
@@ -73,10 +74,9 @@ export class Open {
         byId('open-said').textContent = 'Asking for their states ..';
         while (this.left.length && this.rows.length < until) {
             const asked = this.left.splice(0, 4);
-            const look = async each => ({each, said: await this.doors.look({call: kind, [kind]: each.number}).catch(() => ({}))});
-            const rows = await Promise.all(asked.map(look));
+            const rows = await Promise.all(asked.map(each => this.stated(kind, each)));
             if (turn !== this.turn) return;
-            for (const {each, said} of rows) if (said.is && this.states.isOpen(kind, said.is)) this.rows.push(this.row(kind, each, said.is));
+            for (const {each, is, now} of rows) if (is && this.states.isOpen(kind, is)) this.rows.push(this.row(kind, each, is, now));
         }
         const who = kind === 'bill' ? 'Payer' : 'Vendor';
         const name = KINDS.find(([each]) => each === kind)[1], heads = ['Number', 'Day', 'Key', who, ['Amount', true], 'Now', ''];
@@ -86,13 +86,21 @@ export class Open {
         byId('open-more').hidden = this.left.length === 0;
     }
 
-    row(kind, each, is) {
+    /** A document with its state as a door has it, and that in words; of a debt with what its next payment pays. */
+    async stated(kind, each) {
+        const {is} = await this.doors.look({call: kind, [kind]: each.number}).catch(() => ({}));
+        if (!is) return {each};
+        const {due} = kind === 'bond' ? await this.lists.debt(each.number, is.next).catch(() => ({due: []})) : {due: []};
+        return {each, is, now: this.states.say(kind, is) + (due.length ? `, of ${dueOf(due)}` : '')};
+    }
+
+    row(kind, each, is, now) {
         const {calls} = this.tables, able = NEXT[kind].filter(([call]) => this.roles.includes(calls[call].role));
         const next = able.map(([call, field, more = {}]) => made('button', {type: 'button', className: 'small',
             onclick: () => this.begin(call, {...more, [field]: each.number})}, kind === 'asset' ? 'Dispose of it' : calls[call].title));
         if (kind === 'order') next.push(made('a', {href: `#paper/order/${each.number}`}, 'Purchase order'));
         // Of several assets of an invoice each has its own cost.
         const amount = kind === 'asset' ? is.cost : each.cents, who = kind === 'bill' ? String(each.who ?? '') : this.vendors.cell(each.who);
-        return row([String(each.number), each.day, each.key, who, amount === null ? '' : money(amount), this.states.say(kind, is), made('span', {}, ...next)]);
+        return row([String(each.number), each.day, each.key, who, amount === null ? '' : money(amount), now, made('span', {}, ...next)]);
     }
 }

@@ -18,8 +18,14 @@ export class Slips {
     async of(call) {
         const doubts = [this.day(call), ...await this.invoice(call), ...this.order(call)].filter(Boolean);
         if (!isFinal(call) && !doubts.length) return null;
-        const {due} = call.call === 'pay_due' ? await this.lists.debt(Number(call.bond)).catch(() => ({})) : {};
+        const due = call.call === 'pay_due' ? await this.due(Number(call.bond)).catch(() => []) : [];
         return {sentence: this.calls.sentence(call, due), isFinal: isFinal(call), notes: this.leaves(call), doubts};
+    }
+
+    /** What the next payment of a debt comes to, where the lists know it. */
+    async due(bond) {
+        const said = await this.doors.look({call: 'bond', bond});
+        return (await this.lists.debt(bond, said.is.next)).due;
     }
 
     /** What a close leaves behind, by the lists. */

@@ -148,6 +148,7 @@ def debts(lists):
             accounts[call["bond"]] = [call[part] for part in parts]
     wanted = {
         row["number"]: [
+            row["next"],
             [cents(row["due"]) - cents(row["interest"]), cents(row["interest"])],
             accounts.get(int(row["number"]), []),
         ]

@@ -134,8 +134,15 @@ def debts(stand):
     total = looking.money(int(paid["principal"]) + int(paid["interest"]))
     due = f"{total} ({looking.money(paid['principal'])} of principal and {looking.money(paid['interest'])} of interest)"
     stand.holds("the sum that is due", said.endswith(f"300.01 owed, next payment November 12, 2025, of {due}"), [said, due])
+    said = prepared(clerk, {**call, "on": "2026-02-12"})
+    stand.holds("not while the lists lack the last payment", said.startswith(f"Pay what is due of bond or lease {bond}"), said)
     stand.make_lists()
     clerk.page.do(AHEAD.format(0))
+    clerk.page.do("location.hash = '#open/bond'; true")
+    rows = ROWS.format("#open-table")
+    said = clerk.page.until(f"{rows}.find(row => row[0] === '{bond}')?.[5].includes('principal') && {rows}.find(row => row[0] === '{bond}')[5]")
+    stand.holds("a bond that is open, with what is due", said.startswith("200.01 owed, next payment February 12, 2026, of 202."), said)
+    clerk.view("enter")
     said = prepared(clerk, {**call, "on": "2026-02-12"})
     paid = stand.ask({**call, "desk": 5, "key": "debt-traps-2", "on": "2026-02-12"})["ok"]
     total = looking.money(int(paid["principal"]) + int(paid["interest"]))
