@@ -255,10 +255,11 @@ export class Enter {
         this.changed();
     }
 
-    /** A change of an order names an item: its account is that of the order. */
+    /** A change of an order names an item, or has the only one: its account is that of the order. */
     orderItems(found, texts) {
         const item = byId('form').elements.namedItem('item');
         fill(item, texts.map((text, place) => [place + 1, text]), 'Choose');
+        if (!item.value && texts.length === 1) item.value = '1';
         item.onchange = () => {
             const account = found?.items[Number(item.value) - 1];
             if (account) this.chosen.set(...account.slice(0, 3));

@@ -8,10 +8,10 @@ import {money} from './money.js';
 const KINDS = [['requisition', 'Requisitions'], ['order', 'Orders'], ['voucher', 'Vouchers to be paid'], ['bill', 'Bills'], ['asset', 'Assets'],
     ['bond', 'Bonds and leases']];
 const MORE = 40, HELD = 'held';
-// What can be done with a document of a kind, by call and field.
-const NEXT = {requisition: [['withdraw', 'requisition'], ['order', 'requisition']], order: [['change_order', 'order'], ['cancel_order', 'order']],
-    voucher: [['void_voucher', 'voucher']], bill: [['collect', 'bill'], ['write_off', 'bill']], asset: [['asset', 'asset', {what: 'dispose'}]],
-    bond: [['pay_due', 'bond']]};
+// What can be done with a document of a kind: the call, and what its button says.
+const NEXT = {requisition: [['withdraw', 'Withdraw'], ['order', 'Place an order']], order: [['change_order', 'Change'], ['cancel_order', 'Cancel']],
+    voucher: [['void_voucher', 'Void']], bill: [['collect', 'Collect'], ['write_off', 'Write off']], asset: [['asset', 'Dispose of it', {what: 'dispose'}]],
+    bond: [['pay_due', 'Pay']]};
 
 export class States {
     constructor(chart) {
@@ -96,8 +96,8 @@ export class Open {
 
     row(kind, each, is, now) {
         const {calls} = this.tables, able = NEXT[kind].filter(([call]) => this.roles.includes(calls[call].role));
-        const next = able.map(([call, field, more = {}]) => made('button', {type: 'button', className: 'small',
-            onclick: () => this.begin(call, {...more, [field]: each.number})}, kind === 'asset' ? 'Dispose of it' : calls[call].title));
+        const next = able.map(([call, text, more = {}]) => made('button', {type: 'button', className: 'small', 'aria-label': `${text}: ${kind} ${each.number}`,
+            onclick: () => this.begin(call, {...more, [kind]: each.number})}, text));
         if (kind === 'order') next.push(made('a', {href: `#paper/order/${each.number}`}, 'Purchase order'));
         // Of several assets of an invoice each has its own cost.
         const amount = kind === 'asset' ? is.cost : each.cents, who = kind === 'bill' ? String(each.who ?? '') : this.vendors.cell(each.who);

@@ -60,6 +60,7 @@ export class Views {
     }
 
     show(name, rest) {
+        const isOther = byId(name).hidden || OF_ONE.includes(name);
         this.name = name;
         for (const part of document.querySelectorAll('main > section')) part.hidden = part.id !== name;
         document.title = this.chart.city;
@@ -71,6 +72,8 @@ export class Views {
             button.setAttribute('aria-current', 'page');
             document.title = `${this.chart.city}: ${button.textContent}`;
         }
+        // An address scrolls to its view, below the head; a button leaves the place of the last one.
+        if (isOther) scrollTo(0, 0);
         if (name !== 'enter') this.views[name].show(rest);
     }
 }
