@@ -3,7 +3,8 @@
 # one run. Each accepted call is two writes and two syncs, so a desk that waits for nothing but the disk accepts half as many calls
 # as the disk syncs. Said are the microseconds of a call, those inside its two syncs and those beside them, and the share of that limit;
 # the time to open the journal is taken off. The files lie in a folder made in the folder of the argument, or in bench/. Syncs are
-# timed by a library that is put before the system's, so it needs cc. Where OTHER names another program it is measured in turn with the first.
+# timed by a library that is put before the system's, so it needs cc. The same program is measured in turn over a journal without room,
+# whose writes of room that library cuts off. Where OTHER names another program it is measured in turn too.
 top=$(cd "$(dirname "$0")/.." && pwd)
 . "$top/tests/lib/program.sh"
 command -v cc > /dev/null || { echo "durable: skipped: there is no cc"; exit 0; }
@@ -22,11 +23,11 @@ ADOPT = '{"call":"adopt","desk":1,"key":"b","on":"2025-07-01","fund":1,"year":20
 class Desk:
     """A desk of a program in a folder of its own."""
 
-    def __init__(self, number, program, tools):
+    def __init__(self, number, program, tools, room=True):
         self.program, self.folder, self.accepted = program, str(number), 0
         os.mkdir(self.folder)
         shutil.copy("chart.toml", self.folder)
-        self.times = syncs.Times(tools, f"desk{number}")
+        self.times = syncs.Times(tools, f"desk{number}", room=room)
         self.measured = syncs.Measured(self.times)
         subprocess.run([program, "found"], cwd=self.folder, stdout=subprocess.DEVNULL, check=True)
         self.run([ADOPT])
@@ -49,11 +50,13 @@ class Desk:
 
 os.mkdir("tools")
 tools = syncs.Tools(os.path.abspath("tools"))
-desks = [Desk(number, program, tools) for number, program in enumerate(sys.argv[1:])]
+own, *other = sys.argv[1:]
+desks = {"a desk": Desk(0, own, tools), "a desk without room": Desk(1, own, tools, room=False)}
+desks.update((f"a desk of {name}", Desk(2, name, tools)) for name in other)
 for turn in range(TURNS):
     limit = tools.limit(".", CALLS)
-    for desk in desks:
+    for desk in desks.values():
         desk.turn(turn, limit)
-for desk, name in zip(desks, ("a desk", "a desk of the other program")):
+for name, desk in desks.items():
     print(f"{name}: {desk.measured.said()} ({desk.accepted:,} of {TURNS * CALLS:,} accepted)")
 PY

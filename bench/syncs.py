@@ -39,9 +39,12 @@ class Tools:
         return float(subprocess.run(words, stdout=subprocess.PIPE, check=True).stdout)
 
 
-def environment(tools, times, sleep):
-    """The environment in which syncs are added up in a file, and in which each is a sleep of so many microseconds."""
+def environment(tools, times, sleep, room=True):
+    """The environment in which syncs are added up in a file, in which each is a sleep of so many microseconds, and in which a program
+    writes no room ahead of its records."""
     more = {"LD_PRELOAD": tools.path("timed")}
+    if not room:
+        more["NO_ROOM"] = "1"
     if times:
         more["SYNC_TIMES"] = times
     if sleep:
@@ -52,13 +55,13 @@ def environment(tools, times, sleep):
 class Times:
     """The times of one program's syncs."""
 
-    def __init__(self, tools, name, sleep=None):
+    def __init__(self, tools, name, sleep=None, room=True):
         path = os.path.join(tools.folder, name + ".times")
         with open(path, "wb") as file:
             file.write(bytes(32))
         with open(path, "r+b") as file:
             self.map = mmap.mmap(file.fileno(), 32)
-        self.environment = environment(tools, path, sleep)
+        self.environment = environment(tools, path, sleep, room)
         self.syncs = self.inside = self.between = 0
 
     def begin(self):
