@@ -29,9 +29,6 @@ abbrev leaves : List Shape
 leaves = leaf (codes "found") [] ∷ leaf (codes "desk") [] ∷ leaf (codes "serve") serve ∷ leaf (codes "report") report ∷ leaf (codes "generate") generate
     ∷ leaf (codes "pool") pool ∷ leaf (codes "claim") claim ∷ leaf (codes "ship") ship ∷ leaf (codes "follow") [] ∷ []
 
-subs_are : (built program).subs ≡ leaves
-subs_are = refl
-
 abbrev top : Shape
 top = (built program).top
 

@@ -168,12 +168,6 @@ no_more [] [] = refl
 no_more [] (k ∷ ks) = refl
 no_more (k ∷ ks) g = refl
 
--- what is refused before a list of uses is refused of each way to go on
-pulls : (f : Kinds) (g : List Use → Option (List Row)) (x : Option (List Use)) → option_and_then (λ us. unless f (g us)) x ≡ unless f (option_and_then g x)
-pulls [] g x = refl
-pulls (k ∷ ks) g None = refl
-pulls (k ∷ ks) g (Some us) = refl
-
 puts : (g : List Use → Option (List Row)) (u : Use) (x : Option (List Use)) → option_and_then g (with_use u x) ≡ option_and_then (λ us. g (u ∷ us)) x
 puts g u None = refl
 puts g u (Some us) = refl

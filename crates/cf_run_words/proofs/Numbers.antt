@@ -65,6 +65,3 @@ number_read text (Err e) lead h = go (are_digits text && nat_lt (digits_value 10
         let parts = both _ _ t in
         let g = rw (no_plus text lead) at h in
         absurd (g ((starts text lead, digits_from text parts.0), ltb-true _ _ parts.1))
-
-pub no_number : (text : Text) → begins_number text ≡ false → None ≡ number_of text
-no_number text e = rw e refl

@@ -70,12 +70,18 @@ abbrev pub bare_form : Form
 bare_form = record { options = []; flags = []; places = [] }
 
 abbrev pub serve_form : Form
-serve_form = record
-    { options = codes "port" ∷ codes "doors" ∷ codes "links" ∷ []; flags = []; places = [] }
+serve_form = record {
+  options = codes "port" ∷ codes "doors" ∷ codes "links" ∷ [];
+  flags = [];
+  places = [];
+}
 
 abbrev pub report_form : Form
-report_form = record
-    { options = []; flags = codes "csv" ∷ []; places = codes "year" ∷ codes "kind" ∷ [] }
+report_form = record {
+  options = [];
+  flags = codes "csv" ∷ [];
+  places = codes "year" ∷ codes "kind" ∷ [];
+}
 
 abbrev pub generate_form : Form
 generate_form = record { options = []; flags = []; places = codes "n" ∷ [] }
@@ -84,13 +90,15 @@ abbrev pub pool_form : Form
 pool_form = record {
   options = [];
   flags = [];
-  places =
-      codes "month" ∷ codes "amount" ∷ codes "desk" ∷ [];
+  places = codes "month" ∷ codes "amount" ∷ codes "desk" ∷ [];
 }
 
 abbrev pub claim_form : Form
-claim_form = record
-    { options = []; flags = []; places = codes "grant" ∷ codes "date" ∷ codes "desk" ∷ [] }
+claim_form = record {
+  options = [];
+  flags = [];
+  places = codes "grant" ∷ codes "date" ∷ codes "desk" ∷ [];
+}
 
 abbrev pub ship_form : Form
 ship_form = record { options = []; flags = []; places = codes "from" ∷ [] }

@@ -1,7 +1,7 @@
-use Rattle.std.proofs.Common.{◌∙◌, [], ◌∷◌, ap, codes, true, Ok}
+use Rattle.std.proofs.Common.{◌∙◌, [], ap, codes, true, Ok}
 use Rattle.clap.specs.Words.{App, Shape}
 use Rattle.clap.specs.Simple.{app_of_fields, on_top}
-use Rattle.cf_run_words.specs.CommandLine.{app, claim_rules, generate_rules, pool_rules, report_rules, serve_rules, ship_rules, shape, with_commands}
+use Rattle.cf_run_words.specs.CommandLine.{app, claim_rules, generate_rules, pool_rules, report_rules, serve_rules, ship_rules, shape}
 use Rattle.cf_run_words.proofs.Added.{grown, leaf_of}
 use Rattle.cf_run_words.proofs.program.program.Goals as goal
 
@@ -13,9 +13,6 @@ helpless = on_top (λ (s : Shape). record s { disable_help_flag = true })
 
 abbrev bare : App → App
 bare = on_top (λ (s : Shape). record s { disable_help_subcommand = true })
-
-abbrev top_of : App → Shape
-top_of a = a.top
 
 pub returns : goal.returns
 returns c =
