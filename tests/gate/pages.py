@@ -23,7 +23,7 @@ import sys
 TOP = os.path.join(os.path.dirname(os.path.abspath(__file__)), "..", "..")
 MADE = "docs/CLAUSES.md"
 # The lines of more than 100 columns that the crates have: printed texts, and tables in comments.
-WIDE = 61
+WIDE = 58
 
 
 @functools.cache

@@ -69,10 +69,9 @@ fn words_of(alloc: Global, text: &str) -> Result<Vec<String>, AllocError> {
 
 /// A desk with these lines over a disk.
 pub fn desk_over(alloc: Global, lines: &str, disk: MemDisk) -> Result<Left, AllocError> {
-    let words = words_of(alloc, "desk")?;
     let mut input = source(alloc, lines)?;
     let mut out = MemSink::limited(alloc, usize::MAX);
-    let Ran { status, disk } = run_desk(alloc, words.as_slice(), &mut input, &mut out, disk);
+    let Ran { status, disk } = run_desk(alloc, &mut input, &mut out, disk);
     Ok(Left { status, out, disk })
 }
 

@@ -1,6 +1,6 @@
 //! The run of `follow`.
 
-ghost use Rattle.std.specs.Prelude.{◌≡◌, ◌≢◌, ◌⊎◌, Some, None, IfOk, length, map, string_bytes};
+ghost use Rattle.std.specs.Prelude.{◌≡◌, ◌≢◌, None, IfOk, length};
 ghost use Rattle.cf_base.specs.Causes.{Rose};
 ghost use Rattle.cf_journal_book.specs.DurableState.{DurableBook};
 ghost use Rattle.cf_follow.specs.Steps.{IsReadCause};
@@ -8,7 +8,6 @@ ghost use Rattle.cf_follow.specs.declared.end.FollowEnd.TheVariants as end;
 ghost use Rattle.cf_run_status.specs.Devices.{device};
 ghost use Rattle.cf_run_follow.specs.Follows.{Copied, FollowRunEnds, followed_text, status_of_end};
 ghost use Rattle.cf_run_status.specs.Printing.{Prints};
-ghost use Rattle.cf_run_words.specs.Words.{command_of};
 
 use crate::copying::Copying;
 use cf_base::{Sink, Source};
@@ -16,7 +15,6 @@ use cf_disk::Disk;
 use cf_follow::{FollowEnd, follow};
 use cf_journal_book::{Book, NotOpened, open_with_bytes};
 use cf_run_status::{Ran, Status, print, refusal_status};
-use cf_run_words::{Command, WordsRefused, read_words};
 use itoa::Buffer;
 use std::alloc::{AllocError, Global};
 
@@ -86,9 +84,12 @@ fn print_end<O: Sink>(alloc: Global, how: FollowEnd, count: u64, out: &mut O) ->
     }
 }
 
-/// Opens the journal of the disk, has its book follow the stream, and prints how many entries there
-/// are at the end.
-fn follow_over<I: Source, O: Sink, D: Disk + Drop>(
+/// The run of `follow`: opens the journal, and reads a stream from the input into it. An entry that
+/// it has already is compared, and each later one is appended where the rules accept it with the
+/// same numbers. At the end of the stream `followed` and how many entries there are then are
+/// printed on one line. Where the stream ends otherwise nothing is printed, and the entries of its
+/// whole records stay.
+pub fn run_follow<I: Source, O: Sink, D: Disk + Drop>(
     alloc: Global,
     input: &mut I,
     out: &mut O,
@@ -117,48 +118,6 @@ fn follow_over<I: Source, O: Sink, D: Disk + Drop>(
         }
         Err(NotOpened { disk, why }) => Ran {
             status: refusal_status(why),
-            disk,
-        },
-    }
-}
-
-/// The run of `follow`: opens the journal, and reads a stream from the input into it. An entry that
-/// it has already is compared, and each later one is appended where the rules accept it with the
-/// same numbers. At the end of the stream `followed` and how many entries there are then are
-/// printed on one line. Other words are `BadWords`, and nothing is read or written.
-pub fn run_follow<I: Source, O: Sink, D: Disk + Drop>(
-    alloc: Global,
-    words: &[String],
-    input: &mut I,
-    out: &mut O,
-    disk: D,
-) -> Ran<D>
-    ensures ends { command_of (map string_bytes words.now) ≡ Some Command.Follow
-        → FollowRunEnds (device D.tells D.content D.is_image D.moment D.was_image D.faults) disk
-        result.disk
-        (I.left input.old) (I.left input.new) (O.held out.old) (O.held out.new) result.status }
-    ensures words { (command_of (map string_bytes words.now) ≡ Some Command.Follow → ⊥)
-        → ((result.status ≡ Status.BadWords) ⊎ (result.status ≡ Status.NoMemory))
-        × (I.left input.new ≡ I.left input.old) × (O.held out.new ≡ O.held out.old)
-        × (result.disk ≡ disk) }
-    ensures read { result.status ≡ Status.ReadFault
-        → Rose (I.faults input.old) (I.faults input.new) }
-    ensures write { result.status ≡ Status.WriteFault → Rose (O.faults out.old) (O.faults out.new) }
-    ensures disk { result.status ≡ Status.DiskFault → Rose (D.faults disk) (D.faults result.disk) }
-    ensures memory { result.status ≡ Status.NoMemory
-        → (I.faults input.new ≡ I.faults input.old) × (O.faults out.new ≡ O.faults out.old)
-        × (D.faults result.disk ≡ D.faults disk) }
-    ensures input_quiet { result.status ≢ Status.ReadFault → I.faults input.new ≡ I.faults input.old }
-    ensures out_quiet { result.status ≢ Status.WriteFault → O.faults out.new ≡ O.faults out.old }
-{
-    match read_words(alloc, words) {
-        Ok(Command::Follow) => follow_over(alloc, input, out, disk),
-        Ok(_) | Err(WordsRefused::BadWords) => Ran {
-            status: Status::BadWords,
-            disk,
-        },
-        Err(WordsRefused::NoMemory) => Ran {
-            status: Status::NoMemory,
             disk,
         },
     }

@@ -1,17 +1,15 @@
 //! The run of `ship`.
 
-ghost use Rattle.std.specs.Prelude.{◌≡◌, ◌≢◌, ◌⊎◌, ℕ, Some, map, string_bytes};
+ghost use Rattle.std.specs.Prelude.{◌≡◌, ◌≢◌};
 ghost use Rattle.cf_base.specs.Causes.{Rose};
 ghost use Rattle.cf_run_status.specs.Devices.{device};
 ghost use Rattle.cf_run_follow.specs.Ships.{ShipEnds, status_of_shipped};
-ghost use Rattle.cf_run_words.specs.Words.{command_of};
 
 use cf_base::Sink;
 use cf_disk::Disk;
 use cf_journal_book::{NotOpened, open_with_bytes};
 use cf_journal_stream::{ShipEnd, ship};
 use cf_run_status::{Ran, Status, refusal_status};
-use cf_run_words::{Command, WordsRefused, read_words};
 use std::alloc::Global;
 
 fn status_of(how: ShipEnd) -> Status
@@ -24,8 +22,10 @@ fn status_of(how: ShipEnd) -> Status
     }
 }
 
-/// Opens the journal of the disk, and writes the stream of its history from a place on.
-fn ship_over<O: Sink, D: Disk + Drop>(alloc: Global, from: u32, out: &mut O, disk: D) -> Ran<D>
+/// The run of `ship`: opens the journal, and writes the stream of its history: the chart, and the
+/// entries behind the first `from`. The journal is only read. Where it isn't opened nothing is
+/// written.
+pub fn run_ship<O: Sink, D: Disk + Drop>(alloc: Global, from: u32, out: &mut O, disk: D) -> Ran<D>
     ensures ends { ShipEnds
         (device D.tells D.content D.is_image D.moment D.was_image D.faults) from disk result.disk
         (O.held out.old) (O.held out.new) result.status }
@@ -51,42 +51,6 @@ fn ship_over<O: Sink, D: Disk + Drop>(alloc: Global, from: u32, out: &mut O, dis
         }
         Err(NotOpened { disk, why }) => Ran {
             status: refusal_status(why),
-            disk,
-        },
-    }
-}
-
-/// The run of `ship`: opens the journal, and writes the stream of its history: the chart, and the
-/// entries behind the first FROM. The journal is only read. Other words are `BadWords`, and nothing
-/// is read or written.
-pub fn run_ship<O: Sink, D: Disk + Drop>(
-    alloc: Global,
-    words: &[String],
-    out: &mut O,
-    disk: D,
-) -> Ran<D>
-    ensures ends { (from : ℕ) → command_of (map string_bytes words.now) ≡ Some (Command.Ship from)
-        → ShipEnds (device D.tells D.content D.is_image D.moment D.was_image D.faults) from disk
-        result.disk
-        (O.held out.old) (O.held out.new) result.status }
-    ensures words { ((from : ℕ) → command_of (map string_bytes words.now) ≡ Some (Command.Ship from)
-        → ⊥)
-        → ((result.status ≡ Status.BadWords) ⊎ (result.status ≡ Status.NoMemory))
-        × (O.held out.new ≡ O.held out.old) × (result.disk ≡ disk) }
-    ensures write { result.status ≡ Status.WriteFault → Rose (O.faults out.old) (O.faults out.new) }
-    ensures disk { result.status ≡ Status.DiskFault → Rose (D.faults disk) (D.faults result.disk) }
-    ensures memory { result.status ≡ Status.NoMemory
-        → (O.faults out.new ≡ O.faults out.old) × (D.faults result.disk ≡ D.faults disk) }
-    ensures out_quiet { result.status ≢ Status.WriteFault → O.faults out.new ≡ O.faults out.old }
-{
-    match read_words(alloc, words) {
-        Ok(Command::Ship { from }) => ship_over(alloc, from, out, disk),
-        Ok(_) | Err(WordsRefused::BadWords) => Ran {
-            status: Status::BadWords,
-            disk,
-        },
-        Err(WordsRefused::NoMemory) => Ran {
-            status: Status::NoMemory,
             disk,
         },
     }

@@ -1,5 +1,5 @@
 -- A run of `pool`.
-use Rattle.std.proofs.Common.{◌≡◌, ℕ, List, [], Option, IsTrue, Vec, Result, Ok, Err, ap, sym, subst, ◌∙◌}
+use Rattle.std.proofs.Common.{◌≡◌, ℕ, List, Option, IsTrue, Vec, Result, Ok, Err, ap, sym, subst, ◌∙◌}
 use Rattle.std.specs.declared.alloc.Global.{Global}
 use Rattle.cf_base.specs.declared.calendar.Month.{Month}
 use Rattle.cf_journal_book.specs.declared.refused.BookRefused.{BookRefused}
@@ -8,12 +8,10 @@ use Rattle.cf_journal_book.specs.DurableState.{DurableBook}
 use Rattle.cf_journal_book.specs.Openings.{OpensBook, OpensNone, Refuses}
 use Rattle.cf_journal_book.specs.Recovery.{recovered, RecoversTo}
 use Rattle.cf_pool_cash.specs.Moves.{moves_of}
-use Rattle.cf_chart.specs.Plan.{Plan}
 use Rattle.cf_model.specs.State.{IsSoundState}
 use Rattle.cf_pool.specs.declared.days.CashMove.{CashMove}
 use Rattle.cf_pool.specs.declared.refused.PoolRefused.{PoolRefused}
 use Rattle.cf_pool.specs.declared.refused.PoolRefused.TheVariants as pool_refused
-use Rattle.cf_pool.specs.Shares.{ArePoolLines, PoolAnswers}
 use Rattle.cf_run_status.specs.declared.status.Status.{Status}
 use Rattle.cf_run_status.specs.declared.status.Status.TheVariants as status
 use Rattle.cf_run_status.specs.Devices.{Device}
@@ -21,21 +19,6 @@ use Rattle.cf_run_reports.specs.Pools.{SharesBy, PoolMakes, PrintsShares, PoolSa
 use Rattle.cf_run_status.specs.Printing.{Prints}
 use Rattle.cf_run_status.specs.Unwritten.{IsUnwritten}
 use Rattle.cf_run_status.specs.Refused.{status_of_refused}
-
--- ---- the lines
-
-pub makes_lines : (plan : Plan) (moves : List CashMove) (month : Month) (amount desk : ℕ) (new : List ℕ) → PoolAnswers plan moves month amount desk [] new (Ok tt) → SharesBy plan moves month amount desk new
-makes_lines plan moves month amount desk new answers = record {
-  some = answers.0;
-  shared = subst (ArePoolLines plan moves month amount desk) (sym answers.1.1.1) answers.1.1.0;
-}
-
-pub makes_none : (plan : Plan) (moves : List CashMove) (month : Month) (amount desk : ℕ) (new : List ℕ) (why : PoolRefused) → PoolAnswers plan moves month amount desk [] new (Err why)
-    → PoolMakes plan moves month amount desk (Err why)
-makes_none plan moves month amount desk new (pool_refused.NoShare all) answers = record { none = answers.0; sum_is = answers.1 }
-makes_none plan moves month amount desk new pool_refused.NoMemory answers = tt
-
--- ---- the run
 
 module _ {D : Type 0} (device : Device D) (month : Month) (amount desk : ℕ) (old : D) (held held' : Option (List ℕ)) where
   printed : (book : DurableBook D) (lines : List ℕ) (s : Status) → (IsTrue device.tells → RecoversTo book.plan book.entries (device.content old)) → IsSoundState (record { plan = book.plan; entries = book.entries })

@@ -1,12 +1,10 @@
 //! The run of `claim`.
 
-ghost use Rattle.std.specs.Prelude.{◌≡◌, ◌≢◌, ◌⊎◌, ℕ, Some, map, string_bytes};
+ghost use Rattle.std.specs.Prelude.{◌≡◌, ◌≢◌};
 ghost use Rattle.cf_base.specs.Causes.{Rose};
-ghost use Rattle.cf_base.specs.declared.calendar.Day.{Day as ADay};
 ghost use Rattle.cf_claims.specs.Texts.{claim_text as text_of};
 ghost use Rattle.cf_run_reports.specs.Claims.{ClaimEnds, ClaimRead, ClaimOver};
 ghost use Rattle.cf_run_status.specs.Devices.{device};
-ghost use Rattle.cf_run_words.specs.Words.{command_of};
 
 use cf_base::{Day, Sink, Source};
 use cf_base_lines::{Unread, read_all};
@@ -15,7 +13,6 @@ use cf_disk::Disk;
 use cf_grants::GrantRefused;
 use cf_journal_book::{Book, NotOpened, open};
 use cf_run_status::{Ran, Status, print, refusal_status};
-use cf_run_words::{Command, WordsRefused, read_words};
 use std::alloc::Global;
 
 // The most bytes that are taken of a document: one more than a document may have.
@@ -71,8 +68,12 @@ fn claim_read<I: Source, O: Sink, D: Disk + Drop>(
     }
 }
 
-/// Opens the journal of the disk, reads the document, and prints the lines of a claim.
-fn claim_over<I: Source, O: Sink, D: Disk + Drop>(
+/// The run of `claim`: opens the journal, reads a document of grants from the input, at most
+/// 1,048,577 bytes of it, and writes the bill calls by which a desk claims a grant on a day. The
+/// journal is only read. `GrantRefused` comes, and nothing is written, with the document's first
+/// fault, or where it has no such grant. Where the journal isn't opened, or there is no memory,
+/// nothing is written.
+pub fn run_claim<I: Source, O: Sink, D: Disk + Drop>(
     alloc: Global,
     grant: u16,
     on: Day,
@@ -105,51 +106,6 @@ fn claim_over<I: Source, O: Sink, D: Disk + Drop>(
         }
         Err(NotOpened { disk, why }) => Ran {
             status: refusal_status(why),
-            disk,
-        },
-    }
-}
-
-/// The run of `claim`: opens the journal, reads a document of grants from the input, at most
-/// 1,048,577 bytes of it, and writes the bill calls by which a desk claims a grant on a day. The
-/// journal is only read. Other words are `BadWords`, and nothing is read or written.
-pub fn run_claim<I: Source, O: Sink, D: Disk + Drop>(
-    alloc: Global,
-    words: &[String],
-    input: &mut I,
-    out: &mut O,
-    disk: D,
-) -> Ran<D>
-    ensures ends { (grant : ℕ) (on : ADay) (desk : ℕ)
-        → command_of (map string_bytes words.now) ≡ Some (Command.Claim grant on desk)
-        → ClaimEnds (device D.tells D.content D.is_image D.moment D.was_image D.faults) grant on
-        desk disk result.disk
-        (I.left input.old) (I.left input.new) (O.held out.old) (O.held out.new) result.status }
-    ensures words { ((grant : ℕ) (on : ADay) (desk : ℕ)
-        → command_of (map string_bytes words.now) ≡ Some (Command.Claim grant on desk) → ⊥)
-        → ((result.status ≡ Status.BadWords) ⊎ (result.status ≡ Status.NoMemory))
-        × (I.left input.new ≡ I.left input.old)
-        × (O.held out.new ≡ O.held out.old) × (result.disk ≡ disk) }
-    ensures read { result.status ≡ Status.ReadFault
-        → Rose (I.faults input.old) (I.faults input.new) }
-    ensures write { result.status ≡ Status.WriteFault → Rose (O.faults out.old) (O.faults out.new) }
-    ensures disk { result.status ≡ Status.DiskFault → Rose (D.faults disk) (D.faults result.disk) }
-    ensures memory { result.status ≡ Status.NoMemory
-        → (I.faults input.new ≡ I.faults input.old) × (O.faults out.new ≡ O.faults out.old)
-        × (D.faults result.disk ≡ D.faults disk) }
-    ensures input_quiet { result.status ≢ Status.ReadFault → I.faults input.new ≡ I.faults input.old }
-    ensures out_quiet { result.status ≢ Status.WriteFault → O.faults out.new ≡ O.faults out.old }
-{
-    match read_words(alloc, words) {
-        Ok(Command::Claim { grant, on, desk }) => claim_over(
-            alloc, grant, on, desk, input, out, disk,
-        ),
-        Ok(_) | Err(WordsRefused::BadWords) => Ran {
-            status: Status::BadWords,
-            disk,
-        },
-        Err(WordsRefused::NoMemory) => Ran {
-            status: Status::NoMemory,
             disk,
         },
     }

@@ -1,13 +1,11 @@
 //! The run of `pool`.
 
-ghost use Rattle.std.specs.Prelude.{◌≡◌, ◌≢◌, ◌⊎◌, ◌<◌, ◌^◌, ℕ, Some, true, map, string_bytes};
+ghost use Rattle.std.specs.Prelude.{◌≡◌, ◌≢◌, ◌<◌, ◌^◌, true};
 ghost use Rattle.cf_base.specs.Calendar.{is_call_month};
 ghost use Rattle.cf_base.specs.Causes.{Rose};
-ghost use Rattle.cf_base.specs.declared.calendar.Month.{Month};
 ghost use Rattle.cf_pool.specs.Balances.{sizes};
 ghost use Rattle.cf_run_status.specs.Devices.{device};
 ghost use Rattle.cf_run_reports.specs.Pools.{PoolEnds, PoolMakes, PrintsShares};
-ghost use Rattle.cf_run_words.specs.Words.{command_of};
 
 use cf_base::{Month, Sink};
 use cf_chart::Chart;
@@ -16,7 +14,6 @@ use cf_journal_book::NotOpened;
 use cf_pool::{CashMove, PoolRefused, pool_lines};
 use cf_pool_cash::open_with_moves;
 use cf_run_status::{Ran, Status, print, refusal_status};
-use cf_run_words::{Command, WordsRefused, read_words};
 use std::alloc::Global;
 
 /// The lines of a month's shares.
@@ -53,8 +50,12 @@ fn print_shares<O: Sink>(lines: Result<Vec<u8>, PoolRefused>, out: &mut O) -> St
     }
 }
 
-/// Opens the journal of the disk, and writes the shares of its funds in a month's interest.
-fn pool_over<O: Sink, D: Disk + Drop>(
+/// The run of `pool`: opens the journal, and writes the receive calls by which a desk shares a
+/// month's interest among the funds by their average daily balances, one a line, as `desk` reads
+/// them. The month is from 1970-01 to 2199-12, and `amount` is in cents. The journal is only read.
+/// `NoShare` comes, and nothing is written, where no fund has a balance to share by. Where the
+/// journal isn't opened, or there is no memory, nothing is written.
+pub fn run_pool<O: Sink, D: Disk + Drop>(
     alloc: Global,
     month: Month,
     amount: u64,
@@ -84,50 +85,6 @@ fn pool_over<O: Sink, D: Disk + Drop>(
         }
         Err(NotOpened { disk, why }) => Ran {
             status: refusal_status(why),
-            disk,
-        },
-    }
-}
-
-/// The run of `pool`: opens the journal, and writes the receive calls by which a desk shares a
-/// month's interest among the funds by their average daily balances, one a line, as `desk` reads
-/// them. The journal is only read. `NoShare` comes, and nothing is written, where no fund has a
-/// balance to share by. Other words are `BadWords`, and nothing is read or written.
-pub fn run_pool<O: Sink, D: Disk + Drop>(
-    alloc: Global,
-    words: &[String],
-    out: &mut O,
-    disk: D,
-) -> Ran<D>
-    ensures ends { (month : Month) (amount desk : ℕ)
-        → command_of (map string_bytes words.now) ≡ Some (Command.Pool month amount desk)
-        → PoolEnds (device D.tells D.content D.is_image D.moment D.was_image D.faults) month amount
-        desk disk result.disk
-        (O.held out.old) (O.held out.new) result.status }
-    ensures words { ((month : Month) (amount desk : ℕ)
-        → command_of (map string_bytes words.now) ≡ Some (Command.Pool month amount desk) → ⊥)
-        → ((result.status ≡ Status.BadWords) ⊎ (result.status ≡ Status.NoMemory))
-        × (O.held out.new ≡ O.held out.old) × (result.disk ≡ disk) }
-    ensures write { result.status ≡ Status.WriteFault → Rose (O.faults out.old) (O.faults out.new) }
-    ensures disk { result.status ≡ Status.DiskFault → Rose (D.faults disk) (D.faults result.disk) }
-    ensures memory { result.status ≡ Status.NoMemory
-        → (O.faults out.new ≡ O.faults out.old) × (D.faults result.disk ≡ D.faults disk) }
-    ensures out_quiet { result.status ≢ Status.WriteFault → O.faults out.new ≡ O.faults out.old }
-{
-    match read_words(alloc, words) {
-        Ok(
-            Command::Pool {
-                month,
-                amount,
-                desk,
-            },
-        ) => pool_over(alloc, month, amount, desk, out, disk),
-        Ok(_) | Err(WordsRefused::BadWords) => Ran {
-            status: Status::BadWords,
-            disk,
-        },
-        Err(WordsRefused::NoMemory) => Ran {
-            status: Status::NoMemory,
             disk,
         },
     }

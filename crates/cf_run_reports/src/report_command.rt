@@ -1,12 +1,10 @@
 //! The run of `report`.
 
-ghost use Rattle.std.specs.Prelude.{◌≡◌, ◌≢◌, ◌⊎◌, ℕ, Bool, Some, IfOk, map, string_bytes};
+ghost use Rattle.std.specs.Prelude.{◌≡◌, ◌≢◌, IfOk};
 ghost use Rattle.cf_base.specs.Causes.{Rose};
 ghost use Rattle.cf_calls.specs.Form.{IsYear};
 ghost use Rattle.cf_run_status.specs.Devices.{device};
 ghost use Rattle.cf_run_reports.specs.Reports.{ReportEnds, heading_of, report_text, rows_of};
-ghost use Rattle.cf_run_words.specs.Words.{command_of};
-ghost use Rattle.cf_run_words.specs.declared.words.ReportKind.{ReportKind};
 
 use cf_base::Sink;
 use cf_calls::Row;
@@ -14,7 +12,7 @@ use cf_classes::{classes_title, components_title, major_title};
 use cf_disk::Disk;
 use cf_journal_book::{Book, NotOpened, open};
 use cf_run_status::{Ran, Status, print, refusal_status};
-use cf_run_words::{Command, ReportKind, WordsRefused, read_words};
+use cf_run_words::ReportKind;
 use cf_statements::title;
 use cf_text::statement_bytes;
 use std::alloc::{AllocError, Global};
@@ -66,8 +64,11 @@ fn report_bytes<D: Disk + Drop>(
     statement_bytes(alloc, city, heading(kind), year, rows.as_slice(), csv)
 }
 
-/// Opens the journal of the disk, and prints a statement of its history.
-fn report_over<O: Sink, D: Disk + Drop>(
+/// The run of `report`: opens the journal, makes a statement of its history for a fiscal year,
+/// from 1971 to 2199, and writes it as lines of text or, where `csv` is true, as comma-separated
+/// records. The journal is only read. Where it isn't opened, or there is no memory, nothing is
+/// written.
+pub fn run_report<O: Sink, D: Disk + Drop>(
     alloc: Global,
     year: u16,
     kind: ReportKind,
@@ -96,43 +97,6 @@ fn report_over<O: Sink, D: Disk + Drop>(
         }
         Err(NotOpened { disk, why }) => Ran {
             status: refusal_status(why),
-            disk,
-        },
-    }
-}
-
-/// The run of `report`: opens the journal, makes a statement of its history for a fiscal year, and
-/// writes it as lines of text or, with `--csv`, as comma-separated records. The journal is only
-/// read. Other words are `BadWords`, and nothing is read or written.
-pub fn run_report<O: Sink, D: Disk + Drop>(
-    alloc: Global,
-    words: &[String],
-    out: &mut O,
-    disk: D,
-) -> Ran<D>
-    ensures ends { (year : ℕ) (kind : ReportKind) (csv : Bool)
-        → command_of (map string_bytes words.now) ≡ Some (Command.Report year kind csv)
-        → ReportEnds (device D.tells D.content D.is_image D.moment D.was_image D.faults) year kind
-        csv disk result.disk
-        (O.held out.old) (O.held out.new) result.status }
-    ensures words { ((year : ℕ) (kind : ReportKind) (csv : Bool)
-        → command_of (map string_bytes words.now) ≡ Some (Command.Report year kind csv) → ⊥)
-        → ((result.status ≡ Status.BadWords) ⊎ (result.status ≡ Status.NoMemory))
-        × (O.held out.new ≡ O.held out.old) × (result.disk ≡ disk) }
-    ensures write { result.status ≡ Status.WriteFault → Rose (O.faults out.old) (O.faults out.new) }
-    ensures disk { result.status ≡ Status.DiskFault → Rose (D.faults disk) (D.faults result.disk) }
-    ensures memory { result.status ≡ Status.NoMemory
-        → (O.faults out.new ≡ O.faults out.old) × (D.faults result.disk ≡ D.faults disk) }
-    ensures out_quiet { result.status ≢ Status.WriteFault → O.faults out.new ≡ O.faults out.old }
-{
-    match read_words(alloc, words) {
-        Ok(Command::Report { year, kind, csv }) => report_over(alloc, year, kind, csv, out, disk),
-        Ok(_) | Err(WordsRefused::BadWords) => Ran {
-            status: Status::BadWords,
-            disk,
-        },
-        Err(WordsRefused::NoMemory) => Ran {
-            status: Status::NoMemory,
             disk,
         },
     }

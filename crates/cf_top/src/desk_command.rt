@@ -1,12 +1,11 @@
 //! The run of `desk`.
 
-ghost use Rattle.std.specs.Prelude.{◌≡◌, ◌≢◌, ◌⊎◌, [], None, Some, map, string_bytes};
+ghost use Rattle.std.specs.Prelude.{◌≡◌, ◌≢◌, [], None};
 ghost use Rattle.std.specs.Io.KnownBytes.{Consumes};
 ghost use Rattle.cf_base.specs.Causes.{Rose};
 ghost use Rattle.cf_base_lines.specs.declared.ended.Ended.TheVariants as ended;
 ghost use Rattle.cf_top.specs.Runs.{DeskEnds, DeskKept, opened, status_of_ended};
 ghost use Rattle.cf_run_status.specs.Devices.{device};
-ghost use Rattle.cf_run_words.specs.Words.{command_of};
 
 use crate::clerk::Clerk;
 use cf_base::{Sink, Source};
@@ -14,7 +13,6 @@ use cf_base_lines::{Ended, run_lines};
 use cf_disk::Disk;
 use cf_journal_book::{Book, NotOpened, open};
 use cf_run_status::{Ran, Status, refusal_status};
-use cf_run_words::{Command, WordsRefused, read_words};
 use std::alloc::Global;
 
 fn status_of(how: Ended) -> Status
@@ -56,8 +54,10 @@ fn keep_desk<I: Source, O: Sink, D: Disk + Drop>(
     (how, book.close())
 }
 
-/// Opens the journal of the disk, and keeps a desk over it.
-fn desk_over<I: Source, O: Sink, D: Disk + Drop>(
+/// The run of `desk`: opens the journal, then reads one call per line of the input and answers each
+/// on one line. Where the journal isn't opened, or there is no memory, nothing is read of the input
+/// or written.
+pub fn run_desk<I: Source, O: Sink, D: Disk + Drop>(
     alloc: Global,
     input: &mut I,
     out: &mut O,
@@ -86,46 +86,6 @@ fn desk_over<I: Source, O: Sink, D: Disk + Drop>(
         }
         Err(NotOpened { disk, why }) => Ran {
             status: refusal_status(why),
-            disk,
-        },
-    }
-}
-
-/// The run of `desk`: opens the journal, then reads one call per line of the input and answers each
-/// on one line. Other words are `BadWords`, and nothing is read or written.
-pub fn run_desk<I: Source, O: Sink, D: Disk + Drop>(
-    alloc: Global,
-    words: &[String],
-    input: &mut I,
-    out: &mut O,
-    disk: D,
-) -> Ran<D>
-    ensures ends { command_of (map string_bytes words.now) ≡ Some Command.Desk
-        → DeskEnds (device D.tells D.content D.is_image D.moment D.was_image D.faults) disk
-        result.disk
-        (I.left input.old) (I.left input.new) (O.held out.old) (O.held out.new) result.status }
-    ensures words { (command_of (map string_bytes words.now) ≡ Some Command.Desk → ⊥)
-        → ((result.status ≡ Status.BadWords) ⊎ (result.status ≡ Status.NoMemory))
-        × (I.left input.new ≡ I.left input.old) × (O.held out.new ≡ O.held out.old)
-        × (result.disk ≡ disk) }
-    ensures read { result.status ≡ Status.ReadFault
-        → Rose (I.faults input.old) (I.faults input.new) }
-    ensures write { result.status ≡ Status.WriteFault → Rose (O.faults out.old) (O.faults out.new) }
-    ensures disk { result.status ≡ Status.DiskFault → Rose (D.faults disk) (D.faults result.disk) }
-    ensures memory { result.status ≡ Status.NoMemory
-        → (I.faults input.new ≡ I.faults input.old) × (O.faults out.new ≡ O.faults out.old)
-        × (D.faults result.disk ≡ D.faults disk) }
-    ensures input_quiet { result.status ≢ Status.ReadFault → I.faults input.new ≡ I.faults input.old }
-    ensures out_quiet { result.status ≢ Status.WriteFault → O.faults out.new ≡ O.faults out.old }
-{
-    match read_words(alloc, words) {
-        Ok(Command::Desk) => desk_over(alloc, input, out, disk),
-        Ok(_) | Err(WordsRefused::BadWords) => Ran {
-            status: Status::BadWords,
-            disk,
-        },
-        Err(WordsRefused::NoMemory) => Ran {
-            status: Status::NoMemory,
             disk,
         },
     }

@@ -1,12 +1,11 @@
 //! The run of `generate`.
 
-ghost use Rattle.std.specs.Prelude.{◌≡◌, ◌≢◌, ◌⊎◌, ◌≤◌, ◌++◌, ℕ, Some, IfOk, OnOk, map, string_bytes};
+ghost use Rattle.std.specs.Prelude.{◌≡◌, ◌≢◌, ◌≤◌, ◌++◌, IfOk, OnOk};
 ghost use Rattle.cf_base.specs.Causes.{Rose};
 ghost use Rattle.cf_statements.specs.Sums.{single};
 ghost use Rattle.cf_text.specs.Statement.{row_line};
 ghost use Rattle.cf_top.specs.Generates as spec;
 ghost use Rattle.cf_top.specs.Generates.{GenerateEnds, IsGenerated};
-ghost use Rattle.cf_run_words.specs.Words.{command_of};
 
 use cf_base::Sink;
 use cf_calls::shown::ReconShown;
@@ -14,7 +13,6 @@ use cf_calls::{Label, List, Row};
 use cf_office::{BookOffice, History};
 use cf_run_generate::generate;
 use cf_run_status::{Status, print};
-use cf_run_words::{Command, WordsRefused, read_words};
 use cf_text::{put_count, put_row};
 use std::alloc::{AllocError, Global};
 
@@ -65,8 +63,10 @@ fn run_lines(alloc: Global, n: u32) -> Result<Vec<u8>, AllocError>
     office_lines(alloc, &office)
 }
 
-/// Makes the lines of a generated run, and prints them.
-fn print_generated<O: Sink>(alloc: Global, n: u32, out: &mut O) -> Status
+/// The run of `generate`: an office in memory takes `n` calls, at most 100,000, drawn by a fixed
+/// formula, and how many entries there are then, the total of fund balances and net position are
+/// written, a line each. Where there is no memory nothing is written.
+pub fn run_generate<O: Sink>(alloc: Global, n: u32, out: &mut O) -> Status
     requires { n ≤ 100000 }
     ensures ends { GenerateEnds n (O.held out.old) (O.held out.new) result }
     ensures write { result ≡ Status.WriteFault → Rose (O.faults out.old) (O.faults out.new) }
@@ -74,25 +74,4 @@ fn print_generated<O: Sink>(alloc: Global, n: u32, out: &mut O) -> Status
     ensures out_quiet { result ≢ Status.WriteFault → O.faults out.new ≡ O.faults out.old }
 {
     print(run_lines(alloc, n), out)
-}
-
-/// The run of `generate`: an office in memory takes so many calls, drawn by a fixed formula, and
-/// how many entries there are then, the total of fund balances and net position are written, a line
-/// each. Other words are `BadWords`, and nothing is written.
-pub fn run_generate<O: Sink>(alloc: Global, words: &[String], out: &mut O) -> Status
-    ensures ends { (n : ℕ) → command_of (map string_bytes words.now) ≡ Some (Command.Generate n)
-        → GenerateEnds n (O.held out.old) (O.held out.new) result }
-    ensures words { ((n : ℕ) → command_of (map string_bytes words.now) ≡ Some (Command.Generate n)
-        → ⊥)
-        → ((result ≡ Status.BadWords) ⊎ (result ≡ Status.NoMemory))
-        × (O.held out.new ≡ O.held out.old) }
-    ensures write { result ≡ Status.WriteFault → Rose (O.faults out.old) (O.faults out.new) }
-    ensures memory { result ≡ Status.NoMemory → O.faults out.new ≡ O.faults out.old }
-    ensures out_quiet { result ≢ Status.WriteFault → O.faults out.new ≡ O.faults out.old }
-{
-    match read_words(alloc, words) {
-        Ok(Command::Generate { n }) => print_generated(alloc, n, out),
-        Ok(_) | Err(WordsRefused::BadWords) => Status::BadWords,
-        Err(WordsRefused::NoMemory) => Status::NoMemory,
-    }
 }

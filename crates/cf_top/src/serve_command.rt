@@ -1,6 +1,6 @@
 //! The run of `serve`.
 
-ghost use Rattle.std.specs.Prelude.{◌≡◌, ◌≢◌, ◌⊎◌, ◌+◌, ◌-◌, ◌≤◌, ◌<◌, ◌++◌, ℕ, [], Some, IfOk, drop, length, map, reverse, string_bytes, take};
+ghost use Rattle.std.specs.Prelude.{◌≡◌, ◌≢◌, ◌+◌, ◌-◌, ◌≤◌, ◌<◌, ◌++◌, [], IfOk, drop, length, reverse, take};
 ghost use Rattle.std.specs.Vec.{vec_len, vec_capacity};
 ghost use Rattle.cf_base.specs.Causes.{Rose};
 ghost use Rattle.cf_serve_laws.specs.ServeEnds.{served_text};
@@ -9,7 +9,6 @@ ghost use Rattle.cf_top.specs.declared.serve_command.Kept.TheVariants as kept;
 ghost use Rattle.cf_run_status.specs.Devices.{device};
 ghost use Rattle.cf_top.specs.DoorKinds.{door_kind};
 ghost use Rattle.cf_top.specs.Serves.{KeepsDoors, PutsLine, ServeEnds, TellsKept, kept_of};
-ghost use Rattle.cf_run_words.specs.Words.{command_of};
 
 use cf_base::Sink;
 use cf_base_lines::write_all;
@@ -17,8 +16,7 @@ use cf_disk::Disk;
 use cf_hall::Opening;
 use cf_http::Door;
 use cf_journal_book::{BookRefused, NotOpened, open_with_chart};
-use cf_run_status::{Ran, Status, refusal_status, unread};
-use cf_run_words::{Command, WordsRefused, read_words};
+use cf_run_status::{Ran, Status, refusal_status};
 use cf_serve::{ServeEnd, serve_hall};
 use itoa::Buffer;
 use std::alloc::{AllocError, Global};
@@ -238,9 +236,11 @@ where
     kept
 }
 
-/// Serves links at so many doors, and says how many it served. Where there are fewer doors, the
-/// words are bad.
-fn serve_over<H: Threads + Wait + Sync, O: Sink, D: Disk + Drop + Send, R: Door + Drop + Send>(
+/// The run of `serve`: opens the journal, and serves so many links at each of the first `count`
+/// doors, at most 16, each door by a thread of its own. It says how many links it served.
+/// `BadWords` comes where there are fewer doors. Then, where the journal isn't opened, and where
+/// there is no memory, no link is served, and nothing is written.
+pub fn run_serve<H: Threads + Wait + Sync, O: Sink, D: Disk + Drop + Send, R: Door + Drop + Send>(
     rt: &H,
     alloc: Global,
     count: usize,
@@ -261,7 +261,7 @@ where
     ensures memory { result.status ≡ Status.NoMemory
         → (O.faults out.new ≡ O.faults out.old) × (D.faults result.disk ≡ D.faults disk) }
     ensures out_quiet { result.status ≢ Status.WriteFault → O.faults out.new ≡ O.faults out.old }
-    ensures words { result.status ≡ Status.BadWords → length doors.old.items < count }
+    ensures short { result.status ≡ Status.BadWords → length doors.old.items < count }
 {
     if doors.len() < count {
         return Ran {
@@ -279,54 +279,5 @@ where
             status: Status::NoMemory,
             disk,
         },
-    }
-}
-
-/// The run of `serve`: opens the journal, and serves so many links at each of the first doors, each
-/// door by a thread of its own. It says how many links it served. Other words, and words that ask
-/// for more doors than there are, are `BadWords`, and nothing is read or written.
-pub fn run_serve<H: Threads + Wait + Sync, O: Sink, D: Disk + Drop + Send, R: Door + Drop + Send>(
-    rt: &H,
-    alloc: Global,
-    words: &[String],
-    out: &mut O,
-    disk: D,
-    doors: &mut Vec<R>,
-) -> Ran<D>
-where
-    R::Link: Send,
-    ensures ends { (port count links : ℕ)
-        → command_of (map string_bytes words.now) ≡ Some (Command.Serve port count links)
-        → ServeEnds (device D.tells D.content D.is_image D.moment D.was_image D.faults)
-        (door_kind R.Link.tells R.known R.tells)
-        count links disk result.disk doors.old.items doors.new.items
-        (O.held out.old) (O.held out.new) result.status }
-    ensures short { (port count links : ℕ)
-        → command_of (map string_bytes words.now) ≡ Some (Command.Serve port count links)
-        → result.status ≡ Status.BadWords → length doors.old.items < count }
-    ensures words { ((port count links : ℕ)
-        → command_of (map string_bytes words.now) ≡ Some (Command.Serve port count links) → ⊥)
-        → ((result.status ≡ Status.BadWords) ⊎ (result.status ≡ Status.NoMemory))
-        × (O.held out.new ≡ O.held out.old)
-        × (doors.new.items ≡ doors.old.items) × (result.disk ≡ disk) }
-    ensures write { result.status ≡ Status.WriteFault → Rose (O.faults out.old) (O.faults out.new) }
-    ensures disk { result.status ≡ Status.DiskFault → Rose (D.faults disk) (D.faults result.disk) }
-    ensures memory { result.status ≡ Status.NoMemory
-        → (O.faults out.new ≡ O.faults out.old) × (D.faults result.disk ≡ D.faults disk) }
-    ensures out_quiet { result.status ≢ Status.WriteFault → O.faults out.new ≡ O.faults out.old }
-{
-    match read_words(alloc, words) {
-        Ok(
-            Command::Serve {
-                doors: count,
-                links,
-                ..
-            },
-        ) => serve_over(rt, alloc, count as usize, links, out, disk, doors),
-        Ok(_) | Err(WordsRefused::BadWords) => Ran {
-            status: Status::BadWords,
-            disk,
-        },
-        Err(WordsRefused::NoMemory) => unread(disk),
     }
 }

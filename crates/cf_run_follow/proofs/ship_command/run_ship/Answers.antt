@@ -1,7 +1,7 @@
 use Rattle.std.proofs.Common.{refl}
 use Rattle.cf_run_status.specs.Devices.{device}
 use Rattle.cf_run_follow.proofs.Shipping.{chart_short, opened_by, ship_ends, ship_refused, ships_by}
-use Rattle.cf_run_follow.proofs.ship_command.ship_over.Goals as goal
+use Rattle.cf_run_follow.proofs.ship_command.run_ship.Goals as goal
 
 pub ship-how-requires-clause-chart : goal.ship-how-requires-clause-chart
 ship-how-requires-clause-chart g c = rw c.as_slice.ensures.value (chart_short c.in-Ok.chart.items c.in-Ok.book.plan c.in-Ok.ensures.stated)

@@ -3,7 +3,7 @@ use Rattle.cf_run_status.specs.Devices.{device}
 use Rattle.cf_run_status.specs.Printing.{Prints}
 use Rattle.cf_run_reports.specs.Reports.{report_text}
 use Rattle.cf_run_reports.proofs.Reporting.{report_printed, report_refused}
-use Rattle.cf_run_reports.proofs.report_command.report_over.Goals as goal
+use Rattle.cf_run_reports.proofs.report_command.run_report.Goals as goal
 
 pub returns-in-Ok-clause-ends : goal.returns-in-Ok-clause-ends
 returns-in-Ok-clause-ends g c =

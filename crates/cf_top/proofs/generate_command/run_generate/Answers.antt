@@ -1,5 +1,5 @@
 use Rattle.cf_top.proofs.Generating.{generate_printed}
-use Rattle.cf_top.proofs.generate_command.print_generated.Goals as goal
+use Rattle.cf_top.proofs.generate_command.run_generate.Goals as goal
 
 pub returns-clause-ends : goal.returns-clause-ends
 returns-clause-ends g c =

@@ -1,7 +1,7 @@
 use Rattle.std.proofs.Common.{refl}
 use Rattle.cf_run_status.specs.Devices.{device}
 use Rattle.cf_run_reports.proofs.Pooling.{pool_printed, pool_refused_by, prints_no_disk_fault}
-use Rattle.cf_run_reports.proofs.pool_command.pool_over.Goals as goal
+use Rattle.cf_run_reports.proofs.pool_command.run_pool.Goals as goal
 
 pub returns-in-Ok-clause-ends : goal.returns-in-Ok-clause-ends
 returns-in-Ok-clause-ends g c =

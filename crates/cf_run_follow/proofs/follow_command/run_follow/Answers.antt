@@ -6,7 +6,7 @@ use Rattle.cf_run_status.specs.declared.status.Status.TheVariants as status
 use Rattle.cf_run_follow.specs.Follows.{Copied}
 use Rattle.cf_run_follow.proofs.Following.{disk_said, follow_ends, follow_refused, read_quiet, read_rose, read_said, said_disk, said_read}
 use Rattle.cf_run_follow.proofs.Shipping.{opened_by}
-use Rattle.cf_run_follow.proofs.follow_command.follow_over.Goals as goal
+use Rattle.cf_run_follow.proofs.follow_command.run_follow.Goals as goal
 
 pub returns-in-Ok-clause-ends : goal.returns-in-Ok-clause-ends
 returns-in-Ok-clause-ends g c =

@@ -1,7 +1,7 @@
 use Rattle.std.proofs.Common.{refl}
 use Rattle.cf_run_status.specs.Devices.{device}
 use Rattle.cf_run_reports.proofs.Claiming.{claim_ends, claim_refused, no_disk_fault}
-use Rattle.cf_run_reports.proofs.claim_command.claim_over.Goals as goal
+use Rattle.cf_run_reports.proofs.claim_command.run_claim.Goals as goal
 
 pub returns-in-Ok-clause-ends : goal.returns-in-Ok-clause-ends
 returns-in-Ok-clause-ends g c =
