@@ -1,2 +1,4 @@
 pub mod Months
 pub mod Totals
+pub mod ReadLines
+pub mod Departments

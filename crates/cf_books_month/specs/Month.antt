@@ -11,7 +11,7 @@ use Rattle.cf_books_month.specs.declared.amounts.Amounts.{Amounts}
 use Rattle.cf_books_month.specs.declared.amounts.Column.{Column}
 use Rattle.cf_books_month.specs.Amounts.{amount_of, held, total}
 use Rattle.cf_books_month.specs.Records.{rows_text}
-use Rattle.cf_books_month.specs.Rows.{month_rows}
+use Rattle.cf_books_month.specs.Rows.{departments_of, fund_row, lines_of, month_rows}
 
 abbrev pub head : List (List ℕ)
 head =
@@ -45,3 +45,9 @@ month_text csv m plan history =
 -- an amount of a total is the sum of those of its rows, as 128 bits hold it
 abbrev pub IsTotal : Column → List Amounts → Type 0
 IsTotal c amounts = amount_of c (total amounts) ≡ held (int_sum (amount_of c) amounts)
+
+-- the rows of a fund's departments come to the fund's own row, as 128 bits hold it
+abbrev pub DepartmentsAddUp : Plan → List Entry → Month → ℕ → ℕ → Column → Type 0
+DepartmentsAddUp plan history m year fund c =
+    held (int_sum (λ r. amount_of c r.amounts) (departments_of plan history m year fund))
+    ≡ amount_of c (fund_row fund (lines_of plan history m year fund)).amounts

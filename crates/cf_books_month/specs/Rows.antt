@@ -92,6 +92,10 @@ abbrev pub department_rows : ℕ → List MonthRow → List Department → List 
 department_rows fund rows depts =
     flat_map (λ d. department_row fund d.id (amounts_of d.id rows)) depts
 
+-- the total of a fund's lines
+abbrev pub fund_row : ℕ → List MonthRow → MonthRow
+fund_row fund lines = total_row part.Fund fund None (amounts_in lines)
+
 -- ---- all
 
 abbrev pub lines_of : Plan → List Entry → Month → ℕ → ℕ → List MonthRow
@@ -100,10 +104,14 @@ lines_of plan history m year fund = line_rows plan history m year fund 0 plan.li
 abbrev pub sources_of : Plan → List Entry → Month → ℕ → ℕ → List MonthRow
 sources_of plan history m year fund = source_rows plan history m year fund plan.sources
 
+abbrev pub departments_of : Plan → List Entry → Month → ℕ → ℕ → List MonthRow
+departments_of plan history m year fund =
+    department_rows fund (lines_of plan history m year fund) plan.departments
+
 abbrev pub with_totals : Plan → ℕ → List MonthRow → List MonthRow → List MonthRow
 with_totals plan fund lines sources =
     lines ++ (department_rows fund lines plan.departments
-    ++ (total_row part.Fund fund None (amounts_in lines)
+    ++ (fund_row fund lines
     ∷ (sources ++ total_row part.Sources fund None (amounts_in sources) ∷ [])))
 
 unfoldable pub fund_rows : Plan → List Entry → Month → ℕ → ℕ → List MonthRow

@@ -1,7 +1,8 @@
 //! A month of a history as records.
 
-ghost use Rattle.std.specs.Prelude.{◌≡◌, ◌≤◌, ℕ, ◌++◌, true, List, IfOk, OnOk};
+ghost use Rattle.std.specs.Prelude.{◌≡◌, ◌≤◌, ℕ, ◌++◌, true, List, Ok, IfOk, OnOk};
 ghost use Rattle.cf_base.specs.Calendar.{is_call_month};
+ghost use Rattle.cf_base.specs.declared.calendar.Month.{Month};
 ghost use Rattle.cf_journal_book.specs.Watching.{all_posted};
 ghost use Rattle.cf_books_days.specs.Gathered.{IsOf};
 ghost use Rattle.cf_books_lists.specs.Records.{head_text, record_text};
@@ -12,6 +13,7 @@ ghost use Rattle.cf_books_month.specs.Month as spec;
 ghost use Rattle.cf_books_month.specs.declared.amounts.Amounts.{Amounts};
 ghost use Rattle.cf_books_month.specs.declared.amounts.Column.{Column};
 ghost use Rattle.cf_chart.specs.declared.rows.RevenueSource.{RevenueSource};
+ghost use Rattle.cf_chart.specs.Reading.{chart_of};
 
 use crate::days::first_day;
 use crate::records::put_rows;
@@ -103,13 +105,17 @@ fn put_head(out: &mut Rows) -> Result<(), AllocError>
     out.put_names(names.as_slice())
 }
 
-/// The months of a history add up, and each amount of a total is the sum of those of its rows. It
-/// does nothing: its clauses are the laws.
+/// The months of a history add up, each amount of a total is the sum of those of its rows, and the
+/// rows of a fund's departments come to the fund's own, under any chart that was read. It does
+/// nothing: its clauses are the laws.
 fn months_add_up(rest: &Rest)
     ensures spent { (line year : ℕ) → AddUp (spent rest.now.plan rest.now.entries line year) }
     ensures received { (source : RevenueSource) (year : ℕ)
         → AddUp (received rest.now.plan rest.now.entries source year) }
     ensures totals { (c : Column) (amounts : List Amounts) → spec.IsTotal c amounts }
+    ensures departments { (bytes : List ℕ) → chart_of bytes ≡ Ok rest.now.plan
+        → (m : Month) (year fund : ℕ) (c : Column)
+        → spec.DepartmentsAddUp rest.now.plan rest.now.entries m year fund c }
 {
     let _entries = rest.entries();
 }
@@ -141,6 +147,11 @@ pub fn month_text(
 
     // Each amount of a total is the sum of those of its rows.
     ensures totals { (c : Column) (amounts : List Amounts) → spec.IsTotal c amounts }
+
+    // The rows of a fund's departments come to the fund's own, under any chart that was read.
+    ensures departments { (bytes : List ℕ) → chart_of bytes ≡ Ok rest.now.plan
+        → (m : Month) (year fund : ℕ) (c : Column)
+        → spec.DepartmentsAddUp rest.now.plan rest.now.entries m year fund c }
 {
     months_add_up(rest);
     let alloc = layout.alloc;

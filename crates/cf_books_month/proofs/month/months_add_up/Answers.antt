@@ -1,4 +1,5 @@
 use Rattle.cf_books_month.specs.Sums.{received, spent}
+use Rattle.cf_books_month.proofs.Departments.{departments_add}
 use Rattle.cf_books_month.proofs.Months.{months_add}
 use Rattle.cf_books_month.proofs.Totals.{total_is}
 use Rattle.cf_books_month.proofs.month.months_add_up.Goals as goal
@@ -15,3 +16,6 @@ returns-clause-received c =
 
 pub returns-clause-totals : goal.returns-clause-totals
 returns-clause-totals c = total_is
+
+pub returns-clause-departments : goal.returns-clause-departments
+returns-clause-departments c = λ bytes read. departments_add bytes c.args.rest.now.plan c.args.rest.now.entries read
