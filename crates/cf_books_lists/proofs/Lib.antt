@@ -1,5 +1,6 @@
 pub mod Seen
 pub mod Adding
+pub mod Next
 pub mod Amounts
 pub mod RowLines
 pub mod Formulas

@@ -114,8 +114,7 @@ held_text csv plan e year place (i ∷ items) =
       line = Some i.line;
       year = Some year;
       amount = i.amount;
-      next =
-          None;
+      next = None;
       due = None;
     }) ++ held_text csv plan e year (place + 1) items
 
@@ -128,8 +127,7 @@ item_text csv plan e place i item.Live =
       line = Some i.line;
       year = Some i.year;
       amount = i.open_cents;
-      next =
-          None;
+      next = None;
       due = None;
     })
 item_text csv plan e place i _ = []

@@ -42,8 +42,7 @@ held_parts year place (i ∷ items) =
       line = Some i.line;
       year = Some year;
       amount = i.amount;
-      next =
-          None;
+      next = None;
       due = None;
     }
     ∷ held_parts year (place + 1) items
@@ -60,8 +59,7 @@ item_parts place i item.Live =
       line = Some i.line;
       year = Some i.year;
       amount = i.open_cents;
-      next =
-          None;
+      next = None;
       due = None;
     } ∷ []
 item_parts place i _ = []

@@ -1,9 +1,11 @@
-use Rattle.std.proofs.Common.{◌≡◌, ◌∙◌, ap, decimal, pos, []}
+use Rattle.std.proofs.Common.{◌≡◌, ◌∙◌, ap, decimal, pos, [], ◌∷◌, List, ℕ, map}
+use Rattle.std.proofs.lemmas.Result.{on_ok_weaker}
 use Rattle.cf_base.specs.Amounts.{money_of}
 use Rattle.cf_base.specs.Calendar.{day_text}
 use Rattle.cf_json_calls.specs.CallText.{call_word}
-use Rattle.cf_books_lists.specs.Open.{due_text, interest_text, line_department, line_fund, line_of, next_text, number_of, number_text, party_of}
-use Rattle.cf_books_lists.specs.Records.{drawn_text}
+use Rattle.cf_books_lists.specs.Open.{due_text, interest_text, line_department, line_fund, line_of, next_text, number_of, number_text, part_row, party_of}
+use Rattle.cf_books_lists.specs.Records.{drawn_text, record_text}
+use Rattle.cf_books_lists.specs.Rows.{added}
 use Rattle.cf_books_lists.proofs.open.put_part.Goals as goal
 
 pub returns : goal.returns
@@ -27,4 +29,8 @@ returns c =
     let due : c.as_slice-10.result.now ≡ due_text p.due = c.as_slice-10.ensures.value ∙ c.in_ok-due.ensures in
     let interest : c.as_slice-11.result.now ≡ interest_text p.due = c.as_slice-11.ensures.value ∙ c.in_ok-interest.ensures in
     let closed : c.as_slice-12.result.now ≡ [] = c.as_slice-12.ensures.value ∙ c.new-closed.ensures.items in
-    rw (← call, ← number, ← item, ← day, ← desk, ← key, ← party, ← year, ← line, ← fund, ← dept, ← amount, ← next, ← due, ← interest) (rw (c.as_slice-13.ensures, closed) at c.put.ensures)
+    let row : map (λ f. f.now) c.as_slice-13.result.now ≡ part_row plan e p =
+    ap (map (λ f. f.now)) c.as_slice-13.ensures
+    ∙ (λ i. call i ∷ number i ∷ item i ∷ day i ∷ desk i ∷ key i ∷ party i ∷ year i ∷ line i ∷ fund i ∷ dept i ∷ amount i ∷ next i ∷ due i ∷ interest i ∷ closed i ∷ []) in
+    let out = c.args.out.now in
+    on_ok_weaker c.put.result (λ wrote. wrote ∙ ap (λ (fields : List (List ℕ)). added out (record_text out.csv fields)) row) c.put.ensures

@@ -1,10 +1,13 @@
-use Rattle.std.proofs.Common.{◌≡◌, ◌∙◌, ap, decimal}
+use Rattle.std.proofs.Common.{◌≡◌, ◌∙◌, ap, decimal, [], ◌∷◌, List, ℕ, map}
+use Rattle.std.proofs.lemmas.Result.{on_ok_weaker}
 use Rattle.cf_base.specs.Amounts.{money_of}
 use Rattle.cf_base.specs.Calendar.{day_text}
 use Rattle.cf_json_calls.specs.CallText.{call_word}
 use Rattle.cf_chart.specs.Plan.{fund_at}
 use Rattle.cf_books_lists.specs.Names.{account_text, basis_word, fund_name}
-use Rattle.cf_books_lists.specs.Records.{drawn_text}
+use Rattle.cf_books_lists.specs.Posts.{post_row}
+use Rattle.cf_books_lists.specs.Records.{drawn_text, record_text}
+use Rattle.cf_books_lists.specs.Rows.{Written, added}
 use Rattle.cf_books_lists.proofs.posts.put_post.Goals as goal
 
 pub returns : goal.returns
@@ -25,5 +28,9 @@ returns c =
     let account : c.digits-5.result.now ≡ decimal p.account = c.digits-5.ensures in
     let name : c.as_slice-2.result.now ≡ account_text plan p.account = c.as_slice-2.ensures.value ∙ c.in_ok-make_texts.ensures.name in
     let amount : c.as_slice-3.result.now ≡ money_of p.amount = c.as_slice-3.ensures.value ∙ c.in_ok-make_texts.ensures.amount in
-    rw (← at, ← day, ← desk, ← key, ← call, ← number, ← basis, ← year, ← fund, ← fund_is, ← account, ← name, ← amount)
-    (rw (c.as_slice-4.ensures, c.make_texts.ensures.out) at c.put.ensures)
+    let row : map (λ f. f.now) c.as_slice-4.result.now ≡ post_row plan c.args.place e c.args.basis p =
+    ap (map (λ f. f.now)) c.as_slice-4.ensures
+    ∙ (λ i. at i ∷ day i ∷ desk i ∷ key i ∷ call i ∷ number i ∷ basis i ∷ year i ∷ fund i ∷ fund_is i ∷ account i ∷ name i ∷ amount i ∷ []) in
+    let out = c.args.sheet.now.out in
+    on_ok_weaker c.put.result
+    (λ wrote. wrote ∙ ap (λ (w : Written). added w (record_text w.csv (map (λ f. f.now) c.as_slice-4.result.now))) c.make_texts.ensures.out ∙ ap (λ (fields : List (List ℕ)). added out (record_text out.csv fields)) row) c.put.ensures
