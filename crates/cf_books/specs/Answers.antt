@@ -144,8 +144,7 @@ refused_entry offset number None = nothing (status.Damaged offset None)
 refused_entry offset number (Some x) =
     record {
       out = call_line x.1;
-      status =
-          status.Damaged offset (Some (record { place = x.0; number = number }));
+      status = status.Damaged offset (Some (record { place = x.0; number = number }));
     }
 
 abbrev pub refused_in : ℕ → ℕ → Result (List ℕ × List Entry) OpenRefused → Said

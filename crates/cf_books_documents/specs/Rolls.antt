@@ -56,8 +56,7 @@ with_deed f events r (Some d) =
       subject = subject_of f.kind;
       number = f.number;
       item = f.item;
-      deed =
-          d;
+      deed = d;
       place = r.place;
     }) events
 

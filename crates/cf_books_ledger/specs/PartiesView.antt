@@ -7,6 +7,5 @@ party_lists p = record {
   orders = p.orders.items;
   vouchers = p.vouchers.items;
   bills = p.bills.items;
-  bonds =
-      p.bonds.items;
+  bonds = p.bonds.items;
 }

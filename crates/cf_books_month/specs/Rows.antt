@@ -78,8 +78,7 @@ total_row p fund dept amounts =
       dept = dept;
       line = None;
       source = None;
-      amounts =
-          total amounts;
+      amounts = total amounts;
     }
 
 -- a department has a total in each fund that has lines of it
