@@ -11,7 +11,7 @@ loop-item-preserved c =
     let items = c.args.items.now in
     let i = c.loop-item.item-index in
     let at = c.loop-item.place + 1 in
-    let new : LineAmount → Bool → List ℕ = λ x csv. part_text csv plan e (record { item = at; line = Some x.line; year = Some c.args.year; amount = x.amount; next = None; due = None; }) in
+    let new : LineAmount → Bool → List ℕ = λ x csv. part_text csv plan e (record { item = at; line = Some x.line; year = Some c.args.year; amount = x.amount; next = None; due = None }) in
     let rest : LineAmount → Bool → List ℕ = λ x csv. held_text csv plan e c.args.year (at + 1) (drop (i + 1) items) in
     record {
       text =

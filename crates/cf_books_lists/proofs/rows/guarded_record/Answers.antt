@@ -13,7 +13,7 @@ pub loop-field-preserved : goal.loop-field-preserved
 loop-field-preserved c =
     let fields = c.args.fields.now in
     let i = c.loop-field.field-index in
-    let none : Bor (List ℕ) = record { ref_ptr = (0, 0); now = []; } in
+    let none : Bor (List ℕ) = record { ref_ptr = (0, 0); now = [] } in
     let x = get_or fields i none in
     record {
       fields =

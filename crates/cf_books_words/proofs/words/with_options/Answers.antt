@@ -13,7 +13,7 @@ pub loop-name-preserved : goal.loop-name-preserved
 loop-name-preserved c =
     let names = c.args.names.now in
     let i = c.loop-name.name-index in
-    let none : Bor Text = record { ref_ptr = (0, 0); now = []; } in
+    let none : Bor Text = record { ref_ptr = (0, 0); now = [] } in
     record {
       rest =
           ap (λ (a : App). with_all a (drop (i + 1) names)) c.in_ok-parser.ensures ∙ sym (at_drop_more (with_all (app_of c.loop-name.parser)) names i none c.loop-name-test.true)
