@@ -29,7 +29,7 @@ export class Lines {
             return line && (!fund || line.fund === Number(fund)) && (!dept || line.dept === Number(dept)) && (!low || isLow(each));
         });
         const rows = [...new Set(shown.map(each => this.chart.line[each.line].fund))].flatMap(id => this.ofFund(id, shown, year));
-        place.replaceChildren(legend(), table(`Budget lines of fiscal year ${year}`, ['Line', 'Of the appropriation', ['Appropriated', true],
+        place.replaceChildren(legend(), table(`${this.chart.city}: budget lines of fiscal year ${year}`, ['Line', 'Of the appropriation', ['Appropriated', true],
             ['Spent', true], ['Ordered', true], ['Held', true], ['Room', true]], rows, 'cards'), made('p', {className: 'hint'}, `${shown.length} lines, as of entry ${said.at}`));
     }
 

@@ -203,7 +203,7 @@ def reached(stand):
                 place = f"{view}, {scheme}, {width} pixels"
                 stand.same(f"contrast: {place}", page.do(CONTRAST), [])
                 stand.holds(f"width: {place}", page.do("document.documentElement.scrollWidth") <= width, page.do("document.documentElement.scrollWidth"))
-                if width < 500 and view != "statements":
+                if width < 500:
                     stand.same(f"nothing sideways: {place}", page.do(SIDEWAYS), 0)
                 if name := PICTURES.get((view, scheme, width)):
                     stand.picture(page, name)
