@@ -25,8 +25,8 @@ import pages
 HERE = os.path.dirname(os.path.abspath(__file__))
 # The items and the imports that nothing cites. They may only fall: each costs a proof of its crate and of those
 # above, so they go when the crate changes.
-ITEMS = 193
-IMPORTS = 183
+ITEMS = 0
+IMPORTS = 0
 
 WORD = re.compile(r"[A-Za-z_][\w'\-≢≡]*")
 NAME = r"[^\s(){}.,;:]+"

@@ -1,6 +1,6 @@
 //! An office that answers a line by its first letter, and ends that fail, drip and count.
 
-ghost use Rattle.std.specs.Prelude.{◌≢◌, [], ◌+◌};
+ghost use Rattle.std.specs.Prelude.{◌≢◌, ◌+◌};
 
 use cf_base::{Failed, Sink, Source};
 use cf_base_lines::Office;

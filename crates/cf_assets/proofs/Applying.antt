@@ -24,7 +24,7 @@ use Rattle.cf_model.specs.Assets.{Asset, asset_step, assets_by, voucher_of}
 use Rattle.cf_model.specs.Documents.{is_number}
 use Rattle.cf_model.specs.RegisterRules.{voided_asset, disposed_asset, asset_refusal}
 use Rattle.cf_model.specs.Registers.{Registers, no_registers}
-use Rattle.cf_model.specs.Rules.{Amount, amount, bad_amount, first_refusal, refuse_if, or_else}
+use Rattle.cf_model.specs.Rules.{amount, bad_amount, first_refusal, refuse_if, or_else}
 use Rattle.cf_base.specs.Limits.{most_cents}
 
 -- registers with these assets
@@ -80,9 +80,6 @@ in_range n e = most n (refused (nat_le 1 n && nat_le n most_cents) e)
 first_two : (r other : Option Refusal) → or_else r other ≡ None → (r ≡ None) × (other ≡ None)
 first_two None other e = (refl, e)
 first_two (Some r) other e = cc
-
-pub amount_most : (n : ℕ) (rest : List Amount) → first_refusal bad_amount (amount n ∷ rest) ≡ None → n ≤ most_cents
-amount_most n rest e = in_range n ((first_two (bad_amount (amount n)) (first_refusal bad_amount rest) e).0)
 
 pub items_most : (items : List VoucherItem) → first_refusal bad_amount (map (λ i. amount i.account.amount) items) ≡ None → AreMost items
 items_most [] e k d l = absurd (omega arith)

@@ -13,9 +13,6 @@ use Rattle.cf_model.specs.Assets.{depreciated, charge}
 not_less : (a b : ℕ) → nat_lt a b ≡ false → b ≤ a
 not_less a b e = grind (arith, nat_tests)
 
-none_left : (n : ℕ) → n - n ≡ 0
-none_left n = omega arith
-
 -- a month charges nothing for an asset that isn't in service
 pub not_charged : (closed : ℕ) (r : AssetRow) → IsStage closed r.stage → serves closed r ≡ false → charge closed (view_asset r) ≡ 0
 not_charged closed r ok e = by_stage r.stage ok e

@@ -154,9 +154,6 @@ bought_months plan voucher on year number items assets closed amortized are =
 
 -- ---- one asset more
 
-pub other_years : (assets : List Asset) (a : Asset) (cells : List ℕ) → is_leased a.origin ≡ false → AreYears (λ y. sum_by (let_in y) assets) cells → AreYears (λ y. sum_by (let_in y) (assets ++ a ∷ [])) cells
-other_years assets a cells other are = years_stay assets (assets ++ a ∷ []) cells (λ y. omega (arith, sum_push (let_in y) assets a, not_let y a other)) are
-
 -- a new asset is amortised from a month on that isn't closed
 pub new_months : (assets : List Asset) (a : Asset) (closed : ℕ) (amortized : List ℕ) → a.stage ≡ held → closed ≤ a.service → AreAmortized assets closed amortized → AreAmortized (assets ++ a ∷ []) closed amortized
 new_months assets a closed amortized is early are =

@@ -61,8 +61,7 @@ no_row = record {
   acquired = Given;
   function = 0;
   life = 0;
-  on =
-      record { year = 0; month = 0; day = 0 };
+  on = record { year = 0; month = 0; day = 0 };
   year = 0;
   service = 0;
   stage = Held;

@@ -67,9 +67,6 @@ later_end = day_count-early (pos 2201) 12200 1 1 refl (omega arith) (omega arith
 number_is : (d : Day) (n : ℕ) → count d ≡ 4371953 + n → day_number d ≡ pos n
 number_is d n h = omega (arith, signed_arith, days_from_civil-day_count (pos d.year) d.month d.day)
 
-count_is : (d : Day) (n : ℕ) → day_number d ≡ pos n → count d ≡ 4371953 + n
-count_is d n h = omega (arith, signed_arith, days_from_civil-day_count (pos d.year) d.month d.day)
-
 -- which day comes after
 data Next (d : Day) : Day → Type 0 where
   in_month : d.day < days_in_month (pos d.year) d.month → Next d (record { year = d.year; month = d.month; day = d.day + 1 })

@@ -1,23 +1,16 @@
 -- Civil days and months, and the fiscal year of a month (GASB Codification 1700: the fiscal
 -- period).
-use Rattle.std.specs.Prelude.{ℕ, zero, suc, ℤ, ◌+◌, ◌-◌, ◌*◌, ◌/◌, ◌%◌, ◌≤◌, Bool, ◌==◌, ◌&&◌, ◌||◌, nat_lt, nat_le, if◌then◌else◌, List, [], ◌∷◌, length, slice_index, Option, Some, None, pos}
+use Rattle.std.specs.Prelude.{ℕ, zero, suc, ℤ, ◌+◌, ◌-◌, ◌*◌, ◌/◌, ◌%◌, Bool, ◌==◌, ◌&&◌, ◌||◌, nat_lt, nat_le, if◌then◌else◌, List, [], ◌∷◌, length, slice_index, Option, Some, None, pos}
 use Rattle.jiff.specs.Words.{days_in_month}
 use Rattle.jiff_core.specs.Calendar.{days_from_civil}
 use Rattle.cf_base.specs.declared.calendar.Day.{Day}
 use Rattle.cf_base.specs.declared.calendar.Month.{Month}
-use Rattle.cf_base.specs.Limits.{last_fiscal_year, last_year}
+use Rattle.cf_base.specs.Limits.{last_year}
 
 -- a day that the office knows: a civil date from 1970-01-01 to 2199-12-31
 abbrev pub is_day : Day → Bool
 is_day d = nat_le 1970 d.year && nat_le d.year last_year && nat_le 1 d.month && nat_le d.month 12
     && nat_le 1 d.day && nat_le d.day (days_in_month (pos d.year) d.month)
-
--- a month of these years, or, as the last answer, of 2200
-pub record IsMonth (m : Month) : Type 0 where
-  pub from : 1970 ≤ m.year
-  pub to : m.year ≤ last_fiscal_year
-  pub first : 1 ≤ m.month
-  pub last : m.month ≤ 12
 
 abbrev pub month_of_day : Day → Month
 month_of_day d = record { year = d.year; month = d.month }

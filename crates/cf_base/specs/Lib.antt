@@ -4,7 +4,6 @@ pub mod Causes
 pub mod Limits
 pub mod Memory
 pub mod Money
-pub mod Reading
 pub mod Shares
 pub mod Sinks
 pub mod Statements

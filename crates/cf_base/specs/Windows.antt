@@ -15,8 +15,7 @@ year_end first year =
     record {
       year = year;
       month = last_month first;
-      day =
-          days_in_month (pos year) (last_month first);
+      day = days_in_month (pos year) (last_month first);
     }
 
 -- the number of the last day of a window of so many days after a year's last day

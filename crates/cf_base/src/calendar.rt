@@ -1,6 +1,6 @@
 //! Civil days and months, by `jiff`.
 
-ghost use Rattle.std.specs.Prelude.{◌≡◌, ◌+◌, ◌-◌, ◌*◌, ◌<◌, ◌≤◌, ◌↔◌, true, IsSome, IfSome, pos, unsigned_abs, length, if◌then◌else◌};
+ghost use Rattle.std.specs.Prelude.{◌≡◌, ◌+◌, ◌-◌, ◌*◌, ◌<◌, ◌≤◌, ◌↔◌, true, IsSome, IfSome, pos, unsigned_abs, length};
 ghost use Rattle.jiff.specs.Words.{IsBetween};
 ghost use Rattle.cf_base.specs.Calendar.{is_day, is_digit, day_if, day_of_text, is_day_form, is_month_form, month_of_text, are_digits, pair_at, month_of_day, year_of_month, day_number, day_of_number};
 ghost use Rattle.cf_base.specs.Calendar as spec;

@@ -13,7 +13,7 @@ mod standard;
 mod statement;
 mod window;
 
-pub use amounts::{money_text, read_money};
+pub use amounts::money_text;
 pub use calendar::{
     Day, Month, day_text, fiscal_year, month_at, month_of, month_text, read_day, read_month,
 };

@@ -1,4 +1,4 @@
-ghost use Rattle.std.specs.Prelude.{◌≡◌, ◌++◌, [], Some, ◌≤◌, vec_len};
+ghost use Rattle.std.specs.Prelude.{◌≡◌, Some, ◌≤◌, vec_len};
 
 use crate::outside::{Failed, Sink, Source};
 use std::alloc::Global;

@@ -1,7 +1,7 @@
 //! The ends of the outside over std. They are the trusted edge: nothing is proved of what a real
 //! file or stream holds.
 
-ghost use Rattle.std.specs.Prelude.{ℕ, Option, None, length, IfSome, ◌≤◌};
+ghost use Rattle.std.specs.Prelude.{Option, None, length, IfSome, ◌≤◌};
 
 use crate::outside::{Failed, Sink, Source};
 use std::fs::{File, Files};

@@ -157,9 +157,6 @@ cut_at rest back left place lt here b l =
     split : drop place rest ≡ slice_index rest place ∷ drop (suc place) rest
     split = drop-cons rest place 0 lt
 
-pub front_none : {O : Type 0} (rule : Rule O) (accepted : O → ℕ) (s : State O) (piece : List ℕ) → FeedsFront rule accepted s s piece piece
-front_none rule accepted s piece = record { front = []; joins = refl; feeds = λ start fed at. subst (IsAt rule accepted start s) (sym (append-nil fed)) at }
-
 pub front_line : {O : Type 0} (rule : Rule O) (accepted : O → ℕ) (old new pushed ended : State O) (piece rest front left : List ℕ) → rest ≡ front ++ 10 ∷ left
     → Feeds rule accepted new pushed front → Feeds rule accepted pushed ended (10 ∷ []) → FeedsFront rule accepted old new piece rest → FeedsFront rule accepted old ended piece left
 front_line rule accepted old new pushed ended piece rest front left e push end f = record {
@@ -191,16 +188,6 @@ gave_answers rule accepted start state fed none at = record {
 pub gave_whole : {O : Type 0} (rule : Rule O) (accepted : O → ℕ) (state : State O) → state.pending ≡ [] → (start : Moment O) (fed : List ℕ) → IsAt rule accepted start state fed
     → OfWholeLines (Gave rule start (moment_of state.office state.held)) fed
 gave_whole rule accepted state none start fed at = record { whole = at.whole; rest = at.rest; cut = at.cut; holds = gave_answers rule accepted start state fed none at }
-
-pub gave_all : {O : Type 0} (rule : Rule O) (accepted : O → ℕ) (state : State O) → state.pending ≡ [] → ((text : List ℕ) → IsLine state.line text → text ≡ []) → (start : Moment O) (fed : List ℕ) → IsAt rule accepted start state fed
-    → OfAllLines (Gave rule start (moment_of state.office state.held)) fed
-gave_all rule accepted state none empty start fed at = record {
-  whole = at.whole;
-  rest = at.rest;
-  cut = at.cut;
-  holds = subst (Gave rule start (moment_of state.office state.held)) (sym (ap (λ t. at.whole ++ last_line t) (empty at.rest at.line) ∙ append-nil at.whole))
-      (gave_answers rule accepted start state fed none at);
-}
 
 -- the last line is answered too
 record LastTalk {O : Type 0} (rule : Rule O) (accepted : O → ℕ) (start after : O) (lines : List (List ℕ)) (given new : List ℕ) (most : ℕ) : Type 0 where

@@ -1,13 +1,13 @@
 -- A desk reads on, and ends.
-use Rattle.std.proofs.Common.{◌≡◌, ℕ, suc, ◌<◌, ◌≤◌, ◌+◌, ◌-◌, ◌^◌, List, [], ◌∷◌, ◌++◌, length, take, slice_index, append_assoc, ap, ◌∙◌, sym, refl, arith, subst, Option, inl, inr, length-append}
-use Rattle.std.specs.Io.KnownBytes.{Consumes, Keeps, IsAtEnd}
-use Rattle.std.proofs.KnownBytes.{Consumes-nil, Consumes-trans, Consumes-kept, Appends-nil}
+use Rattle.std.proofs.Common.{◌≡◌, ℕ, suc, ◌<◌, ◌≤◌, ◌+◌, ◌-◌, ◌^◌, List, [], ◌∷◌, ◌++◌, length, take, slice_index, append_assoc, ap, ◌∙◌, sym, refl, arith, subst, Option, inr, length-append}
+use Rattle.std.specs.Io.KnownBytes.{Consumes}
+use Rattle.std.proofs.KnownBytes.{Consumes-nil, Consumes-trans, Appends-nil}
 use Rattle.std.proofs.lemmas.List.{append-nil, length-take-le}
 use Rattle.std.proofs.lemmas.List.Elements.{All-nil}
 use Rattle.std.proofs.Math.Seq.{take-suc}
-use Rattle.cf_base_lines.specs.Lines.{NoNewline, OfWholeLines, OfAllLines, OfFront}
+use Rattle.cf_base_lines.specs.Lines.{NoNewline, OfWholeLines, OfFront}
 use Rattle.cf_base_lines.specs.Talk.{Rule}
-use Rattle.cf_base_lines.specs.Run.{Moment, moment_of, Gave, GaveFront, Outcome}
+use Rattle.cf_base_lines.specs.Run.{Moment, moment_of, GaveFront, Outcome}
 use Rattle.cf_base_lines.specs.State.{IsLine, State, state_of, IsAt, Feeds, Breaks, Reading}
 use Rattle.cf_base_lines.specs.declared.line.Line.{Line}
 use Rattle.cf_base_lines.specs.declared.ended.Ended.TheVariants as status
@@ -45,40 +45,6 @@ reads_on rule accepted start first left left' state new chunk piece most most' n
       let b : length (take n chunk) ≡ n = length-take-le n chunk le in
       let k : length r.taken + most ≡ 2 ^ 40 + 1 = r.counted in omega (arith, a, b, k, m));
   at = subst (λ (l : List ℕ). IsAt rule accepted start new (r.taken ++ l)) p (feeds start r.taken r.at);
-}
-
-within : (taken : List ℕ) (most : ℕ) → length taken + most ≡ 2 ^ 40 + 1 → 0 < most → length taken ≤ 2 ^ 40
-within taken most counted some = omega (arith, counted, some)
-
-none_taken : (taken chunk : List ℕ) (n : ℕ) → n ≡ 0 → taken ++ take n chunk ≡ taken
-none_taken taken chunk n z = subst (λ (k : ℕ). taken ++ take k chunk ≡ taken) (sym z) (append-nil taken)
-
--- the input is at its end
-pub ends_ok : {O : Type 0} (rule : Rule O) (accepted : O → ℕ) (start now : Moment O) (first left left' : Option (List ℕ)) (state : State O) (chunk : List ℕ) (most n : ℕ)
-    → (r : Reading rule accepted start first state left most) → 0 < most → Consumes left left' (take n chunk) → n ≡ 0 → IsAtEnd left'
-    → ((begun : Moment O) (fed : List ℕ) → IsAt rule accepted begun state fed → OfAllLines (Gave rule begun now) fed) → Outcome rule accepted start now first left' status.Ok
-ends_ok rule accepted start now first left left' state chunk most n r some took z end gave = record {
-  taken = r.taken;
-  took = subst (Consumes first left') (none_taken r.taken chunk n z) (Consumes-trans first left left' r.taken (take n chunk) r.took took);
-  ends = (end, within r.taken most r.counted some, gave start r.taken r.at);
-}
-
-pub ends_broken : {O : Type 0} (rule : Rule O) (accepted : O → ℕ) (start now : Moment O) (first left left' : Option (List ℕ)) (state : State O) (chunk : List ℕ) (most n : ℕ)
-    → (r : Reading rule accepted start first state left most) → Consumes left left' (take n chunk) → n ≡ 0 → IsAtEnd left'
-    → ((begun : Moment O) (fed : List ℕ) → IsAt rule accepted begun state fed → OfAllLines (GaveFront rule accepted begun now) fed) → Outcome rule accepted start now first left' status.WriteFault
-ends_broken rule accepted start now first left left' state chunk most n r took z end gave = record {
-  taken = r.taken;
-  took = subst (Consumes first left') (none_taken r.taken chunk n z) (Consumes-trans first left left' r.taken (take n chunk) r.took took);
-  ends = inl (end, gave start r.taken r.at);
-}
-
--- a read fails
-pub ends_unread : {O : Type 0} (rule : Rule O) (accepted : O → ℕ) (start : Moment O) (first left left' : Option (List ℕ)) (state : State O) (most : ℕ)
-    → (r : Reading rule accepted start first state left most) → 0 < most → Keeps left left' → state.pending ≡ [] → Outcome rule accepted start (moment_of state.office state.held) first left' status.ReadFault
-ends_unread rule accepted start first left left' state most r some keeps none = record {
-  taken = r.taken;
-  took = Consumes-kept first left left' r.taken r.took keeps;
-  ends = (within r.taken most r.counted some, gave_whole rule accepted state none start r.taken r.at);
 }
 
 -- a write fails, within what was taken

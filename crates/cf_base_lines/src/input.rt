@@ -1,6 +1,6 @@
 //! Reads a source to its end, for those who need its bytes whole.
 
-ghost use Rattle.std.specs.Prelude.{◌≡◌, ◌<◌, ◌≤◌, ℕ, length, vec_len, Err, IfOk, OnOk};
+ghost use Rattle.std.specs.Prelude.{◌≡◌, ◌<◌, ◌≤◌, length, vec_len, Err, IfOk, OnOk};
 ghost use Rattle.cf_base.specs.Causes.{Rose};
 ghost use Rattle.cf_base_lines.specs.Reads.{IsRead, Takes};
 

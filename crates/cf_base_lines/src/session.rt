@@ -1,6 +1,6 @@
 //! Bytes are taken piece by piece, and the lines that end in them are answered.
 
-ghost use Rattle.std.specs.Prelude.{◌≡◌, ◌≢◌, ◌+◌, ◌≤◌, ◌∷◌, [], vec_capacity, OnOk, OnErr};
+ghost use Rattle.std.specs.Prelude.{◌≡◌, ◌≢◌, ◌≤◌, ◌∷◌, [], vec_capacity, OnOk, OnErr};
 ghost use Rattle.cf_base.specs.Causes.{HasCause};
 ghost use Rattle.cf_base_lines.specs.Run.{moment_of};
 ghost use Rattle.cf_base_lines.specs.State.{Feeds, Breaks, state_of};

@@ -1,13 +1,8 @@
 -- An entry that is looked for by its place in the file.
-use Rattle.std.proofs.Common.{◌≡◌, ◌+◌, ◌-◌, ℕ, zero, suc, List, ◌∷◌, Some, refl, arith}
+use Rattle.std.proofs.Common.{◌≡◌, ◌+◌, ◌-◌, ℕ, zero, suc, List, ◌∷◌, refl}
 use Rattle.cf_calls.specs.declared.entry.Entry.{Entry}
 use Rattle.cf_journal.specs.Records.{record_len}
 use Rattle.cf_books.specs.Answers.{entry_behind}
-
--- it is the first one
-pub behind_here : (n place : ℕ) (e : Entry) (later es : List Entry) → n ≡ 0 → es ≡ e ∷ later → entry_behind n place es ≡ Some (place, e)
-behind_here zero place e later es none split = rw split refl
-behind_here (suc n) place e later es none split = absurd (omega (arith, none))
 
 -- or it stands behind that
 pub behind_more : (n place : ℕ) (e : Entry) (later es : List Entry) → (n ≡ 0 → ⊥) → es ≡ e ∷ later → entry_behind n place es ≡ entry_behind (n - record_len e) (place + 1) later

@@ -11,7 +11,7 @@ use Rattle.cf_journal_book.specs.declared.refused.BookRefused.TheVariants as boo
 use Rattle.cf_books_front.specs.Front.{GivesFront, HasAll, front, front_by, front_in}
 use Rattle.cf_books_front.specs.Whole.{Parts, before, or_before, parts_or, whole_of}
 use Rattle.cf_books_front.specs.declared.front.FrontRefused.{FrontRefused}
-use Rattle.cf_books_front.specs.declared.front.FrontRefused.TheVariants.{Fewer, Nothing}
+use Rattle.cf_books_front.specs.declared.front.FrontRefused.TheVariants.{Fewer}
 use Rattle.cf_books_words.specs.declared.words.Command.{Command}
 use Rattle.cf_books_words.specs.declared.words.Command.TheVariants as asked
 use Rattle.cf_calls.specs.declared.entry.Entry.{Entry}
@@ -19,7 +19,7 @@ use Rattle.cf_journal.specs.Frames.{frames}
 use Rattle.cf_journal.specs.declared.refused.OpenRefused.{OpenRefused}
 use Rattle.cf_journal.specs.declared.refused.OpenRefused.TheVariants.{Damaged, Disk, NoMemory, NotFounded}
 use Rattle.cf_model.specs.State.{OfficeState}
-use Rattle.cf_books.specs.Answers.{Answers, IsToday, Said, dated_kind, dated_said, dated_told, is_of_entries, lines_said, nothing, office_said, office_text, over_office, refused_in, refused_said, said, said_first, statement_said, view, whole_said, is_asked_month, month_told}
+use Rattle.cf_books.specs.Answers.{Answers, IsToday, Said, dated_kind, dated_said, dated_told, is_of_entries, lines_said, nothing, office_said, over_office, refused_in, refused_said, said, view, whole_said, is_asked_month, month_told}
 use Rattle.cf_books.specs.declared.answers.Answer.{Answer}
 use Rattle.cf_books.specs.declared.status.Status.TheVariants.{BadWords}
 

@@ -1,6 +1,6 @@
 //! The documents of a journal whose entries the office takes again.
 
-ghost use Rattle.std.specs.Prelude.{◌≡◌, option_map};
+ghost use Rattle.std.specs.Prelude.{option_map};
 ghost use Rattle.cf_journal_book.specs.Recovery.{recovered};
 ghost use Rattle.cf_books.specs.Answers as spec;
 ghost use Rattle.cf_books.specs.Answers.{Answers};

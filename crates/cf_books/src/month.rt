@@ -18,7 +18,7 @@ use cf_books_days::Dated;
 use cf_books_lists::Layout;
 use cf_books_month::month_text;
 use cf_office::Rest;
-use std::alloc::{AllocError, Global};
+use std::alloc::AllocError;
 
 /// Whether a month is one that can be asked for: 1971-01 to 2199-12.
 #[tactic(auto, using(crate::proofs::Months::asked_call, crate::proofs::Months::asked_from))]

@@ -9,7 +9,7 @@ use Rattle.cf_calls.specs.declared.entry.Entry.{Entry}
 use Rattle.cf_chart.specs.Plan.{Plan}
 use Rattle.cf_model.specs.Registers.{Registers, no_registers, registers_after, registers_step}
 use Rattle.cf_registers.specs.Moved.{moved_by}
-use Rattle.cf_books_days.specs.Through.{dated_through, is_through, moved_in, seen_through}
+use Rattle.cf_books_days.specs.Through.{dated_through, is_through, moved_in}
 
 posted_after_push : (plan : Plan) (s : Registers) (n : ℕ) (h : List Entry) (e : Entry) →
     posted_after plan s n (h ++ e ∷ []) ≡ posted_after plan s n h ++ posted_over plan (registers_after plan s h) (length h + n) e ∷ []
@@ -30,9 +30,6 @@ if_through day x = cond (is_through day x.entry.change.on) (x ∷ []) []
 -- it is among those through a day where it is dated so
 pub through_push : (day : Day) (seen : List Posted) (x : Posted) → dated_through day (seen ++ x ∷ []) ≡ dated_through day seen ++ if_through day x
 through_push day seen x = filter-append (λ (y : Posted). is_through day y.entry.change.on) seen (x ∷ [])
-
-pub seen_push : (plan : Plan) (day : Day) (h : List Entry) (e : Entry) → seen_through plan day (h ++ e ∷ []) ≡ seen_through plan day h ++ if_through day (next_posted plan h e)
-seen_push plan day h e = ap (dated_through day) (posted_push plan h e) ∙ through_push day (all_posted plan h) (next_posted plan h e)
 
 pub moved_append : (plan : Plan) (line year : ℕ) (xs ys : List Posted) → moved_in plan line year (xs ++ ys) ≡ row_plus (moved_in plan line year xs) (moved_in plan line year ys)
 moved_append plan line year [] ys = sym (zero_plus (moved_in plan line year ys))

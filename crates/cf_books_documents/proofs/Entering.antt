@@ -1,5 +1,5 @@
 -- The places of vouchers, entry by entry.
-use Rattle.std.proofs.Common.{◌≡◌, ◌<◌, ℕ, zero, suc, Bool, true, false, if◌then◌else◌, List, [], ◌∷◌, length, get_or, Option, Some, None, ap, sym, arith}
+use Rattle.std.proofs.Common.{◌≡◌, ◌<◌, ℕ, zero, suc, Bool, true, false, if◌then◌else◌, List, [], ◌∷◌, length, get_or, Option, Some, ap, sym, arith}
 use Rattle.std.specs.Prelude.{option_and_then, slice_get}
 use Rattle.cf_calls.specs.declared.entry.Entry.{Entry}
 

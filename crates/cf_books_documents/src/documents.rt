@@ -4,10 +4,9 @@ ghost use Rattle.std.specs.Prelude.{◌≡◌, ◌++◌, ◌∷◌, ◌<◌, ◌
 ghost use Rattle.std.specs.Option.{option_copied};
 ghost use Rattle.cf_books_documents.specs.Dated.{IsDated};
 ghost use Rattle.cf_books_documents.specs.Documents as spec;
-ghost use Rattle.cf_books_documents.specs.Standing as standing;
 
 use crate::accounts::{alone, common, of_fund, total};
-use crate::facts::{Account, Facts, State};
+use crate::facts::{Account, Facts};
 use crate::standing::{
     Standing, asset_now, bill_now, debt_now, item_now, item_shown, loan_now, requisition_now,
     unseen, voucher_now,

@@ -6,7 +6,7 @@ ghost use Rattle.cf_model.specs.Calendar as calendar;
 ghost use Rattle.cf_books_documents.specs.Rolls as spec;
 ghost use Rattle.cf_books_documents.specs.Dated.{IsDated};
 
-use crate::event::{Deed, Event, Subject};
+use crate::event::{Deed, Event};
 use crate::facts::{Facts, is_lapsed, subject_of};
 use cf_calls::Entry;
 use cf_chart::Chart;

@@ -1,6 +1,6 @@
 //! How documents stand, by what looks at them show.
 
-ghost use Rattle.std.specs.Prelude.{◌≡◌, pos};
+ghost use Rattle.std.specs.Prelude.{◌≡◌};
 ghost use Rattle.std.specs.Option.{option_copied};
 ghost use Rattle.cf_books_documents.specs.Standing as spec;
 

@@ -1,6 +1,6 @@
 //! Which documents are wanted.
 
-ghost use Rattle.std.specs.Prelude.{◌≡◌, ◌-◌, ◌==◌, if◌then◌else◌, fold, option_map, slice_get, None};
+ghost use Rattle.std.specs.Prelude.{◌≡◌, ◌-◌, ◌==◌, option_map, None};
 ghost use Rattle.std.specs.Option.{option_copied};
 ghost use Rattle.cf_books_documents.specs.Wanted as spec;
 

@@ -31,21 +31,11 @@ split_map : {A B : Type 0} (f : A → B) (b : Bool) (x : A) (ys : List A) → ma
 split_map f true x ys = refl
 split_map f false x ys = refl
 
-split : {A : Type 0} (b : Bool) (x : A) (ys : List A) → cond b (x ∷ ys) ys ≡ cond b (x ∷ []) [] ++ ys
-split true x ys = refl
-split false x ys = refl
-
 pub next_kept : {A B : Type 0} (f : A → B) (keep : A → Bool) (xs : List A) (i : ℕ) (d : A) {x : A} (out more total : List B) → i < length xs → x ≡ get_or xs i d
     → more ≡ out ++ cond (keep x) (f x ∷ []) [] → out ++ map f (filter keep (drop i xs)) ≡ total → more ++ map f (filter keep (drop (i + 1) xs)) ≡ total
 next_kept f keep xs i d {x} out more total l is kept inv =
     next_pushed out (cond (keep x) (f x ∷ []) []) (map f (filter keep (drop (i + 1) xs))) more (map f (filter keep (drop i xs))) total kept
     (ap (λ ys. map f (filter keep ys)) (next_item xs i d l is) ∙ split_map f (keep x) x (filter keep (drop (i + 1) xs))) inv
-
-pub next_filtered : {A : Type 0} (keep : A → Bool) (xs : List A) (i : ℕ) (d : A) {x : A} (out more total : List A) → i < length xs → x ≡ get_or xs i d
-    → more ≡ out ++ cond (keep x) (x ∷ []) [] → out ++ filter keep (drop i xs) ≡ total → more ++ filter keep (drop (i + 1) xs) ≡ total
-next_filtered keep xs i d {x} out more total l is kept inv =
-    next_pushed out (cond (keep x) (x ∷ []) []) (filter keep (drop (i + 1) xs)) more (filter keep (drop i xs)) total kept
-    (ap (filter keep) (next_item xs i d l is) ∙ split (keep x) x (filter keep (drop (i + 1) xs))) inv
 
 -- ---- written
 

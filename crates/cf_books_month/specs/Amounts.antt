@@ -1,5 +1,5 @@
 -- The amounts of a row, and their totals.
-use Rattle.std.specs.Prelude.{ℤ, pos, List, map}
+use Rattle.std.specs.Prelude.{ℤ, List}
 use Rattle.std.specs.Int.{int_wrap, w128}
 use Rattle.cf_model.specs.Sums.{int_sum}
 use Rattle.cf_books_month.specs.declared.amounts.Amounts.{Amounts}

@@ -1,6 +1,6 @@
 //! A month of a history as records.
 
-ghost use Rattle.std.specs.Prelude.{◌≡◌, ◌≤◌, ℕ, ◌++◌, true, List, Ok, IfOk, OnOk};
+ghost use Rattle.std.specs.Prelude.{◌≡◌, ◌≤◌, ℕ, true, List, Ok, IfOk, OnOk};
 ghost use Rattle.cf_base.specs.Calendar.{is_call_month};
 ghost use Rattle.cf_base.specs.declared.calendar.Month.{Month};
 ghost use Rattle.cf_journal_book.specs.Watching.{all_posted};

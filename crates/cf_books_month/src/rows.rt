@@ -1,6 +1,6 @@
 //! The rows of a month: control lines, revenue sources, and the totals of departments and funds.
 
-ghost use Rattle.std.specs.Prelude.{◌≡◌, ◌≤◌, ◌<◌, ◌++◌, ◌∷◌, [], map, length, IfOk, OnOk};
+ghost use Rattle.std.specs.Prelude.{◌≡◌, ◌≤◌, ◌<◌, ◌++◌, ◌∷◌, [], length, IfOk, OnOk};
 ghost use Rattle.cf_books_month.specs.Rows as spec;
 
 use crate::amounts::{Amounts, total};

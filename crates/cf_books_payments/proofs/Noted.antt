@@ -1,5 +1,5 @@
 -- The tables of payments, entry by entry.
-use Rattle.std.proofs.Common.{◌≡◌, ◌<◌, ◌^◌, ◌==◌, ◌+◌, ◌-◌, ◌∙◌, ℕ, suc, Bool, true, false, if◌then◌else◌, List, [], ◌∷◌, Option, Some, None, sym, ap, arith}
+use Rattle.std.proofs.Common.{◌≡◌, ◌<◌, ◌^◌, ◌==◌, ◌+◌, ◌-◌, ◌∙◌, ℕ, suc, Bool, true, false, if◌then◌else◌, List, ◌∷◌, Option, Some, sym, ap, arith}
 use Rattle.std.proofs.lemmas.Grind.{common_steps}
 use Rattle.std.specs.Prelude.{option_and_then, slice_get, sum_by}
 use Rattle.std.specs.Ordering.{nat_cmp, is_eq}
@@ -68,19 +68,7 @@ pub due_behind : (every from owed n i p : ℕ) (xs ys : List ℕ) (x : Option Du
     → slice_get (dues_from every (from + every) (owed - p) ys) (n - (i + 1)) ≡ x
 due_behind every from owed n i p xs ys x split below found = dues_behind every from owed p (n - (i + 1)) (n - i) ys x (omega arith) (rw split at found)
 
--- or it is the first
-pub due_first : (every from owed n i p : ℕ) (xs ys : List ℕ) (x : Option Due) → xs ≡ p ∷ ys → i ≡ n → slice_get (dues_from every from owed xs) (n - i) ≡ x
-    → Some (record { from = from; month = from + every; owed = owed; principal = p }) ≡ x
-due_first every from owed n i p xs ys x split here found = let none : n - i ≡ 0 = omega (arith, here) in rw (split, none) at found
-
--- or there is none
-pub due_past : (every from owed n : ℕ) (xs : List ℕ) (x : Option Due) → xs ≡ [] → slice_get (dues_from every from owed xs) n ≡ x → None ≡ x
-due_past every from owed n xs x none found = rw none at found
-
 -- ---- both
-
-none_small : AreSmall (λ n. None)
-none_small n = omega arith
 
 -- the tables behind an entry
 pub knows_next : (entries : List Entry) (t t' : Tables) (s : Payable) (e : Entry) (at : ℕ) → slice_get entries at ≡ Some e → Knows entries t s

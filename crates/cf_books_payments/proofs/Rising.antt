@@ -36,9 +36,6 @@ eq_of a b h = grind (arith, nat_tests)
 self : (a : ℕ) → (a == a) ≡ true
 self a = grind (arith, nat_tests)
 
-apart : (a b : ℕ) → b < a → (b == a) ≡ false
-apart a b h = grind (arith, nat_tests)
-
 apart_up : (a b : ℕ) → a < b → (b == a) ≡ false
 apart_up a b h = grind (arith, nat_tests)
 

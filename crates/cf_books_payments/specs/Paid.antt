@@ -43,8 +43,7 @@ voucher_paid by number at (Voucher v) =
       kind = kind.Voucher;
       number = number;
       at = at;
-      by =
-          by;
+      by = by;
       amount = pos (sum_by (λ i. i.account.amount) v.items);
     })
 voucher_paid by number at _ = None
@@ -59,8 +58,7 @@ lease_paid by bond number at (Lease l) =
       number = bond;
       at = at;
       by = by;
-      amount =
-          amount;
+      amount = amount;
     })
     (due_amount number (bond_of (schedule_of l)))
 lease_paid by bond number at _ = None

@@ -37,8 +37,7 @@ abbrev pub payable_after : Payable → Entry → Payable
 payable_after s e =
     record {
       vouchers = vouchers_after e.change.act e.drawn s.vouchers;
-      debts =
-          debts_after e.change.act e.drawn s.debts;
+      debts = debts_after e.change.act e.drawn s.debts;
     }
 
 -- ---- what a payment comes to
@@ -54,15 +53,13 @@ bond_of i = record {
   is_lease = false;
   fund = i.fund;
   amount = i.amount;
-  year =
-      0;
+  year = 0;
   month = 0;
   day = 0;
   rate_bp = i.rate_bp;
   every = i.every;
   principals = i.principals;
-  paid =
-      0;
+  paid = 0;
 }
 
 -- the payment of this number of a bond, counted from 1: its principal, with the interest of its

@@ -18,8 +18,7 @@ issue_of s = record {
   amount = s.amount;
   rate_bp = s.rate_bp;
   every = s.every;
-  principals =
-      s.principals.now;
+  principals = s.principals.now;
 }
 
 -- the schedule that an act enters

@@ -1,5 +1,5 @@
 -- The command that a parse found, by the rows of its arguments.
-use Rattle.std.specs.Prelude.{ℕ, Bool, true, false, ◌||◌, ◌^◌, ◌-◌, not, if◌then◌else◌, List, Option, Some, None, Ok, is_some, option_map, codes}
+use Rattle.std.specs.Prelude.{ℕ, Bool, true, false, ◌||◌, not, if◌then◌else◌, List, Option, Some, None, is_some, option_map, codes}
 use Rattle.std.specs.Str.{bytes_eq}
 use Rattle.clap.specs.Words.{Row, Text, first_of}
 use Rattle.cf_base.specs.Limits.{last_year}
@@ -8,8 +8,6 @@ use Rattle.cf_base.specs.declared.statement.Kind.TheVariants as kind
 use Rattle.cf_run_words.specs.Words.{◌>>=◌, is_set, number_in, report_kind_of}
 use Rattle.cf_run_words.specs.declared.words.ReportKind.{ReportKind}
 use Rattle.cf_run_words.specs.declared.words.ReportKind.TheVariants.{Look, Classes, Components, Major}
-use Rattle.cf_books_words.specs.declared.command_word.CommandWord.{CommandWord}
-use Rattle.cf_books_words.specs.declared.command_word.CommandWord.TheVariants as word
 use Rattle.cf_books_words.specs.declared.options.Days.{Days}
 use Rattle.cf_books_words.specs.declared.words.Command.{Command}
 use Rattle.cf_books_words.specs.declared.words.Command.TheVariants as command
@@ -58,8 +56,7 @@ ledger_filter_in days rows = do
     object = object;
     line = line;
     source = source;
-    vendor =
-        vendor;
+    vendor = vendor;
     year = year;
     from = days.from;
     through = days.through;

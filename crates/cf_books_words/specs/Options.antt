@@ -1,5 +1,5 @@
 -- The options, which of them each command has, and how each is read.
-use Rattle.std.specs.Prelude.{ℕ, Bool, ◌&&◌, ◌||◌, ◌^◌, ◌-◌, not, if◌then◌else◌, nat_le, List, [], ◌∷◌, Option, Some, None, Ok, is_some, option_map, codes}
+use Rattle.std.specs.Prelude.{ℕ, Bool, ◌&&◌, ◌||◌, not, if◌then◌else◌, nat_le, List, [], ◌∷◌, Option, Some, None, Ok, is_some, option_map, codes}
 use Rattle.std.specs.List.{list_all, list_any}
 use Rattle.std.specs.Str.{bytes_eq}
 use Rattle.clap.specs.Words.{Row, Text, first_of}

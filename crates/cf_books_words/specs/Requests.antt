@@ -116,6 +116,5 @@ asked_in rows = do
     command = command;
     file = file;
     entries = entries;
-    key =
-        first_of (codes "key") rows;
+    key = first_of (codes "key") rows;
   })

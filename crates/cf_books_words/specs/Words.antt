@@ -1,5 +1,5 @@
 -- What the words ask for.
-use Rattle.std.specs.Prelude.{ℕ, ◌≡◌, ⊤, [], ◌∷◌, Option, Some, None, option_map, Result, Ok, Err, codes}
+use Rattle.std.specs.Prelude.{ℕ, ◌≡◌, ⊤, Option, Some, None, option_map, Result, Ok, Err, codes}
 use Rattle.std.specs.Borrow.{Bor}
 use Rattle.clap.specs.Words.{Text}
 use Rattle.cf_books_words.specs.declared.words.Command.{Command}
@@ -56,8 +56,7 @@ abbrev pub asks : Request → Asked
 asks r = record {
   command = r.command;
   file = option_map (λ f. f.now) r.file;
-  entries =
-      r.entries;
+  entries = r.entries;
   key = option_map (λ k. k.now) r.key;
 }
 

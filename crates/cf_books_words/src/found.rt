@@ -1,7 +1,7 @@
 //! The command that a parse found.
 
 ghost use Rattle.std.specs.Prelude.{◌≡◌, IfSome, option_map};
-ghost use Rattle.clap.specs.Words.{first_of, found_of, rows_of};
+ghost use Rattle.clap.specs.Words.{found_of, rows_of};
 ghost use Rattle.cf_books_words.specs.Found as spec;
 ghost use Rattle.cf_books_words.specs.Ranges.{IsFilterInRange, IsInRange, IsLedgerInRange, IsOptionDay, IsOptionFrom};
 

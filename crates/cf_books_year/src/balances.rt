@@ -2,8 +2,7 @@
 
 ghost use Rattle.std.specs.Prelude.{◌≡◌, ◌≤◌, ℕ, List, Ok, length, IfOk, OnOk};
 ghost use Rattle.cf_model_articulation.specs.TrialBalances.{fund_accounts as accounts_of_fund, gov_accounts as accounts_of_gov};
-ghost use Rattle.cf_books_lists.specs.Balances.{head};
-ghost use Rattle.cf_books_lists.specs.Records.{head_text, record_text};
+ghost use Rattle.cf_books_lists.specs.Records.{record_text};
 ghost use Rattle.cf_books_lists.specs.Rows.{added};
 ghost use Rattle.cf_books_year.specs.YearBalances as spec;
 ghost use Rattle.cf_books_year.specs.YearBalances.{YearBalances};

@@ -70,8 +70,7 @@ schedule_of l = record {
   fund = l.account.fund;
   amount = l.account.amount;
   rate_bp = l.rate_bp;
-  every =
-      l.every;
+  every = l.every;
   principals = l.principals;
 }
 

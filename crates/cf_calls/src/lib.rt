@@ -26,7 +26,7 @@ pub use list::List;
 pub use names::{DocumentKind, NameKind};
 pub use read::{Basis, Read};
 pub use refusal::{AssetFault, DocumentState, Refusal, refusal_name};
-pub use reply::{Amounts, Body, Made, Now, Posted, Reply, Row, Verdict};
+pub use reply::{Amounts, Body, Made, Posted, Reply, Row, Verdict};
 pub use role::{Role, has_role, role_of};
 pub use same::same_call;
 pub use shown::{LineNumbers, Shown};

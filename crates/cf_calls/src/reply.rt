@@ -5,7 +5,6 @@ use crate::list::List;
 use crate::refusal::Refusal;
 use crate::shown::Shown;
 use crate::text::Label;
-use cf_base::{Day, Month};
 
 /// What an accepted change made.
 #[derive(Clone, Copy)]
@@ -98,15 +97,4 @@ pub enum Verdict {
     /// The same call was accepted as the entry at this place.
     Repeat { was: u64 },
     Refuse(Refusal),
-}
-
-/// What the rules of the registers need of a call's moment.
-#[derive(Clone, Copy)]
-pub struct Now {
-    pub on: Day,
-    pub desk: u16,
-    /// The first month that isn't closed.
-    pub next_month: Month,
-    /// The first fiscal year that isn't closed.
-    pub open_year: u16,
 }

@@ -1,12 +1,11 @@
 -- Claims, entry by entry.
-use Rattle.std.proofs.Common.{◌≡◌, ℕ, ◌+◌, ◌-◌, ◌<◌, ◌≤◌, ◌^◌, take, Bool, true, false, if◌then◌else◌, List, ◌∷◌, ◌++◌, drop, get_or, length, sum_by, sym, ap, ◌∙◌, arith, add-one, drop-cons, append_assoc}
+use Rattle.std.proofs.Common.{◌≡◌, ℕ, ◌+◌, ◌<◌, ◌≤◌, ◌^◌, take, Bool, true, false, if◌then◌else◌, List, get_or, length, sum_by, arith}
 use Rattle.std.proofs.lemmas.List.Sums.{sum_by_more_le_part}
-use Rattle.std.proofs.lemmas.List.Concat.{flat_map-append}
 use Rattle.cf_base.specs.declared.calendar.Day.{Day}
 use Rattle.cf_calls.specs.declared.entry.Entry.{Entry}
 use Rattle.cf_calls.specs.declared.items.VoucherItem.{VoucherItem}
 use Rattle.cf_chart.specs.Plan.{Plan, line_of}
-use Rattle.cf_claims.specs.Claims.{eligible_item, is_among, amount_of, claim_if, claim_line, claim_lines, claims_from}
+use Rattle.cf_claims.specs.Claims.{eligible_item, is_among, claim_lines, claims_from}
 use Rattle.cf_grants.specs.declared.grant.Grant.{Grant}
 
 pub eligible_part : (plan : Plan) (lines : List ℕ) (year : ℕ) (i : VoucherItem) → eligible_item plan lines year i ≤ i.account.amount
@@ -21,23 +20,7 @@ pub part_fits : (plan : Plan) (lines : List ℕ) (year : ℕ) (items : List Vouc
 part_fits plan lines year items i d sum part h is few all =
     omega (arith, is, few, all, sum_by_more_le_part (eligible_item plan lines year) (λ (x : VoucherItem). x.account.amount) items i d h (eligible_part plan lines year))
 
-pub drop_next : (xs : List Entry) (i : ℕ) (d : Entry) → i < length xs → drop i xs ≡ get_or xs i d ∷ drop (i + 1) xs
-drop_next xs i d h = rw (add-one i) (drop-cons xs i d h)
-
 -- ---- what was appended, and what is still to come
 
 abbrev pub rest_lines : Plan → Grant → List Entry → Day → ℕ → ℕ → List Entry → List ℕ
 rest_lines plan g history on desk left entries = claim_lines g on desk (claims_from plan g history left entries)
-
-pub rest_next : (plan : Plan) (g : Grant) (history : List Entry) (on : Day) (desk left i : ℕ) (d : Entry) (amount : ℕ) → i < length history → amount ≡ amount_of plan g history left (get_or history i d)
-    → rest_lines plan g history on desk left (drop i history)
-    ≡ claim_lines g on desk (claim_if plan (get_or history i d) amount) ++ rest_lines plan g history on desk (left - amount) (drop (i + 1) history)
-rest_next plan g history on desk left i d amount h is =
-    let e = get_or history i d in
-    let claim = amount_of plan g history left e in
-    ap (λ es. rest_lines plan g history on desk left es) (drop_next history i d h)
-    ∙ flat_map-append (claim_line g on desk) (claim_if plan e claim) (claims_from plan g history (left - claim) (drop (i + 1) history))
-    ∙ ap (λ a. claim_lines g on desk (claim_if plan e a) ++ rest_lines plan g history on desk (left - a) (drop (i + 1) history)) (sym is)
-
-pub lines_more : (old new line rest all : List ℕ) → old ++ (line ++ rest) ≡ all → new ≡ old ++ line → new ++ rest ≡ all
-lines_more old new line rest all e p = ap (λ t. t ++ rest) p ∙ append_assoc old line rest ∙ e

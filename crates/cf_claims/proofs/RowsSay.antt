@@ -1,12 +1,11 @@
 -- The rows of vouchers, entry by entry, and the claims that they say.
-use Rattle.std.proofs.Common.{◌≡◌, ℕ, ◌+◌, ◌-◌, ◌<◌, ◌==◌, ◌*◌, ◌/◌, min, Bool, true, false, if◌then◌else◌, List, [], ◌∷◌, ◌++◌, Option, Some, None, drop, get_or, length, refl, sym, ap, ◌∙◌, arith, append_assoc}
+use Rattle.std.proofs.Common.{◌≡◌, ℕ, ◌+◌, ◌-◌, ◌==◌, ◌*◌, ◌/◌, min, Bool, true, false, if◌then◌else◌, List, [], ◌∷◌, ◌++◌, Option, Some, None, refl, sym, ap, ◌∙◌, arith}
 use Rattle.std.proofs.lemmas.Bool.{eqb-true}
 use Rattle.std.proofs.lemmas.Grind.{common_steps}
 use Rattle.std.proofs.lemmas.List.Concat.{flat_map-append}
 use Rattle.std.specs.Ordering.{nat_cmp, is_eq}
 use Rattle.cf_calls.specs.declared.entry.Entry.{Entry}
 use Rattle.cf_chart.specs.Plan.{Plan}
-use Rattle.cf_claims.proofs.Claiming.{drop_next}
 use Rattle.cf_claims.specs.Claims.{amount_of, claim_if, claims_from, claims_of, eligible, is_claimable, left_of, share_of, voucher_year}
 use Rattle.cf_claims.specs.Standing.{bill_of, claim_by, claims_in, row_if, row_of, rows_from, rows_of, unclaimed_by, unclaimed}
 use Rattle.cf_claims.specs.declared.standing.ClaimState.{ClaimState}
@@ -17,17 +16,6 @@ pub same_number : (a b : ℕ) → is_eq (nat_cmp a b) ≡ (a == b)
 same_number a b = grind (arith, common_steps)
 
 -- ---- the rows from an entry on
-
-pub rows_next : (plan : Plan) (g : Grant) (history : List Entry) (left i : ℕ) (d : Entry) (amount : ℕ) → i < length history → amount ≡ amount_of plan g history left (get_or history i d)
-    → rows_from plan g history left (drop i history)
-    ≡ row_if (row_of plan g history (get_or history i d) amount (left - amount)) ++ rows_from plan g history (left - amount) (drop (i + 1) history)
-rows_next plan g history left i d amount h is =
-    let e = get_or history i d in
-    ap (λ es. rows_from plan g history left es) (drop_next history i d h)
-    ∙ ap (λ a. row_if (row_of plan g history e a (left - a)) ++ rows_from plan g history (left - a) (drop (i + 1) history)) (sym is)
-
-pub rows_more : (old new row rest all : List GrantVoucher) → old ++ (row ++ rest) ≡ all → new ≡ old ++ row → new ++ rest ≡ all
-rows_more old new row rest all e p = ap (λ t. t ++ rest) p ∙ append_assoc old row rest ∙ e
 
 -- ---- what the rows say is claimed
 

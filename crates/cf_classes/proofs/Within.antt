@@ -12,7 +12,7 @@ use Rattle.cf_chart.specs.declared.rows.FundType.{FundType}
 use Rattle.cf_chart.specs.declared.rows.FundType.TheVariants.{General, SpecialRevenue, CapitalProjects, DebtService, Permanent}
 use Rattle.cf_chart.specs.declared.rows.Line.{Line}
 use Rattle.cf_chart.specs.Plan.{Plan}
-use Rattle.cf_classes.specs.Classes.{AreWithin, ClassesWithin, IsWithin, above_zero, class_of, classes_by, classes_of, encumbered_from, in_class, lesser, none}
+use Rattle.cf_classes.specs.Classes.{AreWithin, ClassesWithin, IsWithin, above_zero, class_of, classes_by, encumbered_from, in_class, lesser, none}
 use Rattle.cf_classes.specs.Major.{BalancesAre, OthersSum, elements_of, is_major, less, nothing, over, plus, total_of}
 use Rattle.cf_classes.specs.declared.elements.Elements.{Elements}
 use Rattle.cf_model.specs.LineNumbers.{encumbered}

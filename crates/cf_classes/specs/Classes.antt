@@ -33,8 +33,7 @@ none = record {
   nonspendable = pos 0;
   restricted = pos 0;
   committed = pos 0;
-  assigned =
-      pos 0;
+  assigned = pos 0;
   unassigned = pos 0;
 }
 
@@ -51,8 +50,7 @@ abbrev pub general : ℤ → ℤ → Classes
 general balance encumbered =
     record none {
       assigned = lesser encumbered balance;
-      unassigned =
-          balance -ℤ lesser encumbered balance;
+      unassigned = balance -ℤ lesser encumbered balance;
     }
 
 -- of a balance above zero

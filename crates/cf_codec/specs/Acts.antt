@@ -275,8 +275,7 @@ issue on = do
     amount = amount;
     rate_bp = rate_bp;
     every = every;
-    principals =
-        principals;
+    principals = principals;
   })
 
 abbrev pub lease : Day → Format NewLease
@@ -291,8 +290,7 @@ lease on = do
     account = account;
     rate_bp = rate_bp;
     every = every;
-    principals =
-        principals;
+    principals = principals;
   })
 
 abbrev pub debt_payment : Format DebtPayment
@@ -307,8 +305,7 @@ debt_payment = do
     fund = fund;
     dept = dept;
     principal = principal;
-    interest =
-        interest;
+    interest = interest;
   })
 
 abbrev pub leave_amount : Format LeaveAmount
@@ -355,8 +352,7 @@ behind which kind f a =
     record {
       bytes = which.bytes kind ++ f.bytes a;
       size = which.size kind + f.size a;
-      fits =
-          f.fits a;
+      fits = f.fits a;
     }
 
 -- values of several kinds, the kind in front

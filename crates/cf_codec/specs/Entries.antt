@@ -71,8 +71,7 @@ entry_in version = do
   act ← field (λ e. e.change.act) (act_for kind on)
   drawn ← field (λ e. e.drawn) (drawn_for act)
   done (record {
-    change =
-        record { desk = desk; key = key; on = on; after = None; act = act };
+    change = record { desk = desk; key = key; on = on; after = None; act = act };
     drawn = drawn;
   })
 

@@ -24,8 +24,8 @@ use cf_calls::{Act, ActKind};
 use cf_codec_fields::Refused;
 use cf_codec_fields::lists::{Element, take_distinct, take_list};
 use cf_codec_fields::take::{
-    faulty, or_faulty, take_amount, take_between, take_byte, take_flag, take_half, take_month,
-    take_most_amount, take_move_kind, take_one_of, take_signed, take_word, take_year,
+    faulty, or_faulty, take_amount, take_byte, take_flag, take_half, take_month, take_most_amount,
+    take_move_kind, take_one_of, take_signed, take_word, take_year,
 };
 use std::alloc::Global;
 

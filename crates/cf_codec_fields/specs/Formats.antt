@@ -34,8 +34,7 @@ abbrev pub number : Width → Format ℕ
 number w = record {
   bytes = number_bytes w;
   size = λ n. byte_len w;
-  fits =
-      λ n. n < 2 ^ (8 * byte_len w);
+  fits = λ n. n < 2 ^ (8 * byte_len w);
   read = number_at w;
 }
 

@@ -1,8 +1,7 @@
 -- The bonds of which a payment is due in a month that isn't closed.
-use Rattle.std.proofs.Common.{◌≡◌, ◌⊎◌, inl, inr, ℕ, suc, ◌+◌, ◌-◌, ◌<◌, ◌≤◌, Bool, true, false, if◌then◌else◌, nat_le, List, [], ◌∷◌, length, map, take, drop, get_or, Option, Some, None, sum_by, sym, subst, ap, ◌∙◌, arith}
+use Rattle.std.proofs.Common.{◌≡◌, ◌⊎◌, inl, inr, ℕ, suc, ◌+◌, ◌-◌, ◌<◌, ◌≤◌, Bool, true, false, if◌then◌else◌, nat_le, List, [], ◌∷◌, length, map, drop, get_or, Option, Some, None, sum_by, sym, subst, ap, ◌∙◌, arith}
 use Rattle.std.proofs.lemmas.Grind.{common_steps}
 use Rattle.std.proofs.lemmas.List.{get_or_default, get_or-drop, drop_more}
-use Rattle.std.proofs.lemmas.List.Sums.{sum_by_more}
 use Rattle.std.proofs.lemmas.Nat.{mul-le}
 use Rattle.std.specs.List.{filter, AllByRecursion}
 use Rattle.cf_calls.specs.declared.refusal.Refusal.{Refusal}
@@ -117,9 +116,6 @@ pub first_found : (f : ℕ → Option Refusal) (live : List ℕ) (k n : ℕ) (r 
     Some r ≡ first_refusal f live
 first_found f live k n r l at found more =
     sym (sym more ∙ ap (first_refusal f) (drop_more live k n l) ∙ ap (λ o. or_else o (first_refusal f (drop (k + 1) live))) (ap f (sym at) ∙ sym found))
-
-pub sum_step : (f : ℕ → ℕ) (live : List ℕ) (k n : ℕ) → k < length live → n ≡ get_or live k n → sum_by f (take (k + 1) live) ≡ sum_by f (take k live) + f n
-sum_step f live k n l at = sum_by_more f live k n l ∙ ap (λ m. sum_by f (take k live) + f m) (sym at)
 
 -- ---- a list of them that is filtered in place
 

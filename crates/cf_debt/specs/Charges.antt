@@ -12,8 +12,7 @@ bond_of t = record {
   amount = 0;
   year = 0;
   month = 0;
-  day =
-      t.day;
+  day = t.day;
   rate_bp = t.rate_bp;
   every = t.every;
   principals = [];

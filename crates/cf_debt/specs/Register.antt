@@ -107,8 +107,7 @@ abbrev pub entry_for : ℕ → Day → Act → Drawn → Entry
 entry_for desk on act drawn =
     record {
       change = record { desk = desk; key = []; on = on; after = None; act = act };
-      drawn =
-          drawn;
+      drawn = drawn;
     }
 
 -- ---- what is due next
@@ -118,8 +117,7 @@ due_of plan b p = record {
   is_lease = b.is_lease;
   payment = b.paid + 1;
   day = due_day plan b p;
-  year =
-      year_at plan p.month;
+  year = year_at plan p.month;
   principal = p.principal;
   interest = coupon b p;
 }
@@ -139,7 +137,6 @@ abbrev pub debt_changes : Plan → ℕ → Registers → DebtChanges
 debt_changes plan year s =
     record {
       proceeds = (changes_of plan year s).proceeds;
-      leases_issued =
-          (changes_of plan year s).leases_issued;
+      leases_issued = (changes_of plan year s).leases_issued;
       principal_paid = (changes_of plan year s).principal;
     }

@@ -37,8 +37,7 @@ issue_of d principals =
       amount = d.amount;
       rate_bp = d.rate_bp;
       every = d.every;
-      principals =
-          principals;
+      principals = principals;
     }
 
 -- a new bond or lease, whose payments begin at a place

@@ -1,5 +1,5 @@
 -- One call more in the record of a disk in memory.
-use Rattle.std.proofs.Common.{◌≡◌, ◌⊎◌, inl, inr, ℕ, ◌+◌, ◌<◌, ◌≤◌, List, [], ◌∷◌, ◌++◌, length, take, sym, ◌∙◌, ap, subst, arith, length-append, Bool, true, false, reverse}
+use Rattle.std.proofs.Common.{◌≡◌, ◌⊎◌, inl, inr, ℕ, ◌+◌, ◌<◌, ◌≤◌, List, [], ◌∷◌, ◌++◌, length, sym, ◌∙◌, ap, subst, arith, length-append, Bool, true, false, reverse}
 use Rattle.std.proofs.lemmas.List.{take_all, take-append-le, reverse-append}
 use Rattle.std.proofs.lemmas.Bool.{cases_lt}
 use Rattle.cf_disk.specs.Images.{AddsNone}
@@ -56,13 +56,6 @@ pub advances_to : (old new : MemDisk) (call : DiskCall) → new.first.items ≡ 
 advances_to old new call same added =
     let moves = subst (λ (cs : List DiskCall). Moves old.first.items old.calls.items new.first.items cs) (sym added)
     (subst (λ (first : List ℕ). Moves old.first.items old.calls.items first (old.calls.items ++ call ∷ [])) (sym same) (moves_to old.first.items old.calls.items call)) in
-    record { later = moves.0; no_more = moves.1; keeps = moves.2 }
-
--- the record is the same
-pub advances_same : (old new : MemDisk) → new.first.items ≡ old.first.items → new.calls.items ≡ old.calls.items → Steps old new
-advances_same old new same kept =
-    let moves = subst (λ (cs : List DiskCall). Moves old.first.items old.calls.items new.first.items cs) (sym kept)
-    (subst (λ (first : List ℕ). Moves old.first.items old.calls.items first old.calls.items) (sym same) (omega arith, λ t image le was. inl was, λ t image le was. was)) in
     record { later = moves.0; no_more = moves.1; keeps = moves.2 }
 
 after_sync : (first : List ℕ) (earlier : List DiskCall) (held : Bool) → AddsNone (IsImageAfter first earlier) (IsImageAfter first (Sync held ∷ earlier))

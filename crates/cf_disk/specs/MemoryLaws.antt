@@ -1,5 +1,5 @@
 -- What the record of a disk in memory gives, call by call.
-use Rattle.std.specs.Prelude.{◌≡◌, ◌⊎◌, ℕ, zero, suc, ◌+◌, ◌-◌, ◌<◌, ◌≤◌, List, [], ◌∷◌, ◌++◌, length, take, drop, replicate, reverse, slice_index, true, false, refl}
+use Rattle.std.specs.Prelude.{◌≡◌, ◌⊎◌, ℕ, ◌+◌, ◌-◌, ◌<◌, ◌≤◌, List, [], ◌∷◌, ◌++◌, length, take, drop, replicate, slice_index, true, false, refl}
 use Rattle.std.proofs.Common.{sym, ◌∙◌, ap, subst, inl, inr, arith, get_or, length-append, length-drop}
 use Rattle.std.proofs.lemmas.List.{take_all, length-take-le, length-replicate, get_or_append_left, get_or-take, get_or-drop, get_or-append_right}
 use Rattle.cf_disk.specs.Images.{padded, written, resized, Torn, HalfCut}

@@ -1,6 +1,6 @@
 //! The disk over a real file. It is the trusted edge: nothing is proved of what a real file holds.
 
-ghost use Rattle.std.specs.Prelude.{◌≡◌, ℕ, false, [], ⊤, OnOk};
+ghost use Rattle.std.specs.Prelude.{◌≡◌, false, [], ⊤, OnOk};
 ghost use Rattle.cf_base.specs.Causes.{HasCause};
 
 use crate::disk::Disk;

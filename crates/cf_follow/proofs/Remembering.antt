@@ -1,5 +1,5 @@
 -- An office in memory keeps its promises.
-use Rattle.std.proofs.Common.{◌≡◌, ◌<◌, ◌≤◌, List, [], ◌∷◌, ◌++◌, length, length-append, Result, Ok, Err, sym, subst, arith}
+use Rattle.std.proofs.Common.{◌≡◌, ◌<◌, List, [], ◌∷◌, ◌++◌, length, length-append, Result, Ok, Err, sym, subst, arith}
 use Rattle.std.specs.Prelude.{OnOk, OnErr}
 use Rattle.std.proofs.lemmas.List.Elements.{All-push}
 use Rattle.cf_base.specs.Limits.{most_entries}
@@ -11,6 +11,3 @@ pub memory_after : {T E : Type 0} (r : Result T E) (old new : List Entry) (e : E
 memory_after (Ok x) old new e is form few added same =
     subst IsMemory (sym added) (record { form = All-push IsEntryInForm old e is.form form; few = omega (arith, length-append old (e ∷ []), few) })
 memory_after (Err x) old new e is form few added same = subst IsMemory (sym same) is
-
-pub memory_few : {T E : Type 0} (r : Result T E) (old new : List Entry) (e : Entry) → IsMemory old → IsEntryInForm e → length old < most_entries → OnOk r (new ≡ old ++ e ∷ []) → OnErr r (new ≡ old) → length new ≤ most_entries
-memory_few r old new e is form few added same = (memory_after r old new e is form few added same).few

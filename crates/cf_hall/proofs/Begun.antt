@@ -27,12 +27,6 @@ count_of-own : (n : ℕ) (ms : List ℕ) → count_of n (ms ++ n ∷ []) ≡ cou
 count_of-own n [] = grind (arith, nat_tests)
 count_of-own n (m ∷ ms) = let rest = count_of-own n ms in let here : ℕ = if m == n then 1 else 0 in omega (arith, rest)
 
-pub first_none : HasFirst 0 []
-first_none = record {
-  has = λ place from to. absurd (omega (arith, from, to));
-  past = λ place from. omega arith;
-}
-
 pub first_more : (n : ℕ) (places : List ℕ) → HasFirst n places → HasFirst (n + 1) (places ++ (n + 1) ∷ [])
 first_more n places first = record {
   has = λ place from to. by_case place from to (ℕ_discrete (n + 1) place);

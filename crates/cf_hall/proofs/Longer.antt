@@ -1,5 +1,5 @@
 -- The longer of two lists, and the last of one.
-use Rattle.std.proofs.Common.{◌≡◌, ◌≤◌, Bool, true, false, List, [], ◌∷◌, ◌++◌, length, get_or, refl, arith}
+use Rattle.std.proofs.Common.{◌≡◌, ◌≤◌, Bool, true, false, List, length, refl, arith}
 use Rattle.std.proofs.lemmas.Bool.Decides.{nat_tests}
 use Rattle.std.specs.Prelude.{ltb}
 use Rattle.cf_turns.specs.Lists.{longer}
@@ -11,7 +11,3 @@ longer_second xs ys le = by_case (ltb (length ys) (length xs)) refl
     by_case : (b : Bool) → ltb (length ys) (length xs) ≡ b → longer xs ys ≡ ys
     by_case true is = absurd (grind (arith, nat_tests))
     by_case false is = rw is refl
-
-pub last_is : {A : Type 0} (xs : List A) (x d : A) → get_or (xs ++ x ∷ []) (length xs) d ≡ x
-last_is [] x d = refl
-last_is (y ∷ xs) x d = last_is xs x d

@@ -179,9 +179,6 @@ amount_send = search sendable depth 20
 pub post_row_send : IsSend Post.the_row
 post_row_send = search sendable depth 20
 
-pub post_send : IsSend Post.the_field.row
-post_send = search sendable depth 20
-
 pub place_send : IsSend Place.the_row
 place_send = search sendable depth 20
 
@@ -190,9 +187,6 @@ pair_send = search sendable depth 20
 
 pub line_key_send : IsSend LineKey.the_row
 line_key_send = search sendable depth 20
-
-pub u64_sync : IsSync (UInt w64)
-u64_sync = search sendable depth 20
 
 pub u64_send : IsSend (UInt w64)
 u64_send = search sendable depth 20
@@ -215,9 +209,6 @@ hold_send = search (account_send, sendable) depth 40
 pub liquidation_send : IsSend Liquidation.the_row
 liquidation_send = search sendable depth 20
 
-pub charge_send : IsSend Charge.the_row
-charge_send = search (sendable, liquidation_send) depth 20
-
 pub charge_field_send : IsSend Charge.the_field.row
 charge_field_send = search (sendable, liquidation_send) depth 20
 
@@ -226,9 +217,6 @@ expenditure_send = search (account_send, charge_field_send, sendable) depth 40
 
 pub item_send : IsSend VoucherItem.the_row
 item_send = recorded_send VoucherItem.the_field.row _ _ VoucherItem.the_type.to_one (struct_send (shape VoucherItem.the_type) (account_send, (charge_field_send, tt)))
-
-pub voucher_send : IsSend NewVoucher.the_row
-voucher_send = recorded_send NewVoucher.the_field.row _ _ NewVoucher.the_type.to_one (struct_send (shape NewVoucher.the_type) (search sendable, (search sendable, (list_send _ item_send, tt))))
 
 pub table_send2 : IsSend table_inside.the_row
 table_send2 = recorded_send table_inside.the_field.row _ _ table_inside.the_type.to_one (struct_send (shape table_inside.the_type) (maps.BTreeMap-send _ _ _ pair_eq.ghosts pair_partial.ghosts pair_send row_send, tt))
@@ -275,17 +263,11 @@ turns_sync = view_sync _ _ _ _ _ (recorded_sync turns_inside.the_field.row _ _ t
 pub desk_send : IsSend Desk.the_row
 desk_send = recorded_send Desk.the_field.row _ _ Desk.the_type.to_one (struct_send (shape Desk.the_type) (search sendable, (text_send, (list_send Role.the_row (search sendable depth 20), tt))))
 
-pub desk_field_send : IsSend Desk.the_field.row
-desk_field_send = struct_send (shape Desk.the_type) (search sendable, (text_send, (list_send Role.the_row (search sendable depth 20), tt)))
-
 pub desk_sync : IsSync Desk.the_row
 desk_sync = recorded_sync Desk.the_field.row _ _ Desk.the_type.to_one (struct_sync (shape Desk.the_type) (search sendable, (text_sync, (list_sync Role.the_row (search sendable depth 20), tt))))
 
 pub bond_send : IsSend BondRow.the_row
 bond_send = recorded_send BondRow.the_field.row _ _ BondRow.the_type.to_one (struct_send (shape BondRow.the_type) (search sendable, (search sendable, (search sendable, (search sendable, (search sendable, (search sendable, (search sendable depth 20, (search sendable, (search sendable, (search sendable, (search sendable, tt))))))))))))
-
-pub bond_field_send : IsSend BondRow.the_field.row
-bond_field_send = struct_send (shape BondRow.the_type) (search sendable, (search sendable, (search sendable, (search sendable, (search sendable, (search sendable, (search sendable depth 20, (search sendable, (search sendable, (search sendable, (search sendable, tt)))))))))))
 
 pub asset_row_send : IsSend AssetRow.the_row
 asset_row_send = search (sendable, crosses) depth 40
@@ -304,12 +286,6 @@ chart_sync = view_sync _ _ _ _ _ (recorded_sync chart_inside.the_field.row _ _ c
 
 pub act_field_send : IsSend act.the_field.row
 act_field_send = search (adoption_send, requisition_send, order_send, change_send, voucher_field_send, payment_send, issue_send, lease_send, asset_send, leave_act_send, sendable) depth 60 fits 100000
-
-pub act_send : IsSend act.the_row
-act_send = recorded_send act.the_field.row _ _ act.the_type.to_one act_field_send
-
-pub call_change_send : IsSend change.the_row
-call_change_send = recorded_send change.the_field.row _ _ change.the_type.to_one (struct_send (shape change.the_type) (search sendable, (text_send, (search sendable, (search sendable depth 20, (act_field_send, tt))))))
 
 pub call_change_field_send : IsSend change.the_field.row
 call_change_field_send = struct_send (shape change.the_type) (search sendable, (text_send, (search sendable, (search sendable depth 20, (act_field_send, tt)))))

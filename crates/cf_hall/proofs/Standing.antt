@@ -1,6 +1,6 @@
 -- Tables that were taken go on standing for the list.
 use Rattle.std.proofs.Common.{◌≡◌, ℕ, ◌+◌, ◌<◌, ◌%◌, Bool, true, false, if◌then◌else◌, List, [], ◌∷◌, ◌++◌, Option, Some, None, is_some, refl, sym, ap, subst, ◌∙◌, arith, append-nil, append_assoc}
-use Rattle.std.proofs.lemmas.List.Sums.{sum_by_push, sum_by-cons}
+use Rattle.std.proofs.lemmas.List.Sums.{sum_by-cons}
 use Rattle.std.specs.List.{count_by}
 use Rattle.atomic_table.specs.Seated.{TableId}
 use Rattle.cf_calls.specs.declared.acts.Act.{Act}
@@ -22,7 +22,7 @@ use Rattle.cf_journal_book.specs.Archives.{IsOwed}
 use Rattle.cf_turns.specs.Lists.{TaggedEntry}
 use Rattle.cf_turns.specs.States.{PassState}
 use Rattle.cf_turns.specs.Touching.{touch_count}
-use Rattle.cf_hall_names.specs.Following.{Follows, AreCounts, AreCountsWith, AreTaken, AllFollow}
+use Rattle.cf_hall_names.specs.Following.{Follows, AreTaken, AllFollow}
 use Rattle.cf_hall_names.specs.Lists.{entries_of, tie_at, total_at}
 use Rattle.cf_hall.specs.TakenState.{IsTakenStripe, AreTakenStripes, AllSeen}
 use Rattle.cf_hall_names.proofs.Eight.{eight}
@@ -209,10 +209,6 @@ module _ (table : TableId) (plan : Plan) where
       still_away k none = no_table (table_of lines' k) (stripes k ∙ ap is_some none)
 
   -- ---- the counts
-
-  pub counts_more : (list : List TaggedEntry) (e : Entry) (n : ℕ) (totals more : List ℕ) → AreCounts plan list totals → ((k : ℕ) → k < 8 → total_at more k ≡ (if entry_touches plan k e then 1 else 0)) →
-      AreCountsWith plan (list ++ (e, n) ∷ []) totals more
-  counts_more list e n totals more counts is k l = (λ i. counts k l i + is k l i) ∙ sym (sum_by_push _ list (e, n))
 
   -- a stripe that is away isn't touched
   pub taken_more : (lines : Tables) (ties : List (Option PassState)) (act : Act) (more : List ℕ) → AreTakenStripes table plan lines None ties → LendsTouched plan (has_line lines) act →

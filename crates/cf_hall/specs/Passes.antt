@@ -25,8 +25,7 @@ Sights old list c posted.Disk new = new
     ≡ record old {
       seen = longer old.seen list;
       faults = min (old.faults + 1) (2 ^ 64 - 1);
-      failed =
-          old.failed ++ c ∷ [];
+      failed = old.failed ++ c ∷ [];
     }
 
 -- the calls that were answered by a fault of the disk, after this answer to a call of the pass of

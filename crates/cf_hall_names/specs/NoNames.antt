@@ -9,7 +9,6 @@ no_table = record {
   views_name = 0;
   atom = 0;
   block = 0;
-  offset =
-      0;
+  offset = 0;
   slot_names = [];
 }

@@ -39,8 +39,7 @@ impl<N: City> Model for Shares<N> {
         record {
           parts = s.accepted.parts;
           accepted = s.accepted.amount;
-          faulted =
-              s.faulted.amount;
+          faulted = s.faulted.amount;
         } };
 
     ghost invariant = { λ s. s.faulted.parts ≡ s.accepted.parts };

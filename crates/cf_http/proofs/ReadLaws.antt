@@ -1,16 +1,16 @@
 -- Reads of a link, one after another.
-use Rattle.std.proofs.Common.{◌≡◌, ℕ, ◌+◌, ◌<◌, List, [], ◌∷◌, ◌++◌, length, Option, Some, None, Result, Ok, Err, inr, sym, subst, ap, ◌∙◌, refl, append_assoc}
+use Rattle.std.proofs.Common.{◌≡◌, ℕ, ◌+◌, ◌<◌, List, [], ◌++◌, length, Option, Some, None, Ok, inr, sym, subst, ap, ◌∙◌, append_assoc}
 use Rattle.std.specs.Io.KnownBytes.{Appends}
 use Rattle.std.proofs.KnownBytes.{Appends-trans}
 use Rattle.std.proofs.lemmas.List.{append-nil}
-use Rattle.std.proofs.lemmas.List.Elements.{All-append, All-nil, All-cons, All-weaker}
+use Rattle.std.proofs.lemmas.List.Elements.{All-append, All-nil, All-weaker}
 use Rattle.cf_http_heads.proofs.HeadLaws.{begins_on}
 use Rattle.cf_http_heads.specs.Answers.{joined}
 use Rattle.cf_http_heads.specs.Heads.{BeginsWithHead, IsOpenHead}
 use Rattle.cf_http_heads.specs.declared.head.Heading.{Heading}
 use Rattle.cf_http.specs.Asking.{Rule}
 use Rattle.cf_http.specs.declared.end.LinkEnd.{LinkEnd}
-use Rattle.cf_http.specs.Links.{LinkRead, Input, Output, LinkTells, OnlyReads, OnlySends, FaultsOf, read_now, ReadsEach, TellsRead}
+use Rattle.cf_http.specs.Links.{LinkRead, Input, Output, LinkTells, OnlyReads, OnlySends, FaultsOf, read_now, ReadsEach}
 use Rattle.cf_http.specs.Serving.{Moment, moment_now, ReadInTurn, Went, Serves}
 use Rattle.cf_http.specs.Stages.{Stage, Came, ReadOver, ReadsOver, ReadsNow}
 use Rattle.cf_http.specs.Talk.{IsOpenText}
@@ -33,13 +33,6 @@ reads_on is_so (Some xs) None c g h = absurd g
 reads_on is_so (Some xs) (Some ys) None g h = absurd h
 reads_on is_so (Some xs) (Some ys) (Some zs) g h =
     (g.0 ++ h.0, h.1 ∙ ap (λ t. t ++ h.0) g.1 ∙ append_assoc xs g.0 h.0, All-append is_so g.0 h.0 g.2 h.2)
-
--- one read
-pub reads_one : {E : Type 0} (a b : Option (List LinkRead)) (read : LinkRead) (result : Result ℕ E) → TellsRead a b read result → ReadsEach (λ r. r ≡ read) a b
-reads_one a b read (Err e) t = t
-reads_one None b read (Ok n) t = tt
-reads_one (Some xs) None read (Ok n) t = absurd t
-reads_one (Some xs) (Some ys) read (Ok n) t = (read ∷ [], t, All-cons (λ (r : LinkRead). r ≡ read) read [] refl (All-nil (λ (r : LinkRead). r ≡ read)))
 
 -- ---- over a text that waits for more
 

@@ -180,12 +180,5 @@ told_kind rule before _ old new route body closes _ (turn.told code text after h
 told_kind rule before _ old new route body closes _ (turn.no_room how s) = memory_kind old new how s
 told_kind rule before _ old new route body closes _ (turn.no_memory after how says s) = memory_kind old new how s
 
-pub refused_kind : (how : LinkEnd) → ((how ≡ end.Closed) ⊎ (how ≡ end.WriteFault)) → IsAfterAnswer how
-refused_kind how (inl e) = subst IsAfterAnswer (sym e) tt
-refused_kind how (inr e) = subst IsAfterAnswer (sym e) tt
-
-pub after_no_read : (how : LinkEnd) → IsAfterAnswer how → how ≡ end.ReadFault → ⊥
-after_no_read how after e = subst IsAfterAnswer e after
-
 pub after_no_limit : (how : LinkEnd) → IsAfterAnswer how → how ≡ end.Limit → ⊥
 after_no_limit how after e = subst IsAfterAnswer e after

@@ -1,14 +1,13 @@
 -- Laws of what the fields of a head say.
-use Rattle.std.proofs.Common.{eqb, ◌≡◌, ◌≢◌, ◌+◌, ◌*◌, ◌<◌, ◌≤◌, ℕ, suc, List, [], ◌∷◌, ◌++◌, Bool, true, false, length, Some, None, Result, Ok, Err, nat_le, nat_lt, ◌==◌, ◌&&◌, not, codes, if◌then◌else◌, arith, subst, refl, sym, ap, ◌∙◌, take, drop, slice_index, drop-cons}
+use Rattle.std.proofs.Common.{eqb, ◌≡◌, ◌≢◌, ◌+◌, ◌*◌, ◌<◌, ◌≤◌, ℕ, suc, List, [], ◌∷◌, ◌++◌, Bool, true, false, length, Result, Ok, Err, nat_le, nat_lt, ◌==◌, ◌&&◌, not, codes, if◌then◌else◌, arith, subst, refl, sym, ap, ◌∙◌, take, drop, slice_index, drop-cons}
 use Rattle.std.specs.Bool.{⊤}
 use Rattle.std.specs.List.{position_or_len, before_first, after_first}
 use Rattle.std.specs.Str.Parse.{digits_value, digits_value_after}
 use Rattle.std.specs.Char.{digit_value}
-use Rattle.std.proofs.lemmas.Option.{none-some}
 use Rattle.std.proofs.lemmas.Bool.{leb-true}
 use Rattle.std.proofs.lemmas.List.{take-append-drop}
 use Rattle.std.proofs.lemmas.List.Elements.{All-head, All-tail}
-use Rattle.cf_http_heads.specs.Fields.{Fields, values_of, body_length, is_number, parts, stated_length, first_value, HasNone}
+use Rattle.cf_http_heads.specs.Fields.{Fields, values_of, body_length, is_number, parts, stated_length, HasNone}
 use Rattle.cf_http_heads.specs.declared.fields.Refusal.{Refusal}
 use Rattle.cf_http_heads.specs.declared.fields.Refusal.TheVariants.{Head, Coding, Long}
 
@@ -16,20 +15,6 @@ use Rattle.cf_http_heads.specs.declared.fields.Refusal.TheVariants.{Head, Coding
 pub after_least : (n : ℕ) (ds : List ℕ) → n ≤ digits_value_after 10 n ds
 after_least n [] = omega arith
 after_least n (c ∷ cs) = omega (arith, after_least (n * 10 + digit_value c) cs)
-
-pub stated_many : (vs : List (List ℕ)) → 1 < length vs → stated_length vs ≡ Err Head
-stated_many [] h = absurd (omega (arith, h))
-stated_many (v ∷ []) h = absurd (omega (arith, h))
-stated_many (v ∷ w ∷ vs) h = refl
-
-pub stated_none : (vs : List (List ℕ)) → first_value vs ≡ None → stated_length vs ≡ Ok 0
-stated_none [] h = refl
-stated_none (v ∷ vs) h = absurd (none-some v (sym h))
-
-pub stated_one : (vs : List (List ℕ)) (v : List ℕ) → length vs ≤ 1 → first_value vs ≡ Some v → stated_length vs ≡ stated_length (v ∷ [])
-stated_one [] v l h = absurd (none-some v h)
-stated_one (w ∷ []) v l h = grind (arith, h)
-stated_one (w ∷ x ∷ vs) v l h = absurd (omega (arith, l))
 
 -- what has no separator is one part
 pub parts_alone : (separator : ℕ) (text : List ℕ) → HasNone separator text → parts separator text ≡ text ∷ []

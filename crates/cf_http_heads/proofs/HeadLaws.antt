@@ -1,5 +1,5 @@
 -- Laws of the heads of requests.
-use Rattle.std.proofs.Common.{◌≡◌, ◌+◌, ◌<◌, ◌≤◌, ℕ, List, ◌++◌, length, take, drop, min, arith, sym, ap, ◌∙◌, subst, inr, append_assoc, length-append, length-take, length-drop}
+use Rattle.std.proofs.Common.{◌≡◌, ◌+◌, ◌<◌, ◌≤◌, ℕ, List, ◌++◌, length, take, drop, min, arith, sym, ap, ◌∙◌, subst, inr, length-append, length-take, length-drop}
 use Rattle.std.proofs.lemmas.List.{take-append-drop, take-append-le, take_all, length-map}
 use Rattle.std.proofs.Math.Nat.{lt_of_not-le}
 use Rattle.std.proofs.Math.Seq.{take-append_seam}
@@ -23,10 +23,6 @@ length_head text h rest reads = let e : length text ≡ length (print_request h)
 pub many_overflow : (text : List ℕ) (h : RequestHead) (rest : List ℕ) → ReadsRequest text h rest → 64 < length h.fields → RequestOverflows 64 text
 many_overflow text h rest reads many more k q other =
     subst (λ (x : RequestHead). 64 < length x.fields) (request_prefix_free text more h k rest q reads other).0 many
-
--- what overflows goes on to do so
-pub overflows_on : (front back : List ℕ) → RequestOverflows 64 front → RequestOverflows 64 (front ++ back)
-overflows_on front back over more h rest reads = over (back ++ more) h rest (subst (λ (t : List ℕ). ReadsRequest t h rest) (append_assoc front back more) reads)
 
 -- a head within a front of the text is a head of the front
 front_head : (front back : List ℕ) (h : RequestHead) (rest : List ℕ) → ReadsRequest (front ++ back) h rest → length (print_request h) ≤ length front

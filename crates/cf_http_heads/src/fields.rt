@@ -1,6 +1,6 @@
 //! What the fields of a head say of the body and of the connection.
 
-ghost use Rattle.std.specs.Prelude.{◌≡◌, ◌↔◌, ◌≤◌, ◌<◌, ◌∷◌, [], ℕ, List, map, take, slice_index, length, codes, true, Some, None, MatchOption, option_copied, if◌then◌else◌, nat_le};
+ghost use Rattle.std.specs.Prelude.{◌≡◌, ◌<◌, ◌∷◌, [], map, take, slice_index, length, codes, true, Some, None, MatchOption, option_copied, if◌then◌else◌, nat_le};
 ghost use Rattle.std.specs.List.{list_any, list_all};
 ghost use Rattle.std.specs.Char.{is_ascii_digit};
 ghost use Rattle.std.specs.Str.{str_eq_ignore_ascii_case};

@@ -1,6 +1,6 @@
 //! The head of a request, as a text begins with it.
 
-ghost use Rattle.std.specs.Prelude.{◌≡◌, ◌≤◌, ◌<◌, ◌==◌, ◌||◌, ℕ, map, length};
+ghost use Rattle.std.specs.Prelude.{◌≡◌, ◌≤◌, ◌<◌, ◌==◌, ◌||◌, map, length};
 ghost use Rattle.httparse.specs.Borrowed.{header_parts};
 ghost use Rattle.cf_http_heads.specs.Heads.{heading_by, IsFront, IsShortFront};
 

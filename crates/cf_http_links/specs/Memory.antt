@@ -32,8 +32,7 @@ tells_of l = record {
   input = record {
     received = Some (received_of l);
     ended = ended_of l;
-    reads =
-        Some (reads_of l);
+    reads = Some (reads_of l);
     faults = l.read_faults;
   };
   output = record { sent = Some (sent_of l); faults = l.write_faults };

@@ -1,6 +1,6 @@
 //! Links and doors in memory.
 
-ghost use Rattle.std.specs.Prelude.{◌≡◌, ◌≤◌, ◌<◌, ◌+◌, ◌^◌, Some, [], false, take, length, ltb, All, IfOk, vec_len, vec_capacity};
+ghost use Rattle.std.specs.Prelude.{◌≡◌, ◌≤◌, ◌<◌, ◌+◌, Some, [], false, take, length, ltb, All, IfOk, vec_len, vec_capacity};
 
 use crate::fault::fault;
 use cf_base::Failed;

@@ -1,11 +1,8 @@
 -- What a raise to version 2 leaves.
-use Rattle.std.proofs.Common.{◌≡◌, ◌≢◌, ℕ, ◌≤◌, List, [], ◌∷◌, ◌++◌, length, get_or, true, refl, ◌∙◌, ap, subst, arith}
+use Rattle.std.proofs.Common.{◌≡◌, ◌≢◌, ℕ, ◌≤◌, List, [], ◌∷◌, ◌++◌, length, get_or, ◌∙◌, ap, subst, arith}
 use Rattle.std.specs.Int.{w32, to_be_bytes}
 use Rattle.cf_calls.specs.declared.entry.Entry.{Entry}
-use Rattle.cf_calls.specs.declared.kind.ActKind.{ActKind}
-use Rattle.cf_calls.specs.declared.kind.ActKind.TheVariants.{Lease}
 use Rattle.cf_disk.specs.Images.{written, Torn}
-use Rattle.cf_codec_fields.specs.Kinds.{is_of}
 use Rattle.cf_journal.specs.Records.{records_of}
 use Rattle.cf_journal.specs.Layout.{IsValid, IsAtRest}
 use Rattle.cf_journal.proofs.Lists.{torn_gate, written_gate}
@@ -14,11 +11,6 @@ use Rattle.cf_journal.proofs.Layouts.{at_rest, valid_two}
 -- a version that isn't 2 is 1
 pub is_first : (version : ℕ) → (1 ≤ version) × (version ≤ 2) → version ≢ 2 → version ≡ 1
 is_first version known other = omega (arith, known.0, known.1)
-
--- version 2 has every act
-pub has_all : (kind : ActKind) → is_of 2 kind ≡ true
-has_all Lease = refl
-has_all _ = refl
 
 -- a crash in a write of the second byte leaves all but that
 torn_second : (a b : ℕ) (rest image : List ℕ) → Torn 1 1 (a ∷ b ∷ rest) image → image ≡ a ∷ get_or image 1 0 ∷ rest

@@ -1,5 +1,5 @@
 -- A whole file, as it is opened.
-use Rattle.std.proofs.Common.{◌≡◌, inl, inr, ⊎_elim, ℕ, ◌+◌, ◌-◌, ◌<◌, ◌≤◌, List, ◌∷◌, ◌++◌, length, take, drop, refl, sym, ◌∙◌, ap, arith, length-drop, take-append-drop, Bool, false, Result, Ok, Err}
+use Rattle.std.proofs.Common.{◌≡◌, inl, inr, ⊎_elim, ℕ, ◌+◌, ◌-◌, ◌≤◌, List, ◌∷◌, ◌++◌, length, take, drop, refl, sym, ◌∙◌, ap, arith, length-drop, take-append-drop, Bool, false, Result, Ok, Err}
 use Rattle.std.specs.Prelude.{IsOk, IsErr, is_ok, if◌then◌else◌, slice_index}
 use Rattle.std.specs.Int.{w32, to_be_bytes}
 use Rattle.std.proofs.lemmas.List.{take_all, drop-drop, length-take-le}
@@ -42,9 +42,6 @@ module _ (version : ℕ) (bytes chart records : List ℕ) (n len : ℕ) (sizes :
 
   pub length-chart : length chart ≡ n
   length-chart = ap length chart_is ∙ length-take-le n (drop 6 bytes) (omega (arith, length-drop 6 bytes, sizes, within))
-
-  pub some_records : 0 < length records
-  some_records = omega (arith, ap length all_records, length-drop (6 + n) bytes, sizes, within)
 
   -- what the bytes stand for
   pub frames_read : stated_head (length bytes) (take 6 bytes) ≡ Ok (version, n) → IsOk (chart_of chart) → frames bytes ≡ with_chart chart (entries_from version 0 (6 + n) records)

@@ -62,19 +62,11 @@ module _ {D : Type 0} (tells : Bool) (is_image : D → List ℕ → Type 0) wher
 
   -- ---- mending and appending
 
-  -- where nothing is in doubt
-  pub clear_settled : (journal : Journal) (disk : D) (chart : List ℕ) (h : List Entry) (doubt : Option Entry) → in_doubt journal ≡ false → Keeps tells is_image journal disk chart h doubt → IsSettled tells is_image journal disk chart h
-  clear_settled journal disk chart h None clear k = k
-  clear_settled journal disk chart h (Some e) clear k = absurd (let is : in_doubt journal ≡ true = k.doubt in cc)
-
   -- where something is
   pub doubt_is : (journal : Journal) (disk : D) (chart : List ℕ) (h : List Entry) (doubt : Option Entry) → in_doubt journal ≡ true → Keeps tells is_image journal disk chart h doubt
       → (e : Entry) × (doubt ≡ Some e) × IsInDoubt tells is_image journal disk chart h e
   doubt_is journal disk chart h None is k = absurd (let clear : in_doubt journal ≡ false = k.clear in cc)
   doubt_is journal disk chart h (Some e) is k = (e, refl, k)
-
-  pub doubt_keeps : (journal : Journal) (disk : D) (chart : List ℕ) (h : List Entry) (doubt : Option Entry) (e : Entry) → doubt ≡ Some e → IsInDoubt tells is_image journal disk chart h e → Keeps tells is_image journal disk chart h doubt
-  doubt_keeps journal disk chart h doubt e is k = subst (Keeps tells is_image journal disk chart h) (sym is) k
 
   pub settled_keeps : (journal : Journal) (disk : D) (chart : List ℕ) (h : List Entry) (doubt : Option Entry) → doubt ≡ None → IsSettled tells is_image journal disk chart h → Keeps tells is_image journal disk chart h doubt
   settled_keeps journal disk chart h doubt is k = subst (Keeps tells is_image journal disk chart h) (sym is) k

@@ -73,8 +73,7 @@ impl<D: Disk + Drop> Model for Archive<D> {
           plan = a.rest.plan;
           entries = a.rest.entries;
           doubt = doubt_of a.doubt;
-          disk =
-              a.disk;
+          disk = a.disk;
         } };
 
     ghost invariant = { λ a.

@@ -1,26 +1,17 @@
 -- Parts of a stream, one after another.
-use Rattle.std.proofs.Common.{◌≡◌, ◌≢◌, ◌⊎◌, inl, inr, ℕ, ◌+◌, ◌<◌, ◌≤◌, ◌^◌, List, [], ◌∷◌, ◌++◌, length, length-append, take, refl, sym, subst, arith, Option}
+use Rattle.std.proofs.Common.{◌≡◌, ◌≢◌, ◌⊎◌, inl, inr, ℕ, ◌+◌, ◌<◌, ◌≤◌, ◌^◌, List, [], ◌∷◌, ◌++◌, length, length-append, refl, sym, subst, arith, Option}
 use Rattle.std.specs.Int.{w32, w64, to_be_bytes}
 use Rattle.std.specs.Io.KnownBytes.{Consumes, IsAtEnd}
 use Rattle.std.proofs.KnownBytes.{Consumes-trans}
-use Rattle.std.proofs.lemmas.List.{length-take}
 use Rattle.std.specs.Prelude.{MatchOption, IfSome, Some, None}
 use Rattle.cf_base_lines.specs.Reads.{IsRead}
 use Rattle.cf_journal_stream.specs.Parts.{IsWhy, NoFault, ReadsNone}
-use Rattle.cf_journal_stream.specs.Readings.{CutBefore, ReadsFrame, ReadsHead, ReadsLong, ReadsText}
+use Rattle.cf_journal_stream.specs.Readings.{CutBefore, ReadsLong}
 use Rattle.cf_journal_stream.specs.Streams.{HeadFault, HeadPart, PiecePart, RecordFault, RecordPart, TextFault, TextPart, most_chart, most_payload}
 use Rattle.cf_journal_stream.specs.declared.reader.Unread.{Unread}
 use Rattle.cf_journal_stream.specs.declared.reader.Unread.TheVariants as unread
 
 -- ---- parts that weren't read whole
-
--- nothing was taken
-pub piece_none : (most : ℕ) (a b : Option (List ℕ)) → 0 < most → Consumes a b [] → ReadsNone (PiecePart most) NoFault a b unread.Source
-piece_none most a b some took = record { bytes = []; took = took; is = omega arith }
-
--- what was taken had no memory
-pub piece_lost : (most n : ℕ) (a b : Option (List ℕ)) (bytes : List ℕ) → n ≤ most → Consumes a b (take n bytes) → ReadsNone (PiecePart most) NoFault a b unread.NoMemory
-piece_lost most n a b bytes few took = record { bytes = take n bytes; took = took; is = omega (arith, few, length-take n bytes) }
 
 -- a piece of so many bytes, behind those of it that were taken before
 pub piece_behind : (most more : ℕ) (a b c : Option (List ℕ)) (front : List ℕ) (why : Unread) → length front + more ≤ most → Consumes a b front → ReadsNone (PiecePart more) NoFault b c why → ReadsNone (PiecePart most) NoFault a c why
@@ -30,15 +21,6 @@ piece_behind most more a b c front why fits took none = record { bytes = front +
     longer unread.Source is = omega (arith, is, fits, length-append front none.bytes)
     longer unread.NoMemory is = omega (arith, is, fits, length-append front none.bytes)
     longer (unread.Fault k) is = is
-
--- a length of four bytes, of a text of any kind
-pub text_there : (at most : ℕ) (a b : Option (List ℕ)) (why : Unread) → ReadsNone (PiecePart 4) NoFault a b why → ReadsNone (TextPart most) (TextFault at most) a b why
-text_there at most a b why none = record { bytes = none.bytes; took = none.took; is = why_is why none.is }
-  where
-    why_is : (w : Unread) → IsWhy (λ over. PiecePart 4 over none.bytes) (λ k. ⊥) w → IsWhy (λ over. TextPart most over none.bytes) (TextFault at most b none.bytes) w
-    why_is unread.Source is = TextPart.in_length is
-    why_is unread.NoMemory is = TextPart.in_length is
-    why_is (unread.Fault k) is = absurd is
 
 -- the text behind its length
 pub text_behind : (at most n : ℕ) (a b c : Option (List ℕ)) (why : Unread) → n ≤ most → Consumes a b (to_be_bytes w32 n) → ReadsNone (PiecePart n) NoFault b c why → ReadsNone (TextPart most) (TextFault at most) a c why
@@ -72,11 +54,6 @@ text_short at most n a b c piece took read few short = record {
   is = TextFault.cut_text n piece refl few short (at_end n c (length piece) read.whole short);
 }
 
-pub text_whole : (most n : ℕ) (a b c : Option (List ℕ)) (piece : List ℕ) → Consumes a b (to_be_bytes w32 n) → IsRead n b c piece → n ≤ most → n ≤ length piece → ReadsText most a c piece
-text_whole most n a b c piece took read few whole =
-    let same : n ≡ length piece = omega (arith, read.within) in
-    record { short = omega arith; took = subst (λ (k : ℕ). Consumes a c (to_be_bytes w32 k ++ piece)) same (Consumes-trans a b c (to_be_bytes w32 n) piece took read.took) }
-
 -- ---- FROM and the chart
 
 pub long_read : (a b : Option (List ℕ)) (piece : List ℕ) (o : Option ℕ) → IsRead 8 a b piece → MatchOption o (length piece < 8) (λ n. to_be_bytes w64 n ≡ piece) → IfSome o (λ n. n < 2 ^ 64) → ReadsLong a b o
@@ -85,14 +62,6 @@ long_read a b piece (Some n) read is small = (small, subst (Consumes a b) (sym i
 
 pub head_cut : (a b : Option (List ℕ)) → CutBefore 8 a b → ReadsNone HeadPart HeadFault a b (unread.Fault 0)
 head_cut a b cut = record { bytes = cut.part; took = cut.took; is = HeadFault.cut_from cut.short cut.end }
-
-pub head_there : (a b : Option (List ℕ)) (why : Unread) → ReadsNone (PiecePart 8) NoFault a b why → ReadsNone HeadPart HeadFault a b why
-head_there a b why none = record { bytes = none.bytes; took = none.took; is = why_is why none.is }
-  where
-    why_is : (w : Unread) → IsWhy (λ over. PiecePart 8 over none.bytes) (λ k. ⊥) w → IsWhy (λ over. HeadPart over none.bytes) (HeadFault b none.bytes) w
-    why_is unread.Source is = HeadPart.in_from is
-    why_is unread.NoMemory is = HeadPart.in_from is
-    why_is (unread.Fault k) is = absurd is
 
 head_why : (from : ℕ) (left : Option (List ℕ)) (part : List ℕ) (why : Unread) → from < 2 ^ 64 → IsWhy (λ over. TextPart most_chart over part) (TextFault 8 most_chart left part) why
     → IsWhy (λ over. HeadPart over (to_be_bytes w64 from ++ part)) (HeadFault left (to_be_bytes w64 from ++ part)) why
@@ -107,9 +76,6 @@ head_text from a b c why small took none = record {
   is = head_why from c none.bytes why small none.is;
 }
 
-pub head_whole : (from : ℕ) (a b c : Option (List ℕ)) (piece : List ℕ) → from < 2 ^ 64 → Consumes a b (to_be_bytes w64 from) → ReadsText 1048576 b c piece → ReadsHead a c from piece
-head_whole from a b c piece small took text = record { small = small; short = text.short; took = Consumes-trans a b c (to_be_bytes w64 from) (to_be_bytes w32 (length piece) ++ piece) took text.took }
-
 -- ---- records
 
 pub frame_none : (a b : Option (List ℕ)) → CutBefore 1 a b → ReadsNone RecordPart RecordFault a b (unread.Fault 0)
@@ -122,14 +88,6 @@ frame_none a b cut = record { bytes = cut.part; took = cut.took; is = RecordFaul
 pub frame_bad : (byte : ℕ) (a b : Option (List ℕ)) → Consumes a b (byte ∷ []) → byte ≢ 0 → byte ≢ 1 → ReadsNone RecordPart RecordFault a b (unread.Fault 0)
 frame_bad byte a b took open_ shut = record { bytes = byte ∷ []; took = took; is = RecordFault.bad_byte byte refl open_ shut }
 
-pub frame_there : (a b : Option (List ℕ)) (why : Unread) → ReadsNone (PiecePart 1) NoFault a b why → ReadsNone RecordPart RecordFault a b why
-frame_there a b why none = record { bytes = none.bytes; took = none.took; is = why_is why none.is }
-  where
-    why_is : (w : Unread) → IsWhy (λ over. PiecePart 1 over none.bytes) (λ k. ⊥) w → IsWhy (λ over. RecordPart over none.bytes) (RecordFault b none.bytes) w
-    why_is unread.Source is = RecordPart.in_byte is
-    why_is unread.NoMemory is = RecordPart.in_byte is
-    why_is (unread.Fault k) is = absurd is
-
 frame_why : (left : Option (List ℕ)) (part : List ℕ) (why : Unread) → IsWhy (λ over. TextPart most_payload over part) (TextFault 1 most_payload left part) why → IsWhy (λ over. RecordPart over (1 ∷ part)) (RecordFault left (1 ∷ part)) why
 frame_why left part unread.Source is = RecordPart.in_payload part refl is
 frame_why left part unread.NoMemory is = RecordPart.in_payload part refl is
@@ -140,10 +98,4 @@ frame_text byte a b c why one took none = record {
   bytes = 1 ∷ none.bytes;
   took = Consumes-trans a b c (1 ∷ []) none.bytes (subst (λ (x : ℕ). Consumes a b (x ∷ [])) one took) none.took;
   is = frame_why c none.bytes why none.is;
-}
-
-pub frame_whole : (byte : ℕ) (a b c : Option (List ℕ)) (piece : List ℕ) → byte ≡ 1 → Consumes a b (byte ∷ []) → ReadsText 65536 b c piece → ReadsFrame a c piece
-frame_whole byte a b c piece one took text = record {
-  short = text.short;
-  took = Consumes-trans a b c (1 ∷ []) (to_be_bytes w32 (length piece) ++ piece) (subst (λ (x : ℕ). Consumes a b (x ∷ [])) one took) text.took;
 }

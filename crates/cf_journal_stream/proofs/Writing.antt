@@ -1,8 +1,7 @@
 -- Records are written one after another.
-use Rattle.std.proofs.Common.{◌≡◌, ◌≢◌, ℕ, ◌+◌, ◌<◌, ◌≤◌, List, [], ◌∷◌, ◌++◌, length, take, drop, get_or, refl, sym, ◌∙◌, ap, subst, append_assoc, Option}
-use Rattle.std.specs.Io.KnownBytes.{Appends}
+use Rattle.std.proofs.Common.{◌≡◌, ◌≢◌, ℕ, ◌+◌, ◌<◌, List, [], ◌∷◌, ◌++◌, length, take, drop, get_or, refl, sym, ◌∙◌, ap, subst, append_assoc, Option}
 use Rattle.std.proofs.KnownBytes.{Appends-nil, Appends-trans}
-use Rattle.std.proofs.lemmas.List.{append-nil, take_more, take-append-drop, take_all}
+use Rattle.std.proofs.lemmas.List.{append-nil, take_more, take-append-drop}
 use Rattle.cf_calls.specs.declared.entry.Entry.{Entry}
 use Rattle.cf_base_lines.specs.Sinks.{Wrote}
 use Rattle.cf_journal.specs.Records.{record_of, records_of}
@@ -60,9 +59,6 @@ module _ (first : Option (List ℕ)) (head : List ℕ) (es : List Entry) where
     },
   )
 
-  pub wrote_all : (n : ℕ) (held : Option (List ℕ)) (pending : List ℕ) → length es ≤ n → WroteTo n held pending → Wrote first held (head ++ records_of es) pending
-  wrote_all n held pending long w = subst (λ (l : List Entry). Wrote first held (head ++ records_of l) pending) (take_all n es long) w
-
 -- ---- what is behind the records
 
 pub wrote_longer : (first held : Option (List ℕ)) (bytes rest more : List ℕ) → Wrote first held bytes rest → Wrote first held (bytes ++ more) (rest ++ more)
@@ -74,9 +70,6 @@ wrote_on first held held' bytes pending rest w more = record {
   joins = w.joins ∙ ap (λ (l : List ℕ). w.done ++ l) more.joins ∙ sym (append_assoc w.done more.done rest);
   put = Appends-trans first held held' w.done more.done w.put more.put;
 }
-
-pub wrote_whole : (first held : Option (List ℕ)) (bytes rest : List ℕ) → rest ≡ [] → Wrote first held bytes rest → Appends first held bytes
-wrote_whole first held bytes rest none w = subst (Appends first held) (sym (w.joins ∙ ap (λ (l : List ℕ). w.done ++ l) none ∙ append-nil w.done)) w.put
 
 -- a front was written
 pub ships_front : (stream : List ℕ) (held held' : Option (List ℕ)) (how : ShipEnd) → how ≢ end.Done → ((rest : List ℕ) × Wrote held held' stream rest) → Ships stream held held' how

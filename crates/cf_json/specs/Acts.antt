@@ -151,8 +151,7 @@ schedule_of on fund amount d = do
     amount = amount;
     rate_bp = rate_bp;
     every = every;
-    principals =
-        principals;
+    principals = principals;
   })
 
 -- the day of the month is at most 28
@@ -178,10 +177,8 @@ lease_of on d = do
   _ ← must (nat_lt 12 (s.every * length s.principals)) (codes "principals")
   Ok (Lease (record {
     vendor = vendor;
-    account =
-        record { fund = s.fund; dept = dept; object = object; amount = s.amount };
-    rate_bp =
-        s.rate_bp;
+    account = record { fund = s.fund; dept = dept; object = object; amount = s.amount };
+    rate_bp = s.rate_bp;
     every = s.every;
     principals = s.principals;
   }))
@@ -198,8 +195,7 @@ debt_payment_of d = do
     fund = fund;
     dept = dept;
     principal = principal;
-    interest =
-        interest;
+    interest = interest;
   }))
 
 abbrev pub leave_amount_of : Data → Result LeaveAmount FormFault

@@ -16,7 +16,7 @@ use cf_calls::Act;
 use cf_calls::acts::{
     Adoption, Amendment, AssetAct, BillAmount, BondIssue, DebtPayment, Disposal, Donation,
     FundMove, FundMoveKind, LeaveAct, LeaveAmount, LeaveMaturity, LineTransfer, NewBill, NewLease,
-    NewOrder, NewRequisition, NewVoucher, OrderChange, Payment, Period,
+    NewOrder, NewVoucher, OrderChange, Period,
 };
 use cf_calls::items::SourceAmount;
 use cf_json_members::parts::Part::{Number, True, Word, YearMonth};

@@ -1,17 +1,16 @@
 -- Cells that stand for posts, and for one post more.
-use Rattle.std.proofs.Common.{◌≡◌, ℕ, zero, suc, ◌+◌, ◌-◌, ◌<◌, ◌≤◌, ◌^◌, ◌⊎◌, inl, inr, Bool, true, false, if◌then◌else◌, ◌==◌, ◌&&◌, ◌||◌, nat_le, Result, Ok, Err, OnOk, List, [], ◌∷◌, ◌++◌, length, take, get_or, Some, is_some, ℤ, pos, ◌+ℤ◌, FitsSigned, unsigned_abs, refl, sym, ap, subst, ◌∙◌, arith, append_assoc}
+use Rattle.std.proofs.Common.{◌≡◌, ℕ, ◌+◌, ◌-◌, ◌<◌, ◌≤◌, ◌^◌, ◌⊎◌, inl, inr, Bool, true, false, if◌then◌else◌, ◌==◌, ◌&&◌, ◌||◌, nat_le, Result, Ok, Err, OnOk, List, [], ◌∷◌, ◌++◌, length, get_or, Some, is_some, ℤ, pos, ◌+ℤ◌, FitsSigned, refl, sym, ap, subst, ◌∙◌, arith}
 use Rattle.std.proofs.lemmas.Bool.Decides.{eqb_tells}
 use Rattle.std.proofs.lemmas.Int.{ints}
 use Rattle.std.proofs.lemmas.Grind.{common_steps, get_or-set_at}
-use Rattle.std.proofs.lemmas.List.{get_or-set_other, length-set, take_more}
-use Rattle.std.proofs.lemmas.List.Sums.{sum_by-append, sum_by-take-le}
+use Rattle.std.proofs.lemmas.List.{get_or-set_other, length-set}
 use Rattle.std.specs.List.{list_any, All}
 use Rattle.std.specs.Map.{keys_of}
 use Rattle.std.specs.BTreeMap.{is_at}
 use Rattle.std.specs.Int.{w128}
 use Rattle.cf_ledger.specs.declared.post.Post.{Post}
 use Rattle.cf_ledger.specs.declared.places.Place.{Place}
-use Rattle.cf_ledger.specs.Books.{Posted, has_place, KeepsPlaces}
+use Rattle.cf_ledger.specs.Books.{Posted, has_place}
 use Rattle.cf_ledger.specs.Places.{Rows, place_cmp, row_of, has_row, cells_at, PutsCells, AreCounted, KeepsRows, SameRows, ReadsSame}
 use Rattle.cf_ledger.specs.Posts.{sum_where, sizes, is_of, IsInYears}
 use Rattle.cf_ledger.specs.Years.{sum_of, cell_of, raised, CanRaise, StandsFor}
@@ -149,38 +148,11 @@ rows_push posts p old new stands count years puts f a = by_test ((p.fund == f) &
 
 -- ---- posts added one after another
 
-pub one_more : (xs ys : List Post) (i : ℕ) (d : Post) → i < length ys → (xs ++ take i ys) ++ get_or ys i d ∷ [] ≡ xs ++ take (i + 1) ys
-one_more xs ys i d l = append_assoc xs (take i ys) (get_or ys i d ∷ []) ∙ ap (λ zs. xs ++ zs) (sym (take_more ys i d l))
-
-pub small_more : (xs ys : List Post) (i : ℕ) → sizes (xs ++ ys) < 2 ^ 127 → sizes (xs ++ take i ys) < 2 ^ 127
-small_more xs ys i small =
-    let size : Post → ℕ = λ p. unsigned_abs p.amount in
-    omega (arith, sum_by-append size xs ys, sum_by-append size xs (take i ys), sum_by-take-le size ys i)
-
 -- ---- places reserved one after another
 
 -- the places of the first so many posts are reserved
 abbrev pub HasFirst : Posted → List Post → ℕ → Type 0
 HasFirst book posts n = (k : ℕ) (d : Post) → k < n → k < length posts → has_place book (get_or posts k d).fund (get_or posts k d).account ≡ true
-
-any_default : (xs : List Post) (i : ℕ) (d e : Post) → i < length xs → get_or xs i d ≡ get_or xs i e
-any_default [] i d e l = absurd (omega arith)
-any_default (x ∷ xs) zero d e l = refl
-any_default (x ∷ xs) (suc i) d e l = any_default xs i d e (omega arith)
-
-at_most : (k i : ℕ) → k < i + 1 → (k < i) ⊎ (i ≡ k)
-at_most k i l = grind arith
-
-pub one_reserved : (old new : Posted) (posts : List Post) (i : ℕ) (d : Post) → HasFirst old posts i → KeepsPlaces old new →
-    has_place new (get_or posts i d).fund (get_or posts i d).account ≡ true → HasFirst new posts (i + 1)
-one_reserved old new posts i d all keeps here k e l within =
-    elim (at_most k i l) [
-      | inl before ↦ keeps _ _ (all k e before within)
-      | inr now ↦
-          let P : Post → Type 0 = λ p. has_place new p.fund p.account ≡ true in
-          let Q : ℕ → Type 0 = λ n. has_place new (get_or posts n d).fund (get_or posts n d).account ≡ true in
-          subst P (any_default posts k d e within) (subst Q now here)
-    ]
 
 -- ---- what holds of no posts, and of a result
 

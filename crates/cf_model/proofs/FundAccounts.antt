@@ -25,9 +25,6 @@ use Rattle.cf_post.specs.Table.{expenditure, fund_rows}
 abbrev IsFundAccount : ℕ → Type 0
 IsFundAccount a = (300000 ≤ a) ⊎ ((a ≡ 100000) ⊎ ((a ≡ 110000) ⊎ ((a ≡ 120000) ⊎ ((a ≡ 200000) ⊎ ((a ≡ 210000) ⊎ ((a ≡ 220000) ⊎ (a ≡ 290000)))))))
 
-above : (a : ℕ) → 300000 ≤ a → IsFundAccount a
-above a l = inl l
-
 cash : IsFundAccount 100000
 cash = inr (inl refl)
 

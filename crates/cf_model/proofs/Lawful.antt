@@ -1,5 +1,5 @@
 -- What the rules give of an entry that none of them refuses, and what each such entry keeps.
-use Rattle.std.proofs.Common.{◌≡◌, ◌⊎◌, inl, inr, ℕ, suc, ◌+◌, ◌-◌, ◌<◌, ◌≤◌, Bool, true, false, not, if◌then◌else◌, ◌==◌, ◌||◌, ◌&&◌, nat_lt, List, [], ◌∷◌, ◌++◌, map, length, Option, Some, None, is_some, refl, sym, subst, append_assoc, append-nil, ◌∙◌, arith}
+use Rattle.std.proofs.Common.{◌≡◌, ◌⊎◌, inl, inr, ℕ, suc, ◌+◌, ◌-◌, ◌<◌, ◌≤◌, Bool, true, false, not, if◌then◌else◌, ◌==◌, ◌||◌, ◌&&◌, nat_lt, List, [], ◌∷◌, ◌++◌, map, length, Option, Some, None, is_some, refl, sym, subst, ◌∙◌, arith}
 use Rattle.std.specs.List.{filter, AllByRecursion}
 use Rattle.std.proofs.lemmas.Bool.Decides.{leb_tells, eqb_tells}
 use Rattle.std.proofs.lemmas.Grind.{common_steps}
@@ -31,8 +31,6 @@ use Rattle.cf_model.specs.Rules.{first_refusal, refuse_if, period_refusal, name_
 use Rattle.cf_model.proofs.First.{or_else_none, refuse_none, first_refusal-append}
 use Rattle.cf_model.proofs.Tidy.{all_append, all_map}
 use Rattle.cf_model.specs.Assets.{Asset, Stage, held, void, disposed, depreciation, asset_step, assets_by, new_asset, bought, voucher_of, Origin, purchase, gift, lease, is_leased, life_of, leased_life}
-use Rattle.cf_model.specs.Changes.{ChangesAddUp}
-use Rattle.cf_model.specs.Items.{Reconciles}
 use Rattle.cf_model.specs.Months.{number_of_day, year_at, months_to}
 use Rattle.cf_model.specs.Receivables.{Bill, bill_at, window_if, collected_year}
 use Rattle.cf_base.specs.Windows.{is_in_window, year_end}
@@ -45,7 +43,7 @@ use Rattle.cf_model.proofs.Capital.{IsFresh, AreFresh, IsHeldBy, HasFunction}
 use Rattle.cf_model.proofs.Depreciated.{IsSoundAsset, among}
 use Rattle.cf_model.proofs.MonthNumbers.{HasCalendar, ClosedAre, ClosesNext, closed_first, closed_push, early, day_year_is}
 use Rattle.cf_model.proofs.Pushes.{registers_push}
-use Rattle.cf_model.proofs.Reconciled.{IsReconciled, reconciled_first, reconciled_push, changes_add_up}
+use Rattle.cf_model.proofs.Reconciled.{IsReconciled, reconciled_first, reconciled_push}
 use Rattle.cf_model.proofs.Totals.{passing, all_so}
 
 -- ---- days
@@ -396,14 +394,3 @@ lawful_first plan whole = record { reconciled = reconciled_first plan; closed = 
 abbrev pub AreUnbroken : Plan → List Entry → List Entry → Type 0
 AreUnbroken plan seen [] = Unit {0}
 AreUnbroken plan seen (e ∷ later) = IsUnbroken plan seen e × AreUnbroken plan (seen ++ e ∷ []) later
-
-lawful_after : (plan : Plan) (seen later : List Entry) → IsWhole plan → IsLawful plan seen → AreUnbroken plan seen later → IsLawful plan (seen ++ later)
-lawful_after plan seen [] whole is unbroken = subst (IsLawful plan) (sym (append-nil seen)) is
-lawful_after plan seen (e ∷ later) whole is unbroken =
-    subst (IsLawful plan) (append_assoc seen (e ∷ []) later) (lawful_after plan (seen ++ e ∷ []) later whole (lawful_push plan seen e whole is unbroken.0) unbroken.1)
-
--- the theorem: in every year fund balances and the items come to net position, and the rows of
--- changes to its change
-pub reconciles_always : (plan : Plan) (history : List Entry) → IsWhole plan → AreUnbroken plan [] history → Reconciles plan history × ChangesAddUp plan history
-reconciles_always plan history whole unbroken =
-    let is = lawful_after plan [] history whole (lawful_first plan whole) unbroken in (is.reconciled.reconciles, changes_add_up plan history is.reconciled)

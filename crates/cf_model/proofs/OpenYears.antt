@@ -80,16 +80,6 @@ or_not : (b : Bool) → (b || false) ≡ b
 or_not true = refl
 or_not false = refl
 
-closed_by : (act : Act) (h : List Entry) (u y : ℕ) → Closes act u → (is_year_closed h y || closes_year y act) ≡ true → (y ≡ u) ⊎ (is_year_closed h y ≡ true)
-closed_by (Close (period.Year n)) h u y next e = by_tests (is_year_closed h y) (y == n) (eqb_tells y n) e
-  where
-    by_tests : (b c : Bool) → ((c ≡ true) × (y ≡ n)) ⊎ ((c ≡ false) × (y ≡ n → ⊥)) → (b || c) ≡ true → (y ≡ u) ⊎ (b ≡ true)
-    by_tests true c t e = inr refl
-    by_tests false c (inl t) e = inl (t.1 ∙ next)
-    by_tests false c (inr t) e = absurd (cc (t.0, e))
-closed_by (Close (period.Month m)) h u y next e = inr (sym (or_not (is_year_closed h y)) ∙ e)
-closed_by _ h u y next e = inr (sym (or_not (is_year_closed h y)) ∙ e)
-
 abbrev Moves : Plan → List Entry → Entry → Act → ℕ → Type 0
 Moves plan h e act u = (from : plan.first_year ≤ u) → u ≤ plan.first_year + length h → ((y : ℕ) → plan.first_year ≤ y → y < u → is_year_closed h y ≡ true) → ((y : ℕ) → u ≤ y → is_year_closed h y ≡ false) →
     ((y : ℕ) → plan.first_year ≤ y → y < open_year_after act u → (is_year_closed h y || closes_year y act) ≡ true) × (((y : ℕ) → open_year_after act u ≤ y → (is_year_closed h y || closes_year y act) ≡ false) × ((plan.first_year ≤ open_year_after act u) × (open_year_after act u ≤ plan.first_year + length h + 1)))

@@ -1,5 +1,5 @@
 -- What an act spends beside documents: at most two amounts, in years that have numbers.
-use Rattle.std.proofs.Common.{◌≡◌, ℕ, zero, suc, ◌≤◌, ◌<◌, true, ◌==◌, ◌++◌, List, [], ◌∷◌, length, Option, Some, None, slice_get, subst, sym, arith}
+use Rattle.std.proofs.Common.{◌≡◌, ℕ, zero, suc, ◌≤◌, ◌<◌, true, ◌==◌, List, [], ◌∷◌, slice_get, arith}
 use Rattle.std.specs.List.{filter, AllByRecursion}
 use Rattle.cf_base.specs.declared.calendar.Day.{Day}
 use Rattle.cf_base.specs.Calendar.{is_day}
@@ -7,38 +7,17 @@ use Rattle.cf_calls.specs.declared.acts.Act.{Act}
 use Rattle.cf_calls.specs.declared.acts.Act.TheVariants as act
 use Rattle.cf_calls.specs.declared.acts.DebtPayment.{DebtPayment}
 use Rattle.cf_calls.specs.declared.acts.LeaveAct.TheVariants.{Earn, Use, Mature}
-use Rattle.cf_calls.specs.declared.entry.Entry.{Entry}
 use Rattle.cf_chart.specs.Plan.{Plan}
 use Rattle.cf_model.specs.Bonds.{Bond, Due, dues, next_due}
 use Rattle.cf_model.specs.Months.{year_at}
-use Rattle.cf_model.specs.Registers.{Registers, registers_of}
-use Rattle.cf_model.specs.Results.{bond_at}
+use Rattle.cf_model.specs.Registers.{Registers}
 use Rattle.cf_model.specs.Spendings.{Spending, bonds_spendings, due_spendings, spendings_by}
-use Rattle.cf_model.specs.Step.{IsLegal}
-use Rattle.cf_model.proofs.BondNumbers.{bonds_if, named_always}
 use Rattle.cf_model.proofs.BookYears.{IsTimely}
 use Rattle.cf_model.proofs.Posted.{all_filter}
 use Rattle.cf_model.proofs.Tidy.{all_append}
 use Rattle.cf_model.proofs.Years.{document_within}
 
 -- ---- how many
-
-due_few : (plan : Plan) (d : DebtPayment) (b : Bond) (o : Option Due) → length (due_spendings plan d b o ++ []) ≤ 2
-due_few plan d b None = omega arith
-due_few plan d b (Some p) = omega arith
-
-bond_few : (plan : Plan) (d : DebtPayment) (o : Option Bond) → length (bonds_spendings plan d (bonds_if o)) ≤ 2
-bond_few plan d None = omega arith
-bond_few plan d (Some b) = due_few plan d b (next_due b)
-
-pub few_spendings : (plan : Plan) (h : List Entry) (on : Day) (a : Act) → IsLegal plan h → length (spendings_by plan (registers_of plan h) on a) ≤ 2
-few_spendings plan h on (act.PayDue d) legal =
-    subst (λ bonds. length (bonds_spendings plan d bonds) ≤ 2) (sym (named_always plan h legal d.bond)) (bond_few plan d (bond_at d.bond (registers_of plan h).bonds))
-few_spendings plan h on (act.Leave (Earn l)) legal = omega arith
-few_spendings plan h on (act.Leave (Use l)) legal = omega arith
-few_spendings plan h on (act.Leave (Mature l)) legal = omega arith
-few_spendings plan h on (act.Lease l) legal = omega arith
-few_spendings plan h on _ legal = omega arith
 
 -- ---- in which years
 

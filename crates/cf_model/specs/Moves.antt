@@ -34,8 +34,7 @@ abbrev pub release_move : Hold → Move
 release_move h = record {
   account = h.account;
   year = h.year;
-  held =
-      pos 0 -ℤ pos (held_amount h.state h.account.amount);
+  held = pos 0 -ℤ pos (held_amount h.state h.account.amount);
   encumbered = pos 0;
   expended = pos 0;
 }
@@ -55,8 +54,7 @@ item_move step i = record {
   year = i.year;
   held = pos 0;
   encumbered = open_rise step i;
-  expended =
-      pos 0;
+  expended = pos 0;
 }
 
 -- an amount that is spent, and one that is taken back
@@ -67,8 +65,7 @@ spend_move year v =
       year = year;
       held = pos 0;
       encumbered = pos 0;
-      expended =
-          pos v.account.amount;
+      expended = pos v.account.amount;
     }
 
 abbrev pub unspend_move : Expenditure → Move
@@ -77,8 +74,7 @@ unspend_move x = record {
   year = x.year;
   held = pos 0;
   encumbered = pos 0;
-  expended =
-      pos 0 -ℤ pos (expended_amount x.state x.account.amount);
+  expended = pos 0 -ℤ pos (expended_amount x.state x.account.amount);
 }
 
 -- the order's item that a charge is against
@@ -121,8 +117,7 @@ roll_moves plan act (i ∷ items) =
       account = i.account;
       year = i.year;
       held = pos 0;
-      encumbered =
-          pos 0 -ℤ pos (open_of i);
+      encumbered = pos 0 -ℤ pos (open_of i);
       expended = pos 0;
     }
     ∷ (if lapses plan i then []
@@ -130,8 +125,7 @@ roll_moves plan act (i ∷ items) =
       account = i.account;
       year = i.year + 1;
       held = pos 0;
-      encumbered =
-          pos (open_of i);
+      encumbered = pos (open_of i);
       expended = pos 0;
     } ∷ [])
     else [])
@@ -176,8 +170,7 @@ spending_move x = record {
   year = x.year;
   held = pos 0;
   encumbered = pos 0;
-  expended =
-      pos x.account.amount;
+  expended = pos x.account.amount;
 }
 
 -- the moves of an act: those of its documents, of the year that it rolls, or of what it spends

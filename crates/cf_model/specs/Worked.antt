@@ -61,8 +61,7 @@ town = record blank_plan {
     name = [];
     fund_type = fund_type.General;
     level = level.Object;
-    policy =
-        policy.Lapse;
+    policy = policy.Lapse;
     later = None;
     balance_class = None;
   }
@@ -70,8 +69,7 @@ town = record blank_plan {
         id = 2;
         name = [];
         fund_type = fund_type.SpecialRevenue;
-        level =
-            level.Department;
+        level = level.Department;
         policy = policy.Carry;
         later = None;
         balance_class = None;
@@ -89,8 +87,7 @@ town = record blank_plan {
   desks = record {
     id = 1;
     name = [];
-    roles =
-        role.Council ∷ role.Payables ∷ role.Treasury ∷ role.Payroll ∷ role.Controller ∷ [];
+    roles = role.Council ∷ role.Payables ∷ role.Treasury ∷ role.Payroll ∷ role.Controller ∷ [];
   }
       ∷ record { id = 4; name = []; roles = role.Payables ∷ [] } ∷ [];
 }
@@ -106,8 +103,7 @@ abbrev pub drew : ℕ → ℕ → Day → Act → Entry
 drew number second day act =
     record {
       change = record { desk = 1; key = 98 ∷ []; on = day; after = None; act = act };
-      drawn =
-          record { number = number; second = second };
+      drawn = record { number = number; second = second };
     }
 
 abbrev pub entry : ℕ → Act → Entry
@@ -118,8 +114,7 @@ adopts fund line cents =
     act.Adopt (record {
       fund = fund;
       year = 2026;
-      lines =
-          record { line = line; amount = cents } ∷ [];
+      lines = record { line = line; amount = cents } ∷ [];
       estimates = [];
     })
 
@@ -128,8 +123,7 @@ orders fund cents =
     act.Order (record {
       vendor = 7;
       requisition = None;
-      items =
-          record { fund = fund; dept = 20; object = 510; amount = cents } ∷ [];
+      items = record { fund = fund; dept = 20; object = 510; amount = cents } ∷ [];
     })
 
 abbrev pub charges : Charge → ℕ → Act
@@ -140,8 +134,7 @@ charges charge cents =
       items =
           record {
             account = record { fund = 1; dept = 20; object = 510; amount = cents };
-            charge =
-                charge;
+            charge = charge;
           } ∷ [];
     })
 
@@ -186,8 +179,7 @@ SpendsToTheCent =
       original = pos 100000;
       appropriated = pos 100000;
       held = pos 0;
-      encumbered =
-          pos 0;
+      encumbered = pos 0;
       expended = pos 100000;
       room = pos 0;
     })
@@ -232,8 +224,7 @@ LiquidatesOrders =
       original = pos 100000;
       appropriated = pos 100000;
       held = pos 0;
-      encumbered =
-          pos 0;
+      encumbered = pos 0;
       expended = pos 48000;
       room = pos 52000;
     })
@@ -258,8 +249,7 @@ RollsOrders =
       original = pos 10000;
       appropriated = pos 10000;
       held = pos 0;
-      encumbered =
-          pos 0;
+      encumbered = pos 0;
       expended = pos 0;
       room = pos 10000;
     })
@@ -268,8 +258,7 @@ RollsOrders =
       original = pos 10000;
       appropriated = pos 10000;
       held = pos 0;
-      encumbered =
-          pos 0;
+      encumbered = pos 0;
       expended = pos 0;
       room = pos 10000;
     })
@@ -278,8 +267,7 @@ RollsOrders =
       original = pos 0;
       appropriated = pos 4000;
       held = pos 0;
-      encumbered =
-          pos 4000;
+      encumbered = pos 4000;
       expended = pos 0;
       room = pos 0;
     })
@@ -317,8 +305,7 @@ bought = drew 1 1 (on 2025 7 10)
       items =
           record {
             account = record { fund = 1; dept = 10; object = 710; amount = 100000 };
-            charge =
-                Direct;
+            charge = Direct;
           } ∷ [];
     }))
 
@@ -343,8 +330,7 @@ issued = drew 1 0 (on 2025 7 1)
       amount = 100000000;
       rate_bp = 425;
       every = 6;
-      principals =
-          50000000 ∷ 50000000 ∷ [];
+      principals = 50000000 ∷ 50000000 ∷ [];
     }))
 
 abbrev pub EarnsInterest : Type 0
@@ -397,11 +383,9 @@ leased =
     drew 1 1 (on 2025 7 1)
     (act.Lease (record {
       vendor = 7;
-      account =
-          record { fund = 1; dept = 10; object = 710; amount = 36000 };
+      account = record { fund = 1; dept = 10; object = 710; amount = 36000 };
       rate_bp = 0;
-      every =
-          12;
+      every = 12;
       principals = 18000 ∷ 18000 ∷ [];
     }))
 
@@ -490,8 +474,7 @@ faulty after desk day year line cents =
       key = 107 ∷ [];
       on = day;
       after = after;
-      act =
-          act.Amend (record { fund = 1; year = year; line = line; by = pos cents });
+      act = act.Amend (record { fund = 1; year = year; line = line; by = pos cents });
     }
 
 abbrev pub RefusesInOrder : Type 0

@@ -14,7 +14,6 @@ use Rattle.cf_model.specs.Items.{Reconciles, absences, accrued, bonds, capital, 
 use Rattle.cf_model.specs.Postings.{balance_of, posts_in}
 use Rattle.cf_model.specs.Registers.{registers_of}
 use Rattle.cf_model.specs.Report.{fund_balance, report_rows, sums_of}
-use Rattle.cf_model.specs.State.{OfficeState, IsSoundState}
 use Rattle.cf_model.specs.Step.{IsLegal}
 use Rattle.cf_model.specs.Sums.{int_sum}
 use Rattle.cf_model.proofs.FundAccounts.{fund_balance_is}
@@ -151,10 +150,6 @@ articulates plan history year whole own legal = record {
   changes_last = sym (activities_end plan history year ∙ ap (single (codes "Change in net position")) (position_change plan year history own legal));
   changes = λ from. change_rows plan history year from (changes_always plan history whole legal);
 }
-
--- .. so it holds of an office of such a chart ..
-pub office_articulates : (s : OfficeState) → IsWhole s.plan → HasOwnAccounts s.plan → IsSoundState s → AllArticulate s.plan s.entries
-office_articulates s whole own sound = λ n year. articulates s.plan (take n s.entries) year whole own (legal_take s.plan s.entries n sound.legal)
 
 -- .. and under each chart that was read
 pub articulates_always : (bytes : List ℕ) (plan : Plan) (history : List Entry) → chart_of bytes ≡ Ok plan → IsLegal plan history → AllArticulate plan history

@@ -25,7 +25,7 @@ use Rattle.cf_model.specs.Calendar.{document_year, year_of_day}
 use Rattle.cf_model.specs.Charted.{is_capital, is_current, is_interest, is_principal}
 use Rattle.cf_model.specs.Deeds.{bonds_deeds, deeds_of, due_deeds, spent_item}
 use Rattle.cf_model.specs.DocumentRules.{state_refusal}
-use Rattle.cf_model.specs.Documents.{Documents, Expenditure, documents_of, expenditure_of, expenditure_step, expenditures_step, paid_after}
+use Rattle.cf_model.specs.Documents.{Documents, Expenditure, documents_of, expenditure_of, expenditure_step, paid_after}
 use Rattle.cf_model.specs.LineNumbers.{expended_amount}
 use Rattle.cf_model.specs.Months.{year_at}
 use Rattle.cf_model.specs.Moves.{spent_by}
@@ -171,9 +171,6 @@ due_same plan on year fund d (b ∷ bonds) =
 abbrev OpensVoid : Registers → Act → Type 0
 OpensVoid s (act.VoidVoucher n) = AllByRecursion (IsOpenOf n) s.documents.expenditures
 OpensVoid s _ = Unit {0}
-
-abbrev after : Plan → ℕ → ℕ → Registers → Entry → ℤ
-after plan year fund s e = int_sum (spent_part year fund) (expenditures_step plan s.documents.expenditures e) +ℤ int_sum (other_part year fund) (spendings_by plan s e.change.on e.change.act)
 
 -- no item changes, and what is spent beside them is what the deeds spend
 kept_items : (w : Expenditure → ℤ) (xs : List Expenditure) (o t : ℤ) → o ≡ t → int_sum w (map (λ x. x) xs ++ []) +ℤ o ≡ int_sum w xs +ℤ t

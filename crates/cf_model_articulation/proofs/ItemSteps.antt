@@ -14,7 +14,7 @@ use Rattle.cf_calls.specs.Acts.{schedule_of}
 use Rattle.cf_chart.specs.declared.rows.Function.{Function}
 use Rattle.cf_chart.specs.Plan.{Plan, object_at}
 use Rattle.cf_model.specs.Assets.{Asset, Origin, Stage, asset_step, assets_by, bought, disposed, gift, is_leased, lease, leased, leased_life, life_of, net, new_asset, owned, purchase, void, voucher_of}
-use Rattle.cf_model.specs.Bonds.{Bond, Due, accrued_through, bond_step, bonds_by, coupon, interest_charge, issues, new_bond, next_due, owed_through}
+use Rattle.cf_model.specs.Bonds.{Bond, Due, accrued_through, bond_step, bonds_by, coupon, interest_charge, issues, next_due, owed_through}
 use Rattle.cf_model.specs.Bonds as bond
 use Rattle.cf_model.specs.Calendar.{document_year, year_of_day}
 use Rattle.cf_model.specs.Charted.{is_capital}

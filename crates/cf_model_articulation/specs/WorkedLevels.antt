@@ -43,11 +43,9 @@ city = record blank_plan {
     name = [];
     fund_type = fund_type.General;
     level = level.Object;
-    policy =
-        policy.Carry;
+    policy = policy.Carry;
     later = Some (record { level = level.Department; year = 2027 });
-    balance_class =
-        None;
+    balance_class = None;
   } ∷ [];
   departments = record { id = 10; name = []; function = 1 }
       ∷ record { id = 20; name = []; function = 2 } ∷ [];
@@ -65,8 +63,7 @@ abbrev pub entry : ℕ → Day → Act → Entry
 entry number day act =
     record {
       change = record { desk = 10; key = []; on = day; after = None; act = act };
-      drawn =
-          record { number = number; second = 0 };
+      drawn = record { number = number; second = 0 };
     }
 
 abbrev pub adopts : ℕ → ℕ → Entry
@@ -75,8 +72,7 @@ adopts line amount =
     (Adopt (record {
       fund = 1;
       year = 2026;
-      lines =
-          record { line = line; amount = amount } ∷ [];
+      lines = record { line = line; amount = amount } ∷ [];
       estimates = [];
     }))
 
@@ -113,8 +109,7 @@ CarriesOntoItsLine =
       original = pos 10000;
       appropriated = pos 10000;
       held = pos 0;
-      encumbered =
-          pos 0;
+      encumbered = pos 0;
       expended = pos 0;
       room = pos 10000;
     })
@@ -123,8 +118,7 @@ CarriesOntoItsLine =
       original = pos 0;
       appropriated = pos 4000;
       held = pos 0;
-      encumbered =
-          pos 4000;
+      encumbered = pos 4000;
       expended = pos 0;
       room = pos 0;
     })
@@ -134,8 +128,7 @@ CarriesOntoItsLine =
       appropriated = pos 0;
       held = pos 0;
       encumbered = pos 0;
-      expended =
-          pos 0;
+      expended = pos 0;
       room = pos 0;
     })
 
@@ -163,8 +156,7 @@ LapsesWithoutLine =
       original = pos 10000;
       appropriated = pos 10000;
       held = pos 0;
-      encumbered =
-          pos 0;
+      encumbered = pos 0;
       expended = pos 0;
       room = pos 10000;
     })
@@ -174,8 +166,7 @@ LapsesWithoutLine =
       appropriated = pos 0;
       held = pos 0;
       encumbered = pos 0;
-      expended =
-          pos 0;
+      expended = pos 0;
       room = pos 0;
     })
 

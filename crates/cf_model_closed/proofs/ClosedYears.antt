@@ -5,7 +5,6 @@ use Rattle.std.proofs.lemmas.Bool.{cases_lt}
 use Rattle.cf_calls.specs.declared.entry.Entry.{Entry}
 use Rattle.cf_chart.specs.Plan.{Plan}
 use Rattle.cf_model.specs.Calendar.{is_year_closed, open_year}
-use Rattle.cf_model.specs.State.{OfficeState, IsSoundState}
 use Rattle.cf_model.specs.Step.{IsLegal, IsLegalAfter}
 use Rattle.cf_model.proofs.Lawful.{IsWhole}
 use Rattle.cf_model.proofs.Legal.{legal_push}
@@ -38,7 +37,3 @@ stay_after plan whole seen (e ∷ later) legal after = (
 
 pub closed_years_always : (plan : Plan) (history : List Entry) → IsWhole plan → IsLegal plan history → ClosedYearsStay plan history
 closed_years_always plan history whole legal = stay_after plan whole [] history tt legal
-
--- .. so it holds of an office of any chart
-pub closed_years_stay : (s : OfficeState) → IsWhole s.plan → IsSoundState s → ClosedYearsStay s.plan s.entries
-closed_years_stay s whole sound = closed_years_always s.plan s.entries whole sound.legal

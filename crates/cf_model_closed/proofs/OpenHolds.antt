@@ -1,6 +1,6 @@
 -- An open requisition is of the fiscal year of the first month that isn't closed, or of a later
 -- one: the roll of its year lapses it.
-use Rattle.std.proofs.Common.{◌≡◌, ◌⊎◌, inl, inr, ℕ, suc, ◌+◌, ◌-◌, ◌*◌, ◌/◌, ◌<◌, ◌≤◌, Bool, true, false, if◌then◌else◌, ◌==◌, List, [], ◌∷◌, ◌++◌, map, Some, None, pos, ◌-ℤ◌, refl, sym, ap, subst, ◌∙◌, arith}
+use Rattle.std.proofs.Common.{◌≡◌, ◌⊎◌, inl, inr, ℕ, ◌+◌, ◌-◌, ◌*◌, ◌/◌, ◌<◌, ◌≤◌, Bool, true, false, if◌then◌else◌, ◌==◌, List, [], ◌∷◌, ◌++◌, map, Some, None, pos, ◌-ℤ◌, refl, sym, ap, subst, ◌∙◌, arith}
 use Rattle.std.specs.List.{AllByRecursion}
 use Rattle.std.proofs.lemmas.Bool.{cases_lt}
 use Rattle.std.proofs.lemmas.Bool.Decides.{eqb_tells}
@@ -30,9 +30,6 @@ use Rattle.cf_model_closed.proofs.Over.{in_time, legal_by_steps, now_year}
 
 abbrev Equal : Bool → ℕ → ℕ → Type 0
 Equal b m n = ((b ≡ true) × (m ≡ n)) ⊎ ((b ≡ false) × (m ≡ n → ⊥))
-
-abbrev Less : Bool → ℕ → ℕ → Type 0
-Less b m n = ((b ≡ true) × (suc m ≤ n)) ⊎ ((b ≡ false) × (n < suc m))
 
 -- ---- the month that is closed
 

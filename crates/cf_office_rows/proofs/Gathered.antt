@@ -1,7 +1,7 @@
 -- Rows that are added one after another.
-use Rattle.std.proofs.Common.{◌≡◌, ℕ, zero, suc, add-one, ◌+◌, ◌<◌, ◌≤◌, List, [], ◌∷◌, ◌++◌, length, drop, take, get_or, map, flat_map, Option, Some, None, slice_get, option_map, refl, sym, ap, ◌∙◌, arith, append_assoc, append-nil, length-append}
-use Rattle.std.specs.List.{filter, range_with_len}
-use Rattle.std.proofs.lemmas.List.{drop_more, drop_all, get_or-append-add, get_or_append_left}
+use Rattle.std.proofs.Common.{◌≡◌, ℕ, zero, suc, add-one, ◌+◌, ◌<◌, List, [], ◌∷◌, ◌++◌, length, drop, get_or, flat_map, Option, Some, None, slice_get, option_map, refl, sym, ap, ◌∙◌, arith, append_assoc, append-nil, length-append}
+use Rattle.std.specs.List.{range_with_len}
+use Rattle.std.proofs.lemmas.List.{drop_more, get_or-append-add, get_or_append_left}
 use Rattle.std.proofs.lemmas.Grind.{flat_map-append}
 use Rattle.std.proofs.lemmas.List.Elements.{filter-append}
 use Rattle.std.proofs.lemmas.Option.{slice_get-get_or}
@@ -24,10 +24,6 @@ pub more : (out new all first rest whole : List LedgerRow) → new ≡ out ++ ke
 more out new all first rest whole pushed is so_far =
     ap (λ t. t ++ kept rest) pushed ∙ append_assoc out (kept first) (kept rest) ∙ ap (λ t. out ++ t) (sym (kept_both first rest) ∙ ap kept (sym is)) ∙ so_far
 
--- nothing is to come
-pub ended : (out all whole : List LedgerRow) → whole ≡ [] → out ++ kept whole ≡ all → out ≡ all
-ended out all whole none so_far = sym (append-nil out) ∙ ap (λ t. out ++ kept t) (sym none) ∙ so_far
-
 -- what is read at a place below the length
 pub read_at : {A : Type 0} (xs : List A) (k : ℕ) → k < length xs → (x : A) × (slice_get xs k ≡ Some x) × (drop k xs ≡ x ∷ drop (k + 1) xs)
 read_at [] k l = absurd_below k l
@@ -48,9 +44,6 @@ items_more plan place document moves k o out new all is l pushed so_far =
     more out new all (rows_if plan (origin place document (k + 1)) o) rest (item_rows plan place document (k + 1) (drop k moves)) pushed
     (ap (item_rows plan place document (k + 1)) r.2 ∙ ap (λ t. t ++ rest) (sym (move_rows plan (origin place document (k + 1)) moves k o r.0 is r.1))) so_far
 
-pub items_all : (plan : Plan) (place document item : ℕ) (moves : List Move) (k : ℕ) (out all : List LedgerRow) → length moves ≤ k → out ++ kept (item_rows plan place document item (drop k moves)) ≡ all → out ≡ all
-items_all plan place document item moves k out all l so_far = ended out all (item_rows plan place document item (drop k moves)) (ap (item_rows plan place document item) (drop_all k moves l)) so_far
-
 pub same_more : (plan : Plan) (of : Origin) (moves : List Move) (k : ℕ) (o : Option LineMove) (out new all : List LedgerRow) → o ≡ option_map line_move (slice_get moves k) → k < length moves →
     new ≡ out ++ kept (rows_if plan of o) → out ++ kept (same_rows plan of (drop k moves)) ≡ all → new ++ kept (same_rows plan of (drop (k + 1) moves)) ≡ all
 same_more plan of moves k o out new all is l pushed so_far =
@@ -58,9 +51,6 @@ same_more plan of moves k o out new all is l pushed so_far =
     let rest = same_rows plan of (drop (k + 1) moves) in
     more out new all (rows_if plan of o) rest (same_rows plan of (drop k moves)) pushed
     (ap (same_rows plan of) r.2 ∙ ap (λ t. t ++ rest) (sym (move_rows plan of moves k o r.0 is r.1))) so_far
-
-pub same_all : (plan : Plan) (of : Origin) (moves : List Move) (k : ℕ) (out all : List LedgerRow) → length moves ≤ k → out ++ kept (same_rows plan of (drop k moves)) ≡ all → out ≡ all
-same_all plan of moves k out all l so_far = ended out all (same_rows plan of (drop k moves)) (ap (same_rows plan of) (drop_all k moves l)) so_far
 
 -- ---- moves that stand in two halves
 

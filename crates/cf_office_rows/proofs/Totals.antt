@@ -37,14 +37,14 @@ use Rattle.cf_office_rows.specs.declared.rows.Amounts.{Amounts}
 use Rattle.cf_office_rows.specs.declared.rows.LedgerRow.{LedgerRow}
 use Rattle.cf_office_rows.specs.declared.rows.Origin.{Origin}
 use Rattle.cf_office_rows.specs.Council.{adopted_rows}
-use Rattle.cf_office_rows.specs.Entries.{act_rows, bill_by, entry_rows, is_revenue, moves_by, post_rows, received_row, received_rows}
+use Rattle.cf_office_rows.specs.Entries.{act_rows, bill_by, entry_rows, is_revenue, moves_by, received_row, received_rows}
 use Rattle.cf_office_rows.specs.History.{AddUp, history_rows, rows_after}
 use Rattle.cf_office_rows.specs.Items.{item_rows, joined, paired_rows, same_place, same_rows, with_both}
 use Rattle.cf_office_rows.specs.Rolls.{carried_row, lapse_move, leave_move, order_rows, requisition_rows, roll_item, roll_items, roll_rows}
-use Rattle.cf_office_rows.specs.Rows.{appropriates, changes, is_of, is_of_source, kept, line_sum, on_line, on_line_if, on_move, origin, source_sum}
+use Rattle.cf_office_rows.specs.Rows.{appropriates, changes, is_of_source, kept, line_sum, on_line, on_line_if, on_move, origin, source_sum}
 use Rattle.cf_office_rows.proofs.Laws.{act_sum, moved_of}
 use Rattle.cf_office_rows.proofs.Orderly.{IsOrderly, orderly_always}
-use Rattle.cf_office_rows.proofs.Sums.{IsNumber, of_move, sum_append, sum_kept}
+use Rattle.cf_office_rows.proofs.Sums.{IsNumber, sum_append, sum_kept}
 
 -- ---- one entry more
 

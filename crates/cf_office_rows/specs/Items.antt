@@ -36,8 +36,7 @@ with_both a b = record {
   account = a.account;
   year = a.year;
   held = a.held +ℤ b.held;
-  encumbered =
-      a.encumbered +ℤ b.encumbered;
+  encumbered = a.encumbered +ℤ b.encumbered;
   expended = a.expended +ℤ b.expended;
 }
 
@@ -69,8 +68,7 @@ line_with_both a b =
       account = a.account;
       year = a.year;
       held = a.held +ℤ b.held;
-      encumbered =
-          a.encumbered +ℤ b.encumbered;
+      encumbered = a.encumbered +ℤ b.encumbered;
       expended = a.expended +ℤ b.expended;
     }
 

@@ -26,8 +26,7 @@ lapse_move year h =
       year = h.year;
       held = pos 0;
       encumbered = pos 0;
-      expended =
-          pos 0;
+      expended = pos 0;
     }
 
 abbrev pub requisition_rows : Plan → ℕ → ℕ → List Hold → ℕ → List LedgerRow
@@ -43,8 +42,7 @@ leave_move i = record {
   account = i.account;
   year = i.year;
   held = pos 0;
-  encumbered =
-      pos 0 -ℤ pos (open_of i);
+  encumbered = pos 0 -ℤ pos (open_of i);
   expended = pos 0;
 }
 

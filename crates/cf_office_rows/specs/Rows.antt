@@ -1,6 +1,6 @@
 -- The rows of a ledger: what is moved of control lines (GASB Codification 1700: the legal level of
 -- budgetary control) and of revenue sources.
-use Rattle.std.specs.Prelude.{ℕ, ◌+◌, Bool, not, if◌then◌else◌, ◌==◌, ◌&&◌, ◌||◌, List, [], ◌∷◌, ◌++◌, Option, Some, None, ℤ, pos, ◌+ℤ◌}
+use Rattle.std.specs.Prelude.{ℕ, ◌+◌, Bool, not, if◌then◌else◌, ◌==◌, ◌&&◌, ◌||◌, List, [], ◌∷◌, Option, Some, None, ℤ, pos, ◌+ℤ◌}
 use Rattle.std.specs.List.{filter}
 use Rattle.std.specs.Ordering.{int_eq}
 use Rattle.cf_calls.specs.declared.items.AccountItem.{AccountItem}
@@ -22,8 +22,7 @@ nothing = record {
   ordered = pos 0;
   held = pos 0;
   spent = pos 0;
-  received =
-      pos 0;
+  received = pos 0;
 }
 
 abbrev pub changes : Amounts → Bool
@@ -59,8 +58,7 @@ on_account plan of a year by =
       fund = a.fund;
       dept = a.dept;
       object = a.object;
-      line =
-          line_number plan a year;
+      line = line_number plan a year;
       source = None;
       year = year;
       by = by;
@@ -82,8 +80,7 @@ on_line_if None of number year by =
       object = 0;
       line = Some number;
       source = None;
-      year =
-          year;
+      year = year;
       by = by;
     }
 on_line_if (Some l) of number year by =
@@ -92,8 +89,7 @@ on_line_if (Some l) of number year by =
       fund = l.fund;
       dept = l.dept;
       object = part_object l.part;
-      line =
-          Some number;
+      line = Some number;
       source = None;
       year = year;
       by = by;

@@ -1,6 +1,6 @@
 //! What the council moves: adopted budgets, amendments and transfers between lines.
 
-ghost use Rattle.std.specs.Prelude.{◌≡◌, ◌++◌, ◌∷◌, [], pos, OnOk};
+ghost use Rattle.std.specs.Prelude.{◌≡◌, ◌++◌, ◌∷◌, [], OnOk};
 ghost use Rattle.cf_office_rows.specs.Council.{adopted_rows, transfer_rows};
 ghost use Rattle.cf_office_rows.specs.Rows.{appropriates, kept, on_line as line_row, origin};
 

@@ -1,11 +1,11 @@
 //! The rows of a ledger.
 
-ghost use Rattle.std.specs.Prelude.{◌≡◌, ◌++◌, ◌∷◌, [], option_map, OnOk};
+ghost use Rattle.std.specs.Prelude.{◌≡◌, ◌++◌, ◌∷◌, [], OnOk};
 ghost use Rattle.cf_office_rows.specs.Rows as spec;
 ghost use Rattle.cf_office_rows.specs.Rows.{kept};
 
 use cf_calls::items::AccountItem;
-use cf_chart::{Chart, Line, LinePart};
+use cf_chart::{Chart, LinePart};
 use cf_orders::LineMove;
 use std::alloc::AllocError;
 

@@ -13,8 +13,7 @@ pub fn repeat_reply(history: &History, was: u64) -> Posted
     ensures { result ≡ posted.Reply
         (record {
           at = length history.now.entries;
-          body =
-              bodies.Done (results.made_at history.now.plan history.now.entries was) (Some was);
+          body = bodies.Done (results.made_at history.now.plan history.now.entries was) (Some was);
         }) }
 {
     let made = history.made_at(was);

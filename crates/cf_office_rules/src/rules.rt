@@ -1,6 +1,6 @@
 //! The rules before that of room, each as the refusal that it gives.
 
-ghost use Rattle.std.specs.Prelude.{◌≡◌, [], ◌≤◌, ◌+◌, true, nat_lt};
+ghost use Rattle.std.specs.Prelude.{◌≡◌, ◌≤◌, ◌+◌, true, nat_lt};
 ghost use Rattle.cf_base.specs.Calendar.{is_day};
 ghost use Rattle.cf_base.specs.Limits.{last_fiscal_year};
 ghost use Rattle.cf_calls.specs.Form.{IsActInForm};
@@ -17,7 +17,7 @@ use cf_base::{Day, LAST_YEAR, MOST_CENTS, MOST_ENTRIES, Month, fiscal_year, mont
 use cf_calls::acts::{AssetAct, LeaveAct, Period};
 use cf_calls::items::{AccountItem, Charge, LineAmount, SourceAmount, VoucherItem};
 use cf_calls::{Act, Refusal, Role, has_role, role_of};
-use cf_chart::{Chart, ObjectKind};
+use cf_chart::Chart;
 use cf_office_history::History;
 use cf_register_parts::{document_year, year_of_day};
 use cf_revenue::Revenue;

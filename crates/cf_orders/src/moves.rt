@@ -40,8 +40,7 @@ pub fn no_move(account: AccountItem, year: u16) -> LineMove
           year = year;
           held = pos 0;
           encumbered = pos 0;
-          expended =
-              pos 0;
+          expended = pos 0;
         } }
     ensures small { IsSmall result }
 {
@@ -126,8 +125,7 @@ pub fn item_move(row: &ItemRow, by: i128) -> LineMove
           account = row.now.account;
           year = row.now.year;
           held = pos 0;
-          encumbered =
-              by;
+          encumbered = by;
           expended = pos 0;
         } }
     ensures small { IsSmall result }

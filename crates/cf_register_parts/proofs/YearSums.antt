@@ -1,8 +1,7 @@
 -- Sums of the first so many years, and of the years up to a year.
-use Rattle.std.proofs.Common.{◌≡◌, ℕ, zero, suc, ◌+◌, ◌-◌, ◌<◌, ◌≤◌, if◌then◌else◌, nat_lt, nat_le, List, [], ◌∷◌, length, take, set, get_or, sum, sym, ap, ◌∙◌, arith}
+use Rattle.std.proofs.Common.{◌≡◌, ℕ, zero, suc, ◌+◌, ◌-◌, ◌<◌, if◌then◌else◌, nat_lt, List, [], ◌∷◌, length, take, set, get_or, sum, sym, ap, ◌∙◌, arith}
 use Rattle.std.proofs.lemmas.Bool.Decides.{nat_tests}
 use Rattle.std.proofs.lemmas.List.Sums.{sum_by-cons}
-use Rattle.cf_register_parts.specs.Years.{sum_through}
 
 abbrev self : ℕ → ℕ
 self x = x
@@ -31,12 +30,3 @@ sum-take-set (x ∷ xs) (suc k) zero a l = sym (ap (λ m. 0 + m) (none_before (s
 sum-take-set (x ∷ xs) (suc k) (suc n) a l =
     later_more x (if nat_lt k n then a else 0) (take n xs) (take n (set xs k (get_or xs k 0 + a))) (sum-take-set xs k n a (omega arith))
     ∙ ap (λ m. sum (x ∷ take n xs) + m) (sym (both_before k n a))
-
-same_test : (year z : ℕ) → 1970 ≤ year → nat_lt (year - 1970) (z - 1969) ≡ nat_le year z
-same_test year z l = grind (arith, nat_tests)
-
--- a year has more
-pub sum_through-set : (cells : List ℕ) (year z a : ℕ) → 1970 ≤ year → year - 1970 < length cells →
-    sum_through z (set cells (year - 1970) (get_or cells (year - 1970) 0 + a)) ≡ sum_through z cells + (if nat_le year z then a else 0)
-sum_through-set cells year z a from l =
-    sum-take-set cells (year - 1970) (z - 1969) a l ∙ ap (λ b. sum_through z cells + (if b then a else 0)) (same_test year z from)

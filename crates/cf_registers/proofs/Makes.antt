@@ -1,9 +1,9 @@
 -- What the first moves of an act change, one move more.
-use Rattle.std.proofs.Common.{◌≡◌, inl, inr, ℕ, zero, suc, ◌+◌, ◌*◌, ◌^◌, ◌<◌, ◌≤◌, Bool, true, false, if◌then◌else◌, List, [], ◌∷◌, length, take, get_or, Option, Some, None, option_map, slice_get, IfSome, ℤ, pos, negsuc, ◌+ℤ◌, ◌-ℤ◌, ◌≤ℤ◌, unsigned_abs, FitsSigned, refl, sym, ap, subst, ◌∙◌, arith}
+use Rattle.std.proofs.Common.{◌≡◌, inl, inr, ℕ, ◌+◌, ◌*◌, ◌^◌, ◌<◌, ◌≤◌, Bool, true, false, if◌then◌else◌, List, [], ◌∷◌, length, take, get_or, Option, Some, None, option_map, slice_get, IfSome, ℤ, pos, negsuc, ◌+ℤ◌, ◌-ℤ◌, ◌≤ℤ◌, unsigned_abs, FitsSigned, refl, sym, ap, subst, ◌∙◌, arith}
 use Rattle.std.specs.Int.{w128}
-use Rattle.std.specs.List.{All, AllByRecursion, list_all}
+use Rattle.std.specs.List.{All, list_all}
 use Rattle.std.proofs.lemmas.Int.{ints}
-use Rattle.std.proofs.lemmas.List.{take_more, take_all}
+use Rattle.std.proofs.lemmas.List.{take_more}
 use Rattle.std.proofs.lemmas.Option.{slice_get_cases}
 use Rattle.cf_calls.specs.Form.{is_distinct}
 use Rattle.cf_chart.specs.Plan.{Plan}
@@ -26,15 +26,6 @@ at_place moves n l = elim (slice_get_cases moves n).1 [
   | inr past ↦ absurd (omega (arith, l, past.0))
 ]
 
--- the year of a move lies within those that have numbers
-pub year_within : (n : ℕ) (moves : List Move) (o : Option LineMove) → AllByRecursion (λ m. m.year < 2201) moves → o ≡ option_map line_move (slice_get moves n) → IfSome o (λ m. m.year < 2201)
-year_within n moves o years is = subst (λ (p : Option LineMove). IfSome p (λ m. m.year < 2201)) (sym is) (at n moves years)
-  where
-    at : (n : ℕ) (moves : List Move) → AllByRecursion (λ m. m.year < 2201) moves → IfSome (option_map line_move (slice_get moves n)) (λ m. m.year < 2201)
-    at n [] years = tt
-    at zero (m ∷ moves) years = years.0
-    at (suc n) (m ∷ moves) years = at n moves years.1
-
 -- a number to which so many moves added
 pub record IsFew (n : ℕ) (z : ℤ) : Type 0 where
   pub least : (pos 0 -ℤ pos (n * 18446744073709551616)) ≤ℤ z
@@ -48,19 +39,6 @@ pub record MadeSoFar (plan : Plan) (n : ℕ) (moves : List Move) (changes : List
   pub held : (line year : ℕ) → IsFew n (moves_row plan (take n moves) line year).held
   pub encumbered : (line year : ℕ) → IsFew n (moves_row plan (take n moves) line year).encumbered
   pub expended : (line year : ℕ) → IsFew n (moves_row plan (take n moves) line year).expended
-
-none : IsFew 0 (pos 0)
-none = record { least = omega (arith, ints); most = omega (arith, ints) }
-
-pub made_none : (plan : Plan) (moves : List Move) (changes : List LineChange) → changes ≡ [] → MadeSoFar plan 0 moves changes
-made_none plan moves changes e = subst (λ (xs : List LineChange). MadeSoFar plan 0 moves xs) (sym e) (record {
-  make = record { apart = refl; inside = refl; made = λ line year. refl };
-  few = omega arith;
-  places = omega arith;
-  held = λ l y. none;
-  encumbered = λ l y. none;
-  expended = λ l y. none;
-})
 
 last : (z : ℤ) → z +ℤ pos 0 ≡ z
 last z = omega (arith, ints)
@@ -152,9 +130,6 @@ made_more plan n moves before after o l few is small s more apart inside adds =
       expended = λ line year. subst (λ (r : Row). IsFew (n + 1) r.expended) (next line year)
           (few_row plan line year n (moves_row plan (take n moves) line year) o (λ r. r.expended) (λ a b. refl) refl (one_of o (λ m. unsigned_abs m.expended < 2 ^ 64) (λ m t. t.expended) small) (s.expended line year));
     }
-
-pub made_all : (plan : Plan) (n : ℕ) (moves : List Move) (changes : List LineChange) → length moves ≤ n → MadeSoFar plan n moves changes → Make plan (moves_row plan moves) changes
-made_all plan n moves changes l s = subst (λ (ms : List Move). Make plan (moves_row plan ms) changes) (take_all n moves l) s.make
 
 -- ---- what all moves make of a line and year is small
 

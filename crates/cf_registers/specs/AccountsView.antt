@@ -8,8 +8,7 @@ abbrev pub accounts_state : Inside → AccountsState
 accounts_state a = record {
   fund = books.posts_of a.ledger Fund;
   gov = books.posts_of a.ledger Gov;
-  ready_fund =
-      a.fund.items;
+  ready_fund = a.fund.items;
   ready_gov = a.gov.items;
 }
 

@@ -20,10 +20,8 @@ spent_now p d =
       year = d.year;
     }
     ∷ record {
-      account =
-          record { fund = p.fund; dept = p.dept; object = p.interest; amount = d.interest };
-      year =
-          d.year;
+      account = record { fund = p.fund; dept = p.dept; object = p.interest; amount = d.interest };
+      year = d.year;
     }
     ∷ []
 

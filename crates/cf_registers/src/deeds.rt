@@ -140,8 +140,7 @@ fn receive(chart: &Chart, year: u16, receipt: &SourceAmount) -> Deed
         (record {
           year = year;
           fund = charted.fund_of chart.now receipt.now.source;
-          source =
-              receipt.now.source;
+          source = receipt.now.source;
           amount = receipt.now.amount;
         }) }
 {
@@ -159,8 +158,7 @@ fn move_funds(year: u16, moved: &FundMove) -> Deed
           year = year;
           from = moved.now.from;
           to = moved.now.to;
-          amount =
-              moved.now.amount;
+          amount = moved.now.amount;
         }) }
 {
     let amount = FundsAmount {
@@ -180,11 +178,9 @@ fn enter_bill(chart: &Chart, bill: &NewBill) -> Deed
     ensures { result ≡ Deed.Bill
         (record {
           levy_year = bill.now.levy_year;
-          fund =
-              charted.fund_of chart.now bill.now.source;
+          fund = charted.fund_of chart.now bill.now.source;
           source = bill.now.source;
-          amount =
-              bill.now.amount;
+          amount = bill.now.amount;
         }) }
 {
     Deed::Bill(deed::NewBill {

@@ -26,8 +26,7 @@ fn donate(chart: &Chart, year: u16, gift: &Donation) -> Deed
         (record {
           year = year;
           function = charted.function_of chart.now gift.now.dept;
-          amount =
-              gift.now.amount;
+          amount = gift.now.amount;
         }) }
 {
     Deed::Donate(FunctionAmount {
@@ -105,8 +104,7 @@ pub fn lease(year: u16, contract: &NewLease) -> Deed
         (record {
           year = year;
           fund = contract.now.account.fund;
-          amount =
-              contract.now.account.amount;
+          amount = contract.now.account.amount;
         }) }
 {
     Deed::Lease(FundAmount {

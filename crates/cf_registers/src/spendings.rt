@@ -42,8 +42,7 @@ fn pay(payment: &DebtPayment, due: &Due, object: u16, amount: u64) -> LineMove
         fund = payment.now.fund;
         dept = payment.now.dept;
         object = object;
-        amount =
-            amount;
+        amount = amount;
       };
       year = due.now.year;
     })) }

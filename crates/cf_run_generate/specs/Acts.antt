@@ -43,8 +43,7 @@ change_of number a =
       desk = desk_of (role_of a);
       key = codes "g" ++ decimal number;
       on = first_day;
-      after =
-          None;
+      after = None;
       act = a;
     }
 
@@ -60,8 +59,7 @@ adoption fund first count =
     act.Adopt (record {
       fund = fund;
       year = 2026;
-      lines =
-          map line_amount (range_with_len first count);
+      lines = map line_amount (range_with_len first count);
       estimates = [];
     })
 
@@ -86,8 +84,7 @@ voucher line amount charge =
     act.Voucher (record {
       vendor = 1;
       back = false;
-      items =
-          record { account = account_of line amount; charge = charge } ∷ [];
+      items = record { account = account_of line amount; charge = charge } ∷ [];
     })
 
 -- the final voucher on the last order's item, on the order's own account; a direct one where no

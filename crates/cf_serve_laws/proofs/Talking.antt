@@ -11,7 +11,7 @@ use Rattle.cf_hall_names.specs.Lists.{entries_of}
 use Rattle.cf_turns.specs.Lists.{TaggedEntry}
 use Rattle.cf_turns.specs.States.{PassState}
 use Rattle.cf_turns.proofs.Beginnings.{IsPrefix-self, IsPrefix-trans, IsPrefix-length}
-use Rattle.cf_serve_laws.specs.PassTalks.{Said, place_of, places_of, fault_of, faults_of, failed_by, failed_of, AddedAt, KeptAt, FailedAt, Says, added, kept, memory, disk, PassTalk, Hears, told, lost, Talked}
+use Rattle.cf_serve_laws.specs.PassTalks.{Said, place_of, places_of, fault_of, faults_of, failed_by, failed_of, FailedAt, Says, added, kept, memory, disk, PassTalk, Hears, told, lost, Talked}
 use Rattle.cf_hall_names.specs.Telling.{Tells, Adds, Keeps, Fails, Reads, Replies}
 use Rattle.cf_serve_laws.proofs.Accepting.{added_place, kept_place}
 use Rattle.cf_hall_names.proofs.Entries.{entries_append, entries_length}
@@ -98,23 +98,6 @@ talk_over plan a b (s ∷ said) list least t front low =
     (here.at, here.says, talk_over plan t.0 b said list here.at t.2 front here.within)
 
 -- ---- over a longer history
-
-added_on : (plan : Plan) (h k : List Entry) (c : Call) (r : Reply) → IsPrefix h k → AddedAt plan h c r → AddedAt plan k c r
-added_on plan h k c r p a = record { before = a.before; entry = a.entry; front = IsPrefix-trans (a.before ++ a.entry ∷ []) h k a.front p; at = a.at; body = a.body; next = a.next }
-
-kept_on : (plan : Plan) (h k : List Entry) (c : Call) (r : Reply) → IsPrefix h k → KeptAt plan h c r → KeptAt plan k c r
-kept_on plan h k c r p a = record { front = a.front; is_front = IsPrefix-trans a.front h k a.is_front p; at = a.at; body = a.body; next = a.next }
-
-says_on : (plan : Plan) (h k : List Entry) (least : ℕ) (c : Call) (given : Posted) (at : ℕ) → IsPrefix h k → Says plan h least c given at → Says plan k least c given at
-says_on plan h k least c _ _ p (added r low a) = added r low (added_on plan h k c r p a)
-says_on plan h k least c _ _ p (kept r low a) = kept r low (kept_on plan h k c r p a)
-says_on plan h k least c _ _ p memory = memory
-says_on plan h k least c _ _ p (disk f) = disk (record { front = f.front; is_front = IsPrefix-trans f.front h k f.is_front p; legal = f.legal; long = f.long; accepted = f.accepted })
-
--- a talk over a history is one over every history that it begins
-pub talk_on : (plan : Plan) (h k : List Entry) (least : ℕ) (said : List Said) → IsPrefix h k → PassTalk plan h least said → PassTalk plan k least said
-talk_on plan h k least [] p t = tt
-talk_on plan h k least (s ∷ said) p t = (t.0, says_on plan h k least s.0 s.1 t.0 p t.1, talk_on plan h k t.0 said p t.2)
 
 -- ---- the places
 

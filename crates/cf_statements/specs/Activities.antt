@@ -46,8 +46,7 @@ interest_of sums year =
     record {
       expenses = gov_in sums year 530000;
       charges = pos 0;
-      operating_grants =
-          pos 0;
+      operating_grants = pos 0;
       capital_grants = pos 0;
     }
 
@@ -92,8 +91,7 @@ abbrev pub activity_row : List ℕ → Activity → Row
 activity_row label a =
     record {
       label = label;
-      amounts =
-          a.expenses ∷ a.charges ∷ a.operating_grants ∷ a.capital_grants ∷ net_expense a ∷ [];
+      amounts = a.expenses ∷ a.charges ∷ a.operating_grants ∷ a.capital_grants ∷ net_expense a ∷ [];
     }
 
 abbrev pub function_rows : Sums → ℕ → List RevenueSource → List Function → List Row

@@ -1,5 +1,5 @@
 -- Beginnings of one list.
-use Rattle.std.proofs.Common.{◌≡◌, ℕ, zero, suc, ◌≤◌, List, [], ◌∷◌, ◌++◌, length, Some, slice_get, refl, ap, sym, ◌∙◌, Bool, true, false, arith, append_assoc, length-append}
+use Rattle.std.proofs.Common.{◌≡◌, ◌≤◌, List, [], ◌∷◌, ◌++◌, length, refl, ap, sym, ◌∙◌, Bool, true, false, arith, append_assoc, length-append}
 use Rattle.std.specs.Prelude.{ltb}
 use Rattle.std.proofs.lemmas.Bool.Decides.{nat_tests}
 use mathlib.Core.List.{IsPrefix}
@@ -30,20 +30,6 @@ IsPrefix-shorter (x ∷ xs) (y ∷ ys) (z ∷ zs) p q le =
     let heads : x ≡ y = cc (p.1, q.1) in
     let rest = IsPrefix-shorter xs ys zs (p.0, cc (p.1)) (q.0, cc (q.1)) (omega arith) in
     (rest.0, cc (heads, rest.1))
-
--- a beginning as long as the whole is the whole
-pub IsPrefix-whole : {A : Type 0} (xs ys : List A) → IsPrefix xs ys → length ys ≤ length xs → xs ≡ ys
-IsPrefix-whole [] [] p le = refl
-IsPrefix-whole [] (y ∷ ys) p le = absurd (omega arith)
-IsPrefix-whole (x ∷ xs) [] p le = absurd (cc (p.1))
-IsPrefix-whole (x ∷ xs) (y ∷ ys) p le = let rest = IsPrefix-whole xs ys (p.0, cc (p.1)) (omega arith) in cc (p.1, rest)
-
--- what stands in a beginning stands in the whole, at the same place
-pub IsPrefix-slice_get : {A : Type 0} (xs ys : List A) (k : ℕ) (x : A) → IsPrefix xs ys → slice_get xs k ≡ Some x → slice_get ys k ≡ Some x
-IsPrefix-slice_get [] ys k x p here = absurd cc
-IsPrefix-slice_get (y ∷ xs) [] k x p here = absurd (cc (p.1))
-IsPrefix-slice_get (y ∷ xs) (z ∷ ys) zero x p here = cc (p.1, here)
-IsPrefix-slice_get (y ∷ xs) (z ∷ ys) (suc k) x p here = IsPrefix-slice_get xs ys k x (p.0, cc (p.1)) here
 
 -- two beginnings of one list both begin the longer of them, which begins that list too
 pub record BeginLonger {A : Type 0} (xs ys whole : List A) : Type 0 where

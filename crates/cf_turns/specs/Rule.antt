@@ -18,16 +18,14 @@ blank =
       joined = [];
       has_number = false;
       number = 0;
-      floor =
-          0;
+      floor = 0;
       reads = 0;
       last_read = 0;
       opened = 0;
       ended = [];
       places = [];
       failed = [];
-      own_failed =
-          [];
+      own_failed = [];
     }
 
 -- the recorder's view at the start

@@ -28,8 +28,7 @@ with_number v lent =
     record v {
       has_number = lent.has_number;
       number = lent.number;
-      places =
-          lent.places;
+      places = lent.places;
       own_failed = lent.own_failed;
     }
 
@@ -47,8 +46,7 @@ pub record Fails (calls : List TaggedCall) (old : Seated) (found : ℕ) (new : S
   pub leaves : Leaves old
       (record old.0 {
         failed = old.0.failed ++ calls;
-        own_failed =
-            old.0.own_failed ++ map (λ c. c.0) calls;
+        own_failed = old.0.own_failed ++ map (λ c. c.0) calls;
       }) new
 
 -- note: the recorder's list goes with the note
@@ -83,8 +81,7 @@ with_pass v pass = record v {
   joined = pass.list;
   has_number = pass.has_number;
   number = pass.number;
-  places =
-      pass.places;
+  places = pass.places;
   own_failed = pass.own_failed;
 }
 
@@ -98,8 +95,7 @@ pub record Ends (old : Seated) (found : ℕ) (new : Seated) : Type 0 where
         has_number = false;
         number = 0;
         places = [];
-        own_failed =
-            [];
+        own_failed = [];
         ended = old.0.ended ++ old.0.number ∷ [];
       }) new
   pub seen : IsPrefix old.0.joined old.0.list

@@ -41,8 +41,7 @@ impl Turns {
               opened = 0;
               ended = [];
               floor = 0;
-              failed =
-                  [];
+              failed = [];
             }) }
     {
         let (table, seat) = Word::of_words(alloc, &[0], &())?;

@@ -1,4 +1,4 @@
-use Rattle.std.proofs.Common.{◌≡◌, ◌≤◌, ◌-◌, ◌+◌, length, take, sum_by}
+use Rattle.std.proofs.Common.{◌≡◌, ◌-◌, ◌+◌, length, take, sum_by}
 use Rattle.cf_journal.specs.Records.{record_len}
 use Rattle.cf_books.specs.Room.{chart_len}
 use Rattle.cf_books.proofs.room.room_of.Given as goal

@@ -1,4 +1,3 @@
-use Rattle.std.proofs.Common.{ℕ}
 use Rattle.cf_register_parts.specs.declared.pairs.NumberPair.{NumberPair}
 use Rattle.cf_register_parts.proofs.PairFacts.{put_reads, puts_amount}
 use Rattle.cf_books_documents.proofs.lent.put_loan.Goals as goal

@@ -1,4 +1,4 @@
-use Rattle.std.proofs.Common.{◌≡◌, ◌++◌, ◌+◌, ◌<◌, ◌≤◌, ◌^◌, drop}
+use Rattle.std.proofs.Common.{◌≡◌, ◌++◌, ◌+◌, ◌≤◌, ◌^◌, drop}
 use Rattle.cf_books_documents.specs.Events.{bought}
 use Rattle.cf_books_documents.proofs.named.add_bought.Given as goal
 

@@ -1,4 +1,4 @@
-use Rattle.std.proofs.Common.{◌≡◌, ◌∙◌, List, ℕ, refl, subst}
+use Rattle.std.proofs.Common.{◌∙◌, List, ℕ, refl, subst}
 use Rattle.cf_disk.specs.MemoryView.{image_held}
 use Rattle.cf_journal.specs.Journal.{version_of}
 use Rattle.cf_journal.specs.Layout.{IsAtRest}

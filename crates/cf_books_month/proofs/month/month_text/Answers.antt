@@ -1,4 +1,4 @@
-use Rattle.std.proofs.Common.{◌≡◌, ◌≤◌, ◌<◌, ◌∙◌, arith, ap, Bool, ℕ, List, ◌++◌}
+use Rattle.std.proofs.Common.{◌≡◌, ◌∙◌, arith, ap, Bool, ℕ, List, ◌++◌}
 use Rattle.std.proofs.lemmas.Result.{IfOk-weaker}
 use Rattle.cf_base.specs.Calendar.{year_of_month}
 use Rattle.cf_base.specs.declared.calendar.Month.{Month}

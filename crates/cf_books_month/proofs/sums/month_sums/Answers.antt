@@ -1,4 +1,4 @@
-use Rattle.std.proofs.Common.{◌≡◌, ◌∙◌, ap}
+use Rattle.std.proofs.Common.{◌∙◌, ap}
 use Rattle.cf_books_month.specs.Days.{last_day, month_before}
 use Rattle.cf_books_month.proofs.sums.month_sums.Goals as goal
 

@@ -1,4 +1,4 @@
-use Rattle.std.proofs.Common.{◌≡◌, ◌∙◌, ◌<◌, ap, sym, subst, length}
+use Rattle.std.proofs.Common.{◌∙◌, ◌<◌, ap, sym, subst, length}
 use Rattle.cf_office_history.specs.RestState.{RestState}
 use Rattle.cf_books_month.specs.Sums.{numbers_through}
 use Rattle.cf_books_month.proofs.sums.numbers_in.Goals as goal

@@ -1,5 +1,5 @@
 use Rattle.cf_office_rows.specs.Entries.{taken_rows}
-use Rattle.std.proofs.Common.{None, Option, ℕ, ◌≡◌, [], ap, ◌∙◌}
+use Rattle.std.proofs.Common.{Option, ℕ, ◌≡◌, [], ap, ◌∙◌}
 use Rattle.cf_office_rows.specs.Rows.{kept}
 use Rattle.cf_office_rows.proofs.Gathered.{taken_none}
 use Rattle.cf_office_rows.proofs.Rolled.{none_added}

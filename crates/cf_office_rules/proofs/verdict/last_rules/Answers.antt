@@ -1,5 +1,4 @@
-use Rattle.std.proofs.Common.{None, sym, ap, ◌∙◌}
-use Rattle.cf_model.specs.Rules.{or_else}
+use Rattle.std.proofs.Common.{sym, ◌∙◌}
 use Rattle.cf_office_rules.proofs.LastRules.{at_registers, at_room, at_cash, documents_allow}
 use Rattle.cf_registers.proofs.Options.{none_is}
 use Rattle.cf_office_rules.proofs.verdict.last_rules.Goals as goal

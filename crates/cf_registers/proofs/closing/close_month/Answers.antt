@@ -1,4 +1,4 @@
-use Rattle.std.proofs.Common.{◌≡◌, ◌+◌, ◌/◌, ◌++◌, ◌∷◌, [], true, false, map, sum_by, ap, sym, append_assoc, ◌∙◌}
+use Rattle.std.proofs.Common.{◌+◌, ◌/◌, ◌++◌, ◌∷◌, [], true, false, map, sum_by, ap, sym, append_assoc, ◌∙◌}
 use Rattle.cf_assets.specs.Charges.{of_kind}
 use Rattle.cf_debt.specs.Register.{Debts}
 use Rattle.cf_model.specs.Bonds.{interest_charge}
