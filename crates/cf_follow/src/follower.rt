@@ -11,10 +11,11 @@ use cf_calls::Entry;
 /// What an office says of an entry that another one's history has at the place behind its own.
 #[derive(Clone, Copy)]
 pub enum Admission {
-    /// It is the one that this office would add too, and was added.
+    /// It is the one that this office would add too. It was added, and stands on the disk where the
+    /// office keeps one.
     Added,
-    /// It isn't: the number of the refusal, or 0 where the office has the call already or draws
-    /// other numbers for it.
+    /// It isn't: the number of the refusal, from 1 to 25, or 0 where the office has the call
+    /// already or draws other numbers for it.
     Refused(u8),
     /// There was no memory.
     NoMemory,

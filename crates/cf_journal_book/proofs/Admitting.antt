@@ -12,8 +12,8 @@ use Rattle.cf_journal_book.specs.Admitting.{Admits, grown_by, kept_as}
 use Rattle.cf_journal_book.specs.DurableState.{DurableState}
 use Rattle.cf_journal_book.specs.Recovery.{entry_refusal}
 use Rattle.cf_journal_book.specs.Settling.{Settles, doubt_by, entry_by, next_state}
-use Rattle.cf_journal_book.specs.declared.admission.Admission.{Admission}
-use Rattle.cf_journal_book.specs.declared.admission.Admission.TheVariants as admission
+use Rattle.cf_follow.specs.declared.follower.Admission.{Admission}
+use Rattle.cf_follow.specs.declared.follower.Admission.TheVariants as admission
 use Rattle.cf_journal_book.proofs.Recovering.{taken_adds}
 
 same_entry : (e : Entry) → e.change.after ≡ None → entry_by e.change e.drawn ≡ e

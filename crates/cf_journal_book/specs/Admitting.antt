@@ -7,8 +7,8 @@ use Rattle.cf_calls.specs.declared.reply.Posted.TheVariants as posted
 use Rattle.cf_journal_book.specs.DurableState.{DurableState}
 use Rattle.cf_journal_book.specs.Recovery.{entry_refusal}
 use Rattle.cf_journal_book.specs.Settling.{DiskFails}
-use Rattle.cf_journal_book.specs.declared.admission.Admission.{Admission}
-use Rattle.cf_journal_book.specs.declared.admission.Admission.TheVariants as admission
+use Rattle.cf_follow.specs.declared.follower.Admission.{Admission}
+use Rattle.cf_follow.specs.declared.follower.Admission.TheVariants as admission
 
 -- the state with the entry, and nothing in doubt
 abbrev pub grown_by : DurableState → Entry → DurableState

@@ -23,7 +23,7 @@ ghost use Rattle.cf_journal_book.specs.DurableState.{state_of};
 ghost use Rattle.cf_journal_book.specs.Recovery.{entry_refusal};
 ghost use Rattle.cf_journal_book.specs.Settling.{Settles};
 
-use crate::admission::{Admission, kept};
+use crate::admission::kept;
 use crate::archive::{Archive, Settled};
 use cf_base::Kind;
 use cf_budget::Lines;

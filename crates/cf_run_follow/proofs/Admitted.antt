@@ -8,8 +8,6 @@ use Rattle.cf_journal_book.specs.Books.{IsInHand, RecoversNear}
 use Rattle.cf_journal_book.specs.DurableState.{DurableBook, DurableState, state_of}
 use Rattle.cf_journal_book.specs.Recovery.{RecoversTo, entry_refusal}
 use Rattle.cf_journal_book.specs.Settling.{DiskFails, WouldAdd, entry_by}
-use Rattle.cf_journal_book.specs.declared.admission.Admission.{Admission as Said}
-use Rattle.cf_journal_book.specs.declared.admission.Admission.TheVariants as said
 use Rattle.cf_journal_book.proofs.Recovering.{taken_adds}
 use Rattle.cf_calls.specs.Form.{IsEntryInForm}
 use Rattle.cf_calls.specs.declared.call.Call.TheVariants as call
@@ -20,9 +18,11 @@ use Rattle.cf_calls.specs.declared.reply.Verdict.TheVariants.{Accept}
 use Rattle.cf_chart.specs.Plan.{Plan}
 use Rattle.cf_disk.specs.Moments.{AtEachMoment}
 use Rattle.cf_follow.specs.Admitting.{Admits}
+use Rattle.cf_follow.specs.declared.follower.Admission.{Admission}
+use Rattle.cf_follow.specs.declared.follower.Admission.TheVariants as said
 use Rattle.cf_journal.proofs.Moments.{weaken, both}
 use Rattle.cf_model.specs.Step.{verdict_of}
-use Rattle.cf_run_follow.specs.Copies.{IsReached, IsSince, RecoversToFrontOf, book_office, said_as, with_failed}
+use Rattle.cf_run_follow.specs.Copies.{IsReached, IsSince, RecoversToFrontOf, book_office, with_failed}
 use Rattle.cf_run_status.specs.Devices.{Device}
 
 -- ---- fronts
@@ -173,8 +173,8 @@ module _ {D : Type 0} (device : Device D) where
   -- what the book says, as an office that follows
   pub admits_as : (old new : DurableBook D) (e : Entry) → IsEntryInForm e
       → (IsTrue device.tells → AtEachMoment device.moment device.was_image old.disk new.disk (RecoversNear old.plan old.entries (IsInHand (state_of device.faults old) (call.Change e.change))))
-      → (s : Said) → BookAdmits (state_of device.faults old) e s (state_of device.faults new)
-      → (IsSome (entry_refusal old.plan old.entries e) → new.disk ≡ old.disk) → (s ≡ said.NoMemory → new.disk ≡ old.disk) → Admits (book_office device) old e new (said_as s)
+      → (s : Admission) → BookAdmits (state_of device.faults old) e s (state_of device.faults new)
+      → (IsSome (entry_refusal old.plan old.entries e) → new.disk ≡ old.disk) → (s ≡ said.NoMemory → new.disk ≡ old.disk) → Admits (book_office device) old e new s
   admits_as old new e form near said.Added is refused memory = record {
     none = is.0;
     grows = ap (λ (x : DurableState). x.entries) is.1;

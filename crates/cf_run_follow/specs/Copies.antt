@@ -2,14 +2,10 @@
 use Rattle.std.specs.Prelude.{◌≡◌, ◌⊎◌, IsTrue, ℕ, ◌≤◌, List, [], ◌∷◌, ◌++◌, length, take, Option, Some, None, IfSome}
 use Rattle.cf_journal_book.specs.DurableState.{DurableBook}
 use Rattle.cf_journal_book.specs.Recovery.{RecoversTo, entry_refusal}
-use Rattle.cf_journal_book.specs.declared.admission.Admission.TheVariants as book
-use Rattle.cf_journal_book.specs.declared.admission.Admission.{Admission as Said}
 use Rattle.cf_calls.specs.declared.entry.Entry.{Entry}
 use Rattle.cf_chart.specs.Plan.{Plan}
 use Rattle.cf_disk.specs.Moments.{AtEachMoment}
 use Rattle.cf_follow.specs.Admitting.{Office, office}
-use Rattle.cf_follow.specs.declared.follower.Admission.{Admission}
-use Rattle.cf_follow.specs.declared.follower.Admission.TheVariants as admission
 use Rattle.cf_run_status.specs.Devices.{Device}
 
 -- a history, and behind it the entry at which the disk failed, where it did
@@ -54,9 +50,3 @@ abbrev pub book_office : {D : Type 0} → Device D → Office (DurableBook D)
 book_office device =
     office (λ b. b.entries) (λ b e. entry_refusal b.plan b.entries e) (λ b. device.faults b.disk)
     (IsReached device)
-
-abbrev pub said_as : Said → Admission
-said_as book.Added = admission.Added
-said_as (book.Refused n) = admission.Refused n
-said_as book.NoMemory = admission.NoMemory
-said_as book.Disk = admission.Disk

@@ -1,7 +1,7 @@
 //! A book as an office that keeps a copy of another one's history.
 
 ghost use Rattle.std.specs.Prelude.{◌≡◌};
-ghost use Rattle.cf_run_follow.specs.Copies.{IsReached, reached_on, said_as};
+ghost use Rattle.cf_run_follow.specs.Copies.{IsReached, reached_on};
 ghost use Rattle.cf_run_status.specs.Devices.{device};
 
 use cf_calls::Entry;
@@ -41,18 +41,6 @@ impl<D: Disk + Drop> Copying<D> {
     }
 }
 
-/// What a book says of an entry, as an office that follows.
-fn admission_of(said: cf_journal_book::Admission) -> Admission
-    ensures { result ≡ said_as said }
-{
-    match said {
-        cf_journal_book::Admission::Added => Admission::Added,
-        cf_journal_book::Admission::Refused(refusal) => Admission::Refused(refusal),
-        cf_journal_book::Admission::NoMemory => Admission::NoMemory,
-        cf_journal_book::Admission::Disk => Admission::Disk,
-    }
-}
-
 impl<D: Disk + Drop> Follower for Copying<D> {
     ghost use Rattle.cf_journal_book.specs.Recovery.{entry_refusal};
 
@@ -73,7 +61,7 @@ impl<D: Disk + Drop> Follower for Copying<D> {
         let said = self.book.admit(entry);
         // The book says of its history how long it may be.
         let _legal = self.book.entries();
-        admission_of(said)
+        said
     }
 
     ghost since_same = { λ b. IsReached.here b };
