@@ -1,14 +1,10 @@
--- For the crates above: a run of an office is a run of what contracts see of it, where each answer
--- is one of the other rule too.
-use Rattle.std.proofs.Common.{◌≡◌, ℕ, List, [], Option, inl, inr}
+-- For the crates above: the talk of a run, whatever its status.
+use Rattle.std.proofs.Common.{ℕ, List, [], Option, inl, inr}
 use Rattle.cf_base_lines.specs.Talk.{Rule, Talk}
 use Rattle.cf_base_lines.specs.Run.{Moment, Told, Ends}
 use Rattle.cf_base_lines.specs.declared.ended.Ended.{Ended}
 use Rattle.cf_base_lines.specs.declared.ended.Ended.TheVariants as status
 
-module _ {S T : Type 0} (inner : Rule S) (outer : Rule T) (accepted : S → ℕ) (counted : T → ℕ) (seen : S → T) (same : (s : S) → counted (seen s) ≡ accepted s) (step : (s : S) (line answer : List ℕ) (s' : S) → inner s line answer s' → outer (seen s) line answer (seen s')) where
-
--- the talk of a run, whatever its status
 pub ended_talk : {O : Type 0} (rule : Rule O) (accepted : O → ℕ) (old new : Moment O) (left : Option (List ℕ)) (taken : List ℕ) (how : Ended) → Ends rule accepted old new left taken how
     → (lines : List (List ℕ)) × (answers : List (List ℕ)) × Talk rule old.office lines answers new.office
 ended_talk rule accepted old new left taken status.Ok e = (_, e.2.holds.answers, e.2.holds.talk)
