@@ -1,8 +1,9 @@
 """What nothing cites: definitions, lemmas, functions, types and imports of the crates, to a fixed point.
 
-    python3 tests/gate/unused.py            ends with 1 where the crates have other counts than ITEMS and IMPORTS say
-    python3 tests/gate/unused.py --list     prints each item and import, with its file and line
-    python3 tests/gate/unused.py CRATE..    prints those of these crates alone
+    python3 tests/gate/unused.py [CRATE..]
+
+prints each item and import that nothing cites, with its file and line, of these crates alone where some are named. It
+ends with 1 where there is one.
 
 What a run or a verdict needs is cited: each `main`, each test, what the methods of traits do, and each answer
 to a goal. From these on an item cites the items whose names stand in it as whole words: those of its file, and
@@ -23,10 +24,6 @@ import sys
 import pages
 
 HERE = os.path.dirname(os.path.abspath(__file__))
-# The items and the imports that nothing cites. They may only fall: each costs a proof of its crate and of those
-# above, so they go when the crate changes.
-ITEMS = 0
-IMPORTS = 0
 
 WORD = re.compile(r"[A-Za-z_][\w'\-≢≡]*")
 NAME = r"[^\s(){}.,;:]+"
@@ -273,24 +270,21 @@ def unused_imports(path):
                 yield path, code.count("\n", 0, found.start()) + 1, name
 
 
-def main(said):
-    items = House().unused()
-    names = [one for path in pages.files(*LAWS, *SOURCES) for one in unused_imports(path)]
-    if said:
-        crates = [word for word in said if word != "--list"]
-        for item in items:
-            if not crates or item.path.split("/")[1] in crates:
-                print(f"{item.path}:{item.line}: {item.name} ({item.count} lines)")
-        for path, line, name in names:
-            if not crates or path.split("/")[1] in crates:
-                print(f"{path}:{line}: import {name}")
-        print(f"{len(items)} items ({sum(item.count for item in items)} lines) and {len(names)} imports in all crates")
-        return 0
-    if (len(items), len(names)) == (ITEMS, IMPORTS):
-        print(f"unused: {ITEMS} items and {IMPORTS} imports of the crates are cited by nothing")
-        return 0
-    print(f"tests/gate/unused.py: nothing cites {len(items)} items and {len(names)} imports, and it says {ITEMS} and {IMPORTS}: see --list")
-    return 1
+def main(crates):
+    def is_asked(path):
+        return not crates or path.split("/")[1] in crates
+
+    items = [one for one in House().unused() if is_asked(one.path)]
+    names = [one for path in pages.files(*LAWS, *SOURCES) if is_asked(path) for one in unused_imports(path)]
+    for item in items:
+        print(f"{item.path}:{item.line}: {item.name} ({item.count} lines)")
+    for path, line, name in names:
+        print(f"{path}:{line}: import {name}")
+    if items or names:
+        print(f"tests/gate/unused.py: nothing cites {len(items)} items and {len(names)} imports: take them out")
+        return 1
+    print("unused: each definition, lemma, function, type and import of the crates is cited")
+    return 0
 
 
 if __name__ == "__main__":
