@@ -28,7 +28,7 @@ HERE = os.path.dirname(os.path.abspath(__file__))
 WORD = re.compile(r"[A-Za-z_][\w'\-≢≡]*")
 NAME = r"[^\s(){}.,;:]+"
 # How an item of definitions or laws begins, behind its indent.
-BEGINS = re.compile(rf"(?:(?:pub|abbrev|unfoldable|opaque) )*(?:(?:record|data) ({NAME})|({NAME}) :(?= |$))")
+BEGINS = re.compile(rf"(?:(?:pub|abbrev|unfoldable|opaque) )*(?:(?:record|data|ruleset) ({NAME})|({NAME}) :(?= |$))")
 LAWS = ("crates/*/specs/**/*.antt", "crates/*/proofs/**/*.antt")
 SOURCES = ("crates/*/src/**/*.rt",)
 

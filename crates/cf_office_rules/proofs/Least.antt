@@ -29,8 +29,6 @@ least_from-drop f best changes i d l = rw (add-one, drop-cons changes i d l) ref
 pub least_from-past : (f : LineChange → Option Excess) (best : Option Excess) (changes : List LineChange) (i : ℕ) → length changes ≤ i → least_from f best (drop i changes) ≡ best
 least_from-past f best changes i l = rw (drop_all i changes l) refl
 
-pub ruleset leasts = (least_from-drop, least_from-past)
-
 -- a place before that of an excess: a lower line, or an earlier year of its line
 abbrev Before : ℕ → ℕ → Excess → Type 0
 Before line year x = (line < x.line) ⊎ ((line ≡ x.line) × (year < x.year))
