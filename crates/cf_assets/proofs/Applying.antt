@@ -1,21 +1,35 @@
 -- What each act makes of assets, as the step of all registers has it.
-use Rattle.std.proofs.Common.{◌≡◌, ℕ, zero, suc, ◌≤◌, Bool, true, false, ◌==◌, not, ◌&&◌, nat_le, List, [], ◌∷◌, ◌++◌, map, Option, Some, None, refl, sym, subst, ap, ◌∙◌, arith}
+use Rattle.std.proofs.Common.{◌≡◌, ◌⊎◌, inl, inr, ℕ, zero, suc, ◌≤◌, Bool, true, false, ◌==◌, not, ◌&&◌, nat_le, List, [], ◌∷◌, ◌++◌, map, Option, Some, None, refl, sym, subst, ap, ◌∙◌, arith}
 use Rattle.std.proofs.lemmas.Grind.{common_steps}
 use Rattle.std.proofs.lemmas.List.{map-id, append-nil}
 use Rattle.std.specs.List.{filter}
 use Rattle.cf_assets.specs.Register.{Register, IsOf}
 use Rattle.cf_assets.specs.Steps.{AreMost}
 use Rattle.cf_base.specs.declared.calendar.Day.{Day}
-use Rattle.cf_calls.specs.declared.acts.Act.{Act}
 use Rattle.cf_calls.specs.declared.acts.Act.TheVariants as act
-use Rattle.cf_calls.specs.declared.acts.AssetAct.{AssetAct}
+use Rattle.cf_calls.specs.declared.acts.Act.{Act}
+use Rattle.cf_calls.specs.declared.acts.Adoption.{Adoption}
+use Rattle.cf_calls.specs.declared.acts.Amendment.{Amendment}
 use Rattle.cf_calls.specs.declared.acts.AssetAct.TheVariants.{Donate, Dispose}
+use Rattle.cf_calls.specs.declared.acts.AssetAct.{AssetAct}
+use Rattle.cf_calls.specs.declared.acts.BillAmount.{BillAmount}
+use Rattle.cf_calls.specs.declared.acts.BondIssue.{BondIssue}
+use Rattle.cf_calls.specs.declared.acts.DebtPayment.{DebtPayment}
 use Rattle.cf_calls.specs.declared.acts.Disposal.{Disposal}
 use Rattle.cf_calls.specs.declared.acts.Donation.{Donation}
+use Rattle.cf_calls.specs.declared.acts.FundMove.{FundMove}
+use Rattle.cf_calls.specs.declared.acts.LeaveAct.{LeaveAct}
+use Rattle.cf_calls.specs.declared.acts.LineTransfer.{LineTransfer}
+use Rattle.cf_calls.specs.declared.acts.NewBill.{NewBill}
 use Rattle.cf_calls.specs.declared.acts.NewLease.{NewLease}
+use Rattle.cf_calls.specs.declared.acts.NewOrder.{NewOrder}
+use Rattle.cf_calls.specs.declared.acts.NewRequisition.{NewRequisition}
 use Rattle.cf_calls.specs.declared.acts.NewVoucher.{NewVoucher}
+use Rattle.cf_calls.specs.declared.acts.OrderChange.{OrderChange}
+use Rattle.cf_calls.specs.declared.acts.Payment.{Payment}
 use Rattle.cf_calls.specs.declared.acts.Period.{Period}
 use Rattle.cf_calls.specs.declared.entry.Drawn.{Drawn}
+use Rattle.cf_calls.specs.declared.items.SourceAmount.{SourceAmount}
 use Rattle.cf_calls.specs.declared.items.VoucherItem.{VoucherItem}
 use Rattle.cf_calls.specs.declared.refusal.Refusal.{Refusal}
 use Rattle.cf_calls.specs.declared.refusal.Refusal.TheVariants as refusal
@@ -53,14 +67,53 @@ gift_step plan closed on a d assets is = ap (λ b. map (asset_step plan closed o
 pub lease_step : (plan : Plan) (closed : ℕ) (on : Day) (a : Act) (l : NewLease) (assets : List Asset) → a ≡ act.Lease l → map (asset_step plan closed on a) assets ≡ assets
 lease_step plan closed on a l assets is = ap (λ b. map (asset_step plan closed on b) assets) is ∙ map-id assets
 
--- an act of another register
-pub quiet : (plan : Plan) (closed : ℕ) (on : Day) (a : Act) (drawn : Drawn) (assets : List Asset) → ((x : NewVoucher) → a ≡ act.Voucher x → ⊥) → ((n : ℕ) → a ≡ act.VoidVoucher n → ⊥) → ((x : AssetAct) → a ≡ act.Asset x → ⊥) → ((l : NewLease) → a ≡ act.Lease l → ⊥) →
+-- the act is one of a kind
+abbrev pub Is : (X : Type 0) → (X → Act) → Act → Type 0
+Is X kind a = (x : X) × (a ≡ kind x)
+
+-- .. or one of another register
+abbrev pub IsOther : Act → Type 0
+IsOther a =
+    Is Adoption act.Adopt a
+    ⊎ (Is Amendment act.Amend a
+    ⊎ (Is LineTransfer act.Transfer a
+    ⊎ (Is NewRequisition act.Requisition a
+    ⊎ (Is ℕ act.Withdraw a
+    ⊎ (Is NewOrder act.Order a
+    ⊎ (Is OrderChange act.ChangeOrder a
+    ⊎ (Is ℕ act.CancelOrder a
+    ⊎ (Is Payment act.Pay a
+    ⊎ (Is NewBill act.Bill a
+    ⊎ (Is BillAmount act.Collect a
+    ⊎ (Is SourceAmount act.Receive a
+    ⊎ (Is BillAmount act.WriteOff a
+    ⊎ (Is BondIssue act.Issue a
+    ⊎ (Is DebtPayment act.PayDue a
+    ⊎ (Is LeaveAct act.Leave a
+    ⊎ (Is FundMove act.Interfund a))))))))))))))))
+
+still : (plan : Plan) (closed : ℕ) (on : Day) (a b : Act) (drawn : Drawn) (assets : List Asset) → a ≡ b → map (asset_step plan closed on b) assets ++ assets_by plan on b drawn ≡ map (λ x. x) assets ++ [] →
     assets ≡ map (asset_step plan closed on a) assets ++ assets_by plan on a drawn
-quiet plan closed on (act.Voucher v) drawn assets voucher void asset lease = absurd (voucher v refl)
-quiet plan closed on (act.VoidVoucher n) drawn assets voucher void asset lease = absurd (void n refl)
-quiet plan closed on (act.Asset x) drawn assets voucher void asset lease = absurd (asset x refl)
-quiet plan closed on (act.Lease l) drawn assets voucher void asset lease = absurd (lease l refl)
-quiet plan closed on _ drawn assets voucher void asset lease = sym (append-nil (map (λ x. x) assets) ∙ map-id assets)
+still plan closed on a b drawn assets is none = sym (ap (λ x. map (asset_step plan closed on x) assets ++ assets_by plan on x drawn) is ∙ none ∙ append-nil (map (λ x. x) assets) ∙ map-id assets)
+
+pub quiet : (plan : Plan) (closed : ℕ) (on : Day) (a : Act) (drawn : Drawn) (assets : List Asset) → IsOther a → assets ≡ map (asset_step plan closed on a) assets ++ assets_by plan on a drawn
+quiet plan closed on a drawn assets (inl h) = still plan closed on a (act.Adopt h.0) drawn assets h.1 refl
+quiet plan closed on a drawn assets (inr (inl h)) = still plan closed on a (act.Amend h.0) drawn assets h.1 refl
+quiet plan closed on a drawn assets (inr (inr (inl h))) = still plan closed on a (act.Transfer h.0) drawn assets h.1 refl
+quiet plan closed on a drawn assets (inr (inr (inr (inl h)))) = still plan closed on a (act.Requisition h.0) drawn assets h.1 refl
+quiet plan closed on a drawn assets (inr (inr (inr (inr (inl h))))) = still plan closed on a (act.Withdraw h.0) drawn assets h.1 refl
+quiet plan closed on a drawn assets (inr (inr (inr (inr (inr (inl h)))))) = still plan closed on a (act.Order h.0) drawn assets h.1 refl
+quiet plan closed on a drawn assets (inr (inr (inr (inr (inr (inr (inl h))))))) = still plan closed on a (act.ChangeOrder h.0) drawn assets h.1 refl
+quiet plan closed on a drawn assets (inr (inr (inr (inr (inr (inr (inr (inl h)))))))) = still plan closed on a (act.CancelOrder h.0) drawn assets h.1 refl
+quiet plan closed on a drawn assets (inr (inr (inr (inr (inr (inr (inr (inr (inl h))))))))) = still plan closed on a (act.Pay h.0) drawn assets h.1 refl
+quiet plan closed on a drawn assets (inr (inr (inr (inr (inr (inr (inr (inr (inr (inl h)))))))))) = still plan closed on a (act.Bill h.0) drawn assets h.1 refl
+quiet plan closed on a drawn assets (inr (inr (inr (inr (inr (inr (inr (inr (inr (inr (inl h))))))))))) = still plan closed on a (act.Collect h.0) drawn assets h.1 refl
+quiet plan closed on a drawn assets (inr (inr (inr (inr (inr (inr (inr (inr (inr (inr (inr (inl h)))))))))))) = still plan closed on a (act.Receive h.0) drawn assets h.1 refl
+quiet plan closed on a drawn assets (inr (inr (inr (inr (inr (inr (inr (inr (inr (inr (inr (inr (inl h))))))))))))) = still plan closed on a (act.WriteOff h.0) drawn assets h.1 refl
+quiet plan closed on a drawn assets (inr (inr (inr (inr (inr (inr (inr (inr (inr (inr (inr (inr (inr (inl h)))))))))))))) = still plan closed on a (act.Issue h.0) drawn assets h.1 refl
+quiet plan closed on a drawn assets (inr (inr (inr (inr (inr (inr (inr (inr (inr (inr (inr (inr (inr (inr (inl h))))))))))))))) = still plan closed on a (act.PayDue h.0) drawn assets h.1 refl
+quiet plan closed on a drawn assets (inr (inr (inr (inr (inr (inr (inr (inr (inr (inr (inr (inr (inr (inr (inr (inl h)))))))))))))))) = still plan closed on a (act.Leave h.0) drawn assets h.1 refl
+quiet plan closed on a drawn assets (inr (inr (inr (inr (inr (inr (inr (inr (inr (inr (inr (inr (inr (inr (inr (inr h)))))))))))))))) = still plan closed on a (act.Interfund h.0) drawn assets h.1 refl
 
 pub close_step : (plan : Plan) (closed : ℕ) (on : Day) (a : Act) (p : Period) (drawn : Drawn) (assets : List Asset) → a ≡ act.Close p → assets ≡ map (asset_step plan closed on a) assets ++ assets_by plan on a drawn
 close_step plan closed on a p drawn assets is = sym (ap (λ b. map (asset_step plan closed on b) assets ++ assets_by plan on b drawn) is ∙ append-nil (map (λ x. x) assets) ∙ map-id assets)

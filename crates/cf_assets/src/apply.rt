@@ -16,7 +16,7 @@ ghost use Rattle.cf_model.specs.Rules.{amount_refusal};
 use crate::assets::Assets;
 use cf_base::Day;
 use cf_calls::acts::{AssetAct, Period};
-use cf_calls::{Act, Drawn};
+use cf_calls::{Act, Drawn, Entry};
 use cf_chart::Chart;
 use std::alloc::AllocError;
 
@@ -63,31 +63,53 @@ impl Assets {
         }
     }
 
-    /// Takes in an act that the rules allow and that drew these numbers. It takes no memory, as
-    /// that was reserved. Another act than the register's own is only counted.
-    pub fn apply(&mut self, chart: &Chart, on: Day, act: &Act, drawn: Drawn)
-        requires reserved { HasRoomFor act.now self.old.room }
-        requires day { is_day on ≡ true }
-        requires form { IsActInForm on act.now }
-        requires amounts { amount_refusal act.now ≡ None }
-        requires allowed { (s : Registers) → IsOf s self.old → asset_refusal s on act.now ≡ None }
-        requires drawn { IsNext act.now drawn self.old }
-        requires timely { IsTimely chart.now self.old.closed on act.now }
+    /// Takes in an entry that the rules allow, with the numbers that its act drew. It takes no
+    /// memory, as that was reserved. Another act than the register's own is only counted.
+    pub fn apply(&mut self, chart: &Chart, entry: &Entry)
+        requires reserved { HasRoomFor entry.now.change.act self.old.room }
+        requires day { is_day entry.now.change.on ≡ true }
+        requires form { IsActInForm entry.now.change.on entry.now.change.act }
+        requires amounts { amount_refusal entry.now.change.act ≡ None }
+        requires allowed { (s : Registers) → IsOf s self.old
+            → asset_refusal s entry.now.change.on entry.now.change.act ≡ None }
+        requires drawn { IsNext entry.now.change.act entry.now.drawn self.old }
+        requires timely { IsTimely chart.now self.old.closed
+            entry.now.change.on entry.now.change.act }
         requires few { self.old.acts < most_entries }
         ensures assets { self.new.assets
-            ≡ map (asset_step chart.now self.old.closed on act.now) self.old.assets
-            ++ assets_by chart.now on act.now drawn }
-        ensures closed { self.new.closed ≡ closed_after act.now self.old.closed }
-        ensures vouchers { self.new.vouchers ≡ self.old.vouchers + draws_voucher act.now }
+            ≡ map (asset_step chart.now self.old.closed entry.now.change.on entry.now.change.act)
+            self.old.assets
+            ++ assets_by chart.now entry.now.change.on entry.now.change.act entry.now.drawn }
+        ensures closed { self.new.closed ≡ closed_after entry.now.change.act self.old.closed }
+        ensures vouchers { self.new.vouchers
+            ≡ self.old.vouchers + draws_voucher entry.now.change.act }
         ensures acts { self.new.acts ≡ self.old.acts + 1 }
     {
-        match act {
+        let on = entry.change.on;
+        let drawn = entry.drawn;
+        match &entry.change.act {
             Act::Voucher(voucher) => self.enter_voucher(chart, on, voucher, drawn),
             Act::VoidVoucher(voucher) => self.void_voucher(*voucher),
             Act::Asset(what) => self.take_asset(chart, on, what, drawn),
             Act::Close(period) => self.close(period),
             Act::Lease(lease) => self.accept_lease(chart, on, lease, drawn.number),
-            _ => self.count_act(),
+            Act::Adopt(_)
+            | Act::Amend(_)
+            | Act::Transfer(_)
+            | Act::Requisition(_)
+            | Act::Withdraw(_)
+            | Act::Order(_)
+            | Act::ChangeOrder(_)
+            | Act::CancelOrder(_)
+            | Act::Pay(_)
+            | Act::Bill(_)
+            | Act::Collect(_)
+            | Act::Receive(_)
+            | Act::WriteOff(_)
+            | Act::Issue(_)
+            | Act::PayDue(_)
+            | Act::Leave(_)
+            | Act::Interfund(_) => self.count_act(),
         }
     }
 

@@ -1,6 +1,6 @@
 //! The register of capital assets.
 
-ghost use Rattle.std.specs.Prelude.{true, false, ◌≡◌, ◌≤◌, ◌+◌, ℕ, [], length, slice_index_or, option_to_list, ◌==◌};
+ghost use Rattle.std.specs.Prelude.{true, false, Ok, ◌≡◌, ◌≤◌, ◌+◌, ℕ, [], length, slice_index_or, option_to_list, ◌==◌};
 ghost use Rattle.std.specs.List.{filter};
 ghost use Rattle.cf_base.specs.Limits.{most_entries};
 ghost use Rattle.cf_assets.specs.Readers.{asset_now_at, look_shown};
@@ -19,7 +19,7 @@ use cf_calls::shown::AssetState;
 use cf_calls::{Act, Drawn, Read, Shown};
 use cf_chart::Chart;
 use cf_register_parts::{Extent, YEARS, no_years};
-use std::alloc::Global;
+use std::alloc::{AllocError, Global};
 use std::marker::Model;
 
 /// Capital assets with their depreciation, and right-to-use assets with their amortization. Assets
@@ -152,13 +152,27 @@ impl Assets {
     }
 
     /// What a look at an asset shows: `None` exactly where there is no such asset, and at other
-    /// looks.
-    pub fn look(&self, read: &Read) -> Option<Shown>
-        ensures { result ≡ look_shown self.now.closed self.now.assets read.now }
+    /// looks. It takes no memory, so there is no `Err`.
+    pub fn look(
+        &self,
+        _alloc: Global,
+        _chart: &Chart,
+        read: &Read,
+    ) -> Result<Option<Shown>, AllocError>
+        ensures { result ≡ Ok (look_shown self.now.closed self.now.assets read.now) }
     {
         match read {
-            Read::Asset { asset } => self.look_asset(*asset),
-            _ => None,
+            Read::Asset { asset } => Ok(self.look_asset(*asset)),
+            Read::Line { .. }
+            | Read::Requisition { .. }
+            | Read::Order { .. }
+            | Read::Voucher { .. }
+            | Read::Bill { .. }
+            | Read::Bond { .. }
+            | Read::Leave { .. }
+            | Read::Account { .. }
+            | Read::Reconcile { .. }
+            | Read::Report { .. } => Ok(None),
         }
     }
 

@@ -27,7 +27,7 @@ impl Assets {
     /// The rule of the register that an act breaks: an asset that isn't in the needed state. Of a
     /// voucher's assets the one of the least number speaks. `None` at other acts than the void of a
     /// voucher and a disposal.
-    pub fn check(&self, _chart: &Chart, on: Day, act: &Act) -> Option<Refusal>
+    pub fn check(&self, _chart: &Chart, on: Day, _desk: u16, act: &Act) -> Option<Refusal>
         ensures { (s : Registers) → IsOf s self.now → result ≡ asset_refusal s on act.now }
     {
         match act {
