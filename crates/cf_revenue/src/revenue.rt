@@ -1,6 +1,6 @@
 //! The register of bills and of loans between funds.
 
-ghost use Rattle.std.specs.Prelude.{◌≡◌, ◌≤◌, true, option_map, MatchOption, None};
+ghost use Rattle.std.specs.Prelude.{◌≡◌, ◌≤◌, true, option_map, MatchOption, None, Ok};
 ghost use Rattle.cf_base.specs.Calendar.{is_day};
 ghost use Rattle.cf_model.specs.Results.{bill_draws};
 ghost use Rattle.cf_model.specs.Changes.{deferred_in};
@@ -15,7 +15,7 @@ use cf_base::Day;
 use cf_calls::{Act, Drawn, Read, Shown};
 use cf_chart::Chart;
 use cf_register_parts::{NumberPair, YEARS, amount_at, difference, total_through, window_of};
-use std::alloc::Global;
+use std::alloc::{AllocError, Global};
 use std::collections::BTreeMap;
 use std::marker::Model;
 
@@ -179,12 +179,27 @@ impl Revenue {
     }
 
     /// What a look at a bill shows: `None` exactly where there is no such bill, and at other looks.
-    pub fn look(&self, read: &Read) -> Option<Shown>
-        ensures { result ≡ receivable_shown self.now.receivables read.now }
+    /// It takes no memory and never fails.
+    pub fn look(
+        &self,
+        _alloc: Global,
+        _chart: &Chart,
+        read: &Read,
+    ) -> Result<Option<Shown>, AllocError>
+        ensures { result ≡ Ok (receivable_shown self.now.receivables read.now) }
     {
         match read {
-            Read::Bill { bill } => self.look_bill(*bill),
-            _ => None,
+            Read::Bill { bill } => Ok(self.look_bill(*bill)),
+            Read::Line { .. }
+            | Read::Requisition { .. }
+            | Read::Order { .. }
+            | Read::Voucher { .. }
+            | Read::Asset { .. }
+            | Read::Bond { .. }
+            | Read::Leave { .. }
+            | Read::Account { .. }
+            | Read::Reconcile { .. }
+            | Read::Report { .. } => Ok(None),
         }
     }
 
