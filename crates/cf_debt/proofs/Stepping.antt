@@ -1,7 +1,6 @@
 -- What the definitions' step makes of debt, by the kind of the act.
-use Rattle.std.proofs.Common.{◌≡◌, ℕ, List, [], ◌∷◌, ◌++◌, map, refl, ap, ◌∙◌}
+use Rattle.std.proofs.Common.{◌≡◌, ◌⊎◌, List, [], ◌∷◌, ◌++◌, map, refl, ap, ◌∙◌, arith}
 use Rattle.std.proofs.lemmas.List.{append-nil}
-use Rattle.cf_base.specs.declared.calendar.Day.{Day}
 use Rattle.cf_calls.specs.declared.acts.Act.{Act}
 use Rattle.cf_calls.specs.declared.acts.Act.TheVariants as act
 use Rattle.cf_calls.specs.declared.acts.BondIssue.{BondIssue}
@@ -9,9 +8,9 @@ use Rattle.cf_calls.specs.declared.acts.DebtPayment.{DebtPayment}
 use Rattle.cf_calls.specs.declared.acts.LeaveAct.{LeaveAct}
 use Rattle.cf_calls.specs.declared.acts.NewLease.{NewLease}
 use Rattle.cf_calls.specs.declared.acts.Period.{Period}
-use Rattle.cf_calls.specs.declared.entry.Drawn.{Drawn}
+use Rattle.cf_calls.specs.declared.entry.Entry.{Entry}
 use Rattle.cf_chart.specs.Plan.{Plan}
-use Rattle.cf_debt.specs.Register.{Debts, debts_of, entry_for, registers_with}
+use Rattle.cf_debt.specs.Register.{Debts, debts_of, registers_with}
 use Rattle.cf_model.specs.Bonds.{Bond, bond_step, bonds_by}
 use Rattle.cf_model.specs.Leave.{leave_by}
 use Rattle.cf_model.specs.Registers.{closed_after, registers_step}
@@ -20,31 +19,51 @@ map_id : (bonds : List Bond) → map (λ (b : Bond). b) bonds ≡ bonds
 map_id [] = refl
 map_id (b ∷ bonds) = ap (λ bs. b ∷ bs) (map_id bonds)
 
--- debt after an act
-abbrev pub stepped : Plan → Debts → ℕ → Day → Act → Drawn → Debts
-stepped plan d desk on a drawn = debts_of (registers_step plan (registers_with d) (entry_for desk on a drawn))
+-- debt after an entry
+abbrev pub stepped : Plan → Debts → Entry → Debts
+stepped plan d e = debts_of (registers_step plan (registers_with d) e)
 
-pub issue_step : (plan : Plan) (d : Debts) (desk : ℕ) (on : Day) (i : BondIssue) (drawn : Drawn) → stepped plan d desk on (act.Issue i) drawn ≡ record d { bonds = d.bonds ++ bonds_by plan on (act.Issue i) drawn }
-issue_step plan d desk on i drawn = λ k. record { bonds = map_id d.bonds k ++ bonds_by plan on (act.Issue i) drawn; leave = append-nil d.leave k; closed = d.closed }
+-- an entry of another act
+abbrev with_act : Entry → Act → Entry
+with_act e a = record e { change = record e.change { act = a } }
 
-pub lease_step : (plan : Plan) (d : Debts) (desk : ℕ) (on : Day) (l : NewLease) (drawn : Drawn) → stepped plan d desk on (act.Lease l) drawn ≡ record d { bonds = d.bonds ++ bonds_by plan on (act.Lease l) drawn }
-lease_step plan d desk on l drawn = λ k. record { bonds = map_id d.bonds k ++ bonds_by plan on (act.Lease l) drawn; leave = append-nil d.leave k; closed = d.closed }
+pub issue_step : (plan : Plan) (d : Debts) (e : Entry) (i : BondIssue) → e.change.act ≡ act.Issue i → stepped plan d e ≡ record d { bonds = d.bonds ++ bonds_by plan e.change.on (act.Issue i) e.drawn }
+issue_step plan d e i is = ap (λ a. stepped plan d (with_act e a)) is ∙ (λ k. record { bonds = map_id d.bonds k ++ bonds_by plan e.change.on (act.Issue i) e.drawn; leave = append-nil d.leave k; closed = d.closed })
 
-pub pay_step : (plan : Plan) (d : Debts) (desk : ℕ) (on : Day) (p : DebtPayment) (drawn : Drawn) → stepped plan d desk on (act.PayDue p) drawn ≡ record d { bonds = map (bond_step (act.PayDue p)) d.bonds }
-pay_step plan d desk on p drawn = λ k. record { bonds = append-nil (map (bond_step (act.PayDue p)) d.bonds) k; leave = append-nil d.leave k; closed = d.closed }
+pub lease_step : (plan : Plan) (d : Debts) (e : Entry) (l : NewLease) → e.change.act ≡ act.Lease l → stepped plan d e ≡ record d { bonds = d.bonds ++ bonds_by plan e.change.on (act.Lease l) e.drawn }
+lease_step plan d e l is = ap (λ a. stepped plan d (with_act e a)) is ∙ (λ k. record { bonds = map_id d.bonds k ++ bonds_by plan e.change.on (act.Lease l) e.drawn; leave = append-nil d.leave k; closed = d.closed })
 
-pub leave_step : (plan : Plan) (d : Debts) (desk : ℕ) (on : Day) (l : LeaveAct) (drawn : Drawn) → stepped plan d desk on (act.Leave l) drawn ≡ record d { leave = d.leave ++ leave_by plan on (act.Leave l) }
-leave_step plan d desk on l drawn = λ k. record { bonds = (append-nil (map (λ (b : Bond). b) d.bonds) ∙ map_id d.bonds) k; leave = d.leave ++ leave_by plan on (act.Leave l); closed = d.closed }
+pub pay_step : (plan : Plan) (d : Debts) (e : Entry) (p : DebtPayment) → e.change.act ≡ act.PayDue p → stepped plan d e ≡ record d { bonds = map (bond_step (act.PayDue p)) d.bonds }
+pay_step plan d e p is = ap (λ a. stepped plan d (with_act e a)) is ∙ (λ k. record { bonds = append-nil (map (bond_step (act.PayDue p)) d.bonds) k; leave = append-nil d.leave k; closed = d.closed })
 
-pub close_step : (plan : Plan) (d : Debts) (desk : ℕ) (on : Day) (p : Period) (drawn : Drawn) → stepped plan d desk on (act.Close p) drawn ≡ record d { closed = closed_after (act.Close p) d.closed }
-close_step plan d desk on p drawn = λ k. record { bonds = (append-nil (map (λ (b : Bond). b) d.bonds) ∙ map_id d.bonds) k; leave = append-nil d.leave k; closed = closed_after (act.Close p) d.closed }
+-- the bonds after an act that neither enters nor pays one
+bonds_stay : (bonds : List Bond) → map (λ (b : Bond). b) bonds ++ [] ≡ bonds
+bonds_stay bonds = append-nil (map (λ (b : Bond). b) bonds) ∙ map_id bonds
 
--- another act leaves debt as it is
-pub quiet_step : (a : Act) (plan : Plan) (d : Debts) (desk : ℕ) (on : Day) (drawn : Drawn) → ((i : BondIssue) → a ≡ act.Issue i → ⊥) → ((p : DebtPayment) → a ≡ act.PayDue p → ⊥) →
-    ((l : LeaveAct) → a ≡ act.Leave l → ⊥) → ((p : Period) → a ≡ act.Close p → ⊥) → ((x : NewLease) → a ≡ act.Lease x → ⊥) → stepped plan d desk on a drawn ≡ d
-quiet_step (act.Issue i) plan d desk on drawn h k l m n = absurd (h i refl)
-quiet_step (act.PayDue p) plan d desk on drawn h k l m n = absurd (k p refl)
-quiet_step (act.Leave x) plan d desk on drawn h k l m n = absurd (l x refl)
-quiet_step (act.Close x) plan d desk on drawn h k l m n = absurd (m x refl)
-quiet_step (act.Lease x) plan d desk on drawn h k l m n = absurd (n x refl)
-quiet_step _ plan d desk on drawn h k l m n = λ i. record { bonds = (append-nil (map (λ (b : Bond). b) d.bonds) ∙ map_id d.bonds) i; leave = append-nil d.leave i; closed = d.closed }
+pub leave_step : (plan : Plan) (d : Debts) (e : Entry) (l : LeaveAct) → e.change.act ≡ act.Leave l → stepped plan d e ≡ record d { leave = d.leave ++ leave_by plan e.change.on (act.Leave l) }
+leave_step plan d e l is = ap (λ a. stepped plan d (with_act e a)) is ∙ (λ k. record { bonds = bonds_stay d.bonds k; leave = d.leave ++ leave_by plan e.change.on (act.Leave l); closed = d.closed })
+
+pub close_step : (plan : Plan) (d : Debts) (e : Entry) (p : Period) → e.change.act ≡ act.Close p → stepped plan d e ≡ record d { closed = closed_after (act.Close p) d.closed }
+close_step plan d e p is = ap (λ a. stepped plan d (with_act e a)) is ∙ (λ k. record { bonds = bonds_stay d.bonds k; leave = append-nil d.leave k; closed = closed_after (act.Close p) d.closed })
+
+-- an act of one kind
+abbrev pub Is : {X : Type 0} → (X → Act) → Act → Type 0
+Is make a = (x : _) × (a ≡ make x)
+
+-- an act that is none of debt's
+abbrev pub IsOther : Act → Type 0
+IsOther a =
+    Is act.Adopt a ⊎ (Is act.Amend a ⊎ (Is act.Transfer a ⊎ (Is act.Requisition a ⊎ (Is act.Withdraw a ⊎ (Is act.Order a ⊎ (Is act.ChangeOrder a ⊎ (Is act.CancelOrder a ⊎ (Is act.Voucher a
+    ⊎ (Is act.VoidVoucher a ⊎ (Is act.Pay a ⊎ (Is act.Bill a ⊎ (Is act.Collect a ⊎ (Is act.Receive a ⊎ (Is act.WriteOff a ⊎ (Is act.Asset a ⊎ Is act.Interfund a)))))))))))))))
+
+-- it leaves debt as it is
+pub quiet_step : (plan : Plan) (d : Debts) (e : Entry) → IsOther e.change.act → stepped plan d e ≡ d
+quiet_step plan d e other = by_act e.change.act other
+  where
+    by_act : (a : Act) → IsOther a → stepped plan d (with_act e a) ≡ d
+    by_act (act.Issue i) is = absurd (grind arith)
+    by_act (act.PayDue p) is = absurd (grind arith)
+    by_act (act.Leave l) is = absurd (grind arith)
+    by_act (act.Close p) is = absurd (grind arith)
+    by_act (act.Lease l) is = absurd (grind arith)
+    by_act _ is = λ k. record { bonds = bonds_stay d.bonds k; leave = append-nil d.leave k; closed = d.closed }

@@ -1,12 +1,11 @@
 -- What contracts see of the register.
-use Rattle.std.specs.Prelude.{◌≡◌, ℕ, ◌+◌, ◌<◌, ◌≤◌, true, List, [], length, Option, Some, None, is_some}
+use Rattle.std.specs.Prelude.{◌≡◌, ℕ, ◌+◌, ◌<◌, ◌≤◌, true, List, length, Option, Some, None, is_some}
 use Rattle.cf_base.specs.declared.calendar.Day.{Day}
 use Rattle.cf_calls.specs.declared.acts.Act.{Act}
 use Rattle.cf_calls.specs.declared.acts.Act.TheVariants as act
 use Rattle.cf_calls.specs.declared.acts.LeaveAct.{LeaveAct}
 use Rattle.cf_calls.specs.declared.acts.LeaveAct.TheVariants.{Earn, Use, Mature}
 use Rattle.cf_calls.specs.declared.entry.Drawn.{Drawn}
-use Rattle.cf_calls.specs.declared.entry.Entry.{Entry}
 use Rattle.cf_chart.specs.Plan.{Plan}
 use Rattle.cf_debt.specs.declared.debt.Due.{Due as DueNow}
 use Rattle.cf_model.specs.Bonds.{Bond, Due, coupon, next_due}
@@ -102,13 +101,13 @@ IsEarlyIssue plan d on (act.Issue i) = d.closed ≤ number_of_day plan on
 IsEarlyIssue plan d on (act.Lease l) = d.closed ≤ number_of_day plan on
 IsEarlyIssue plan d on _ = Unit {0}
 
--- the entry of an act; debt doesn't depend on its key
-abbrev pub entry_for : ℕ → Day → Act → Drawn → Entry
-entry_for desk on act drawn =
-    record {
-      change = record { desk = desk; key = []; on = on; after = None; act = act };
-      drawn = drawn;
-    }
+-- a bond has the next bond's number, as a lease has for its second, and a payment that of the next
+-- payment of its bond
+abbrev pub IsNext : Act → Drawn → Register → Type 0
+IsNext (act.Issue i) drawn r = drawn.number ≡ length r.debts.bonds + 1
+IsNext (act.Lease l) drawn r = drawn.second ≡ length r.debts.bonds + 1
+IsNext (act.PayDue p) drawn r = drawn.number ≡ payment_number (bond_at p.bond r.debts.bonds)
+IsNext _ drawn r = Unit {0}
 
 -- ---- what is due next
 

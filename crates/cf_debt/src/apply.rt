@@ -5,7 +5,7 @@ ghost use Rattle.cf_base.specs.Calendar.{is_day};
 ghost use Rattle.cf_base.specs.Limits.{most_entries};
 ghost use Rattle.cf_calls.specs.Form.{IsActInForm, IsPeriodForm};
 ghost use Rattle.cf_calls.specs.declared.acts.Act.TheVariants as act;
-ghost use Rattle.cf_debt.specs.Register.{HasRoomFor, HasRoomForLeave, HasRoomToChange, HasRoomToIssue, IsEarlyIssue, IsThere, debt_draws, debts_of, entry_for, registers_with};
+ghost use Rattle.cf_debt.specs.Register.{HasRoomFor, HasRoomForLeave, HasRoomToChange, HasRoomToIssue, IsEarlyIssue, IsNext, IsThere, debts_of, registers_with};
 ghost use Rattle.cf_model.specs.Leave.{leave_by};
 ghost use Rattle.cf_model.specs.RegisterRules.{debt_refusal, leave_refusal, order_refusal, unpaid_refusal};
 ghost use Rattle.cf_model.specs.Registers.{closed_after, registers_step};
@@ -15,7 +15,7 @@ use crate::debt::{Debt, leave_key};
 use crate::rows::LeaveRow;
 use cf_base::Day;
 use cf_calls::acts::{LeaveAct, Period};
-use cf_calls::{Act, Drawn};
+use cf_calls::{Act, Entry};
 use cf_chart::Chart;
 use cf_register_parts::{reserve_in, year_of_day};
 use std::alloc::AllocError;
@@ -77,34 +77,49 @@ impl Debt {
         reserve_in(&mut self.left, leave_key(fund, dept), 0)
     }
 
-    /// Takes in an act that the rules allow, and gives the numbers that it draws. It takes no
+    /// Takes in an entry whose act the rules allow and whose numbers are the next. It takes no
     /// memory, as that was reserved. Another act than the register's own is only counted.
-    pub fn apply(&mut self, chart: &Chart, on: Day, desk: u16, act: &Act) -> Drawn
-        requires reserved { HasRoomFor act.now self.old }
-        requires day { is_day on ≡ true }
-        requires form { IsActInForm on act.now }
-        requires amounts { amount_refusal act.now ≡ None }
-        requires there { IsThere self.old.debts.bonds act.now }
-        requires early { IsEarlyIssue chart.now self.old.debts on act.now }
-        requires allowed { debt_refusal chart.now (registers_with self.old.debts) on act.now
-            ≡ None }
+    pub fn apply(&mut self, chart: &Chart, entry: &Entry)
+        requires reserved { HasRoomFor entry.now.change.act self.old }
+        requires day { is_day entry.now.change.on ≡ true }
+        requires form { IsActInForm entry.now.change.on entry.now.change.act }
+        requires amounts { amount_refusal entry.now.change.act ≡ None }
+        requires there { IsThere self.old.debts.bonds entry.now.change.act }
+        requires early { IsEarlyIssue chart.now self.old.debts
+            entry.now.change.on entry.now.change.act }
+        requires allowed { debt_refusal chart.now (registers_with self.old.debts)
+            entry.now.change.on entry.now.change.act ≡ None }
+        requires drawn { IsNext entry.now.change.act entry.now.drawn self.old }
         requires few { self.old.acts < most_entries }
-        ensures drawn { result ≡ debt_draws self.old.debts.bonds act.now }
         ensures debts { self.new.debts
-            ≡ debts_of (registers_step chart.now (registers_with self.old.debts)
-            (entry_for desk on act.now result)) }
+            ≡ debts_of (registers_step chart.now (registers_with self.old.debts) entry.now) }
         ensures acts { self.new.acts ≡ self.old.acts + 1 }
     {
-        let drawn = self.draws(act);
-        match act {
-            Act::Issue(issue) => self.enter_issue(chart, on, drawn.number, issue),
-            Act::Lease(lease) => self.enter_lease(chart, on, drawn.second, lease),
+        let on = entry.change.on;
+        match &entry.change.act {
+            Act::Issue(issue) => self.enter_issue(chart, on, entry.drawn.number, issue),
+            Act::Lease(lease) => self.enter_lease(chart, on, entry.drawn.second, lease),
             Act::PayDue(payment) => self.pay(payment),
             Act::Leave(leave) => self.change_leave(chart, on, leave),
             Act::Close(period) => self.close(chart, period),
-            _ => self.count_act(),
+            Act::Adopt(_)
+            | Act::Amend(_)
+            | Act::Transfer(_)
+            | Act::Requisition(_)
+            | Act::Withdraw(_)
+            | Act::Order(_)
+            | Act::ChangeOrder(_)
+            | Act::CancelOrder(_)
+            | Act::Voucher(_)
+            | Act::VoidVoucher(_)
+            | Act::Pay(_)
+            | Act::Bill(_)
+            | Act::Collect(_)
+            | Act::Receive(_)
+            | Act::WriteOff(_)
+            | Act::Asset(_)
+            | Act::Interfund(_) => self.count_act(),
         }
-        drawn
     }
 
     fn close(&mut self, chart: &Chart, period: &Period)

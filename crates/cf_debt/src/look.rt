@@ -1,6 +1,6 @@
 //! What looks at bonds and at leave show.
 
-ghost use Rattle.std.specs.Prelude.{◌≡◌, ◌≤◌, ◌*◌, length, sum_by};
+ghost use Rattle.std.specs.Prelude.{◌≡◌, ◌≤◌, ◌*◌, length, sum_by, Ok};
 ghost use Rattle.cf_debt.specs.Charges.{bond_of};
 ghost use Rattle.cf_debt.specs.DebtNow.{debt_shown, show_bond};
 ghost use Rattle.cf_debt.specs.Rows.{AreSmallDues, IsBond, view_bond, view_payments};
@@ -15,20 +15,34 @@ use crate::schedule::next_of;
 use cf_calls::{Read, Shown};
 use cf_chart::Chart;
 use cf_register_parts::difference;
+use std::alloc::{AllocError, Global};
 
 impl Debt {
     /// What a look at a bond or at the leave of a fund's department shows: `None` exactly where
     /// there is no such bond, and at other looks. A look at a bond reads its own payments, at most
-    /// 120.
-    pub fn look(&self, chart: &Chart, read: &Read) -> Option<Shown>
-        ensures { result ≡ debt_shown chart.now self.now.debts read.now }
+    /// 120. It takes no memory and never fails.
+    pub fn look(
+        &self,
+        _alloc: Global,
+        chart: &Chart,
+        read: &Read,
+    ) -> Result<Option<Shown>, AllocError>
+        ensures { result ≡ Ok (debt_shown chart.now self.now.debts read.now) }
     {
         match read {
-            Read::Bond { bond } => self.look_bond(chart, *bond),
-            Read::Leave { fund, dept } => Some(Shown::Leave {
+            Read::Bond { bond } => Ok(self.look_bond(chart, *bond)),
+            Read::Leave { fund, dept } => Ok(Some(Shown::Leave {
                 left: self.leave_of(*fund, *dept),
-            }),
-            _ => None,
+            })),
+            Read::Line { .. }
+            | Read::Requisition { .. }
+            | Read::Order { .. }
+            | Read::Voucher { .. }
+            | Read::Bill { .. }
+            | Read::Asset { .. }
+            | Read::Account { .. }
+            | Read::Reconcile { .. }
+            | Read::Report { .. } => Ok(None),
         }
     }
 

@@ -1,68 +1,41 @@
-use Rattle.std.proofs.Common.{◌≡◌, None, ap, sym, subst, ◌∙◌}
+use Rattle.std.proofs.Common.{◌≡◌, None, sym, subst, ◌∙◌}
 use Rattle.cf_calls.specs.declared.acts.Act.{Act}
 use Rattle.cf_debt.specs.Register.{IsThere, registers_with}
 use Rattle.cf_debt.proofs.Refusing.{all_paid, can_pay, in_order}
-use Rattle.cf_debt.proofs.Stepping.{close_step, issue_step, lease_step, leave_step, pay_step, quiet_step, stepped}
+use Rattle.cf_debt.proofs.Stepping.{close_step, issue_step, lease_step, leave_step, pay_step, quiet_step}
 use Rattle.cf_model.specs.RegisterRules.{debt_refusal}
 use Rattle.cf_debt.proofs.debt.Debt.apply.Goals as goal
 
 pub pay-requires-clause-left : goal.pay-requires-clause-left
 pay-requires-clause-left c =
     let d = c.args.self.now.debts in
-    can_pay c.args.chart.now d c.args.on c.in-PayDue.payment (subst (λ (a : Act). IsThere d.bonds a) c.in-PayDue.is c.requires.there)
-    (subst (λ (a : Act). debt_refusal c.args.chart.now (registers_with d) c.args.on a ≡ None) c.in-PayDue.is c.requires.allowed)
+    can_pay c.args.chart.now d c.args.entry.now.change.on c.in-PayDue.payment (subst (λ (a : Act). IsThere d.bonds a) c.in-PayDue.is c.requires.there)
+    (subst (λ (a : Act). debt_refusal c.args.chart.now (registers_with d) c.args.entry.now.change.on a ≡ None) c.in-PayDue.is c.requires.allowed)
 
 pub close-requires-clause-next : goal.close-requires-clause-next
 close-requires-clause-next c =
     let d = c.args.self.now.debts in
-    in_order c.args.chart.now d c.args.on c.in-Close.period (subst (λ (a : Act). debt_refusal c.args.chart.now (registers_with d) c.args.on a ≡ None) c.in-Close.is c.requires.allowed)
+    in_order c.args.chart.now d c.args.entry.now.change.on c.in-Close.period (subst (λ (a : Act). debt_refusal c.args.chart.now (registers_with d) c.args.entry.now.change.on a ≡ None) c.in-Close.is c.requires.allowed)
 
 pub close-requires-clause-paid : goal.close-requires-clause-paid
 close-requires-clause-paid c =
     let d = c.args.self.now.debts in
-    all_paid c.args.chart.now d c.args.on c.in-Close.period (subst (λ (a : Act). debt_refusal c.args.chart.now (registers_with d) c.args.on a ≡ None) c.in-Close.is c.requires.allowed)
+    all_paid c.args.chart.now d c.args.entry.now.change.on c.in-Close.period (subst (λ (a : Act). debt_refusal c.args.chart.now (registers_with d) c.args.entry.now.change.on a ≡ None) c.in-Close.is c.requires.allowed)
 
 pub returns-in-Issue-clause-debts : goal.returns-in-Issue-clause-debts
-returns-in-Issue-clause-debts c =
-    let d = c.args.self.now.debts in
-    let drawn = c.draws-drawn.result in
-    c.enter_issue.ensures.debts
-    ∙ sym (issue_step c.args.chart.now d c.args.desk c.args.on c.in-Issue.issue drawn)
-    ∙ ap (λ a. stepped c.args.chart.now d c.args.desk c.args.on a drawn) (sym c.in-Issue.is)
+returns-in-Issue-clause-debts c = c.enter_issue.ensures.debts ∙ sym (issue_step c.args.chart.now c.args.self.now.debts c.args.entry.now c.in-Issue.issue c.in-Issue.is)
 
 pub returns-in-Lease-clause-debts : goal.returns-in-Lease-clause-debts
-returns-in-Lease-clause-debts c =
-    let d = c.args.self.now.debts in
-    let drawn = c.draws-drawn.result in
-    c.enter_lease.ensures.debts
-    ∙ sym (lease_step c.args.chart.now d c.args.desk c.args.on c.in-Lease.lease drawn)
-    ∙ ap (λ a. stepped c.args.chart.now d c.args.desk c.args.on a drawn) (sym c.in-Lease.is)
+returns-in-Lease-clause-debts c = c.enter_lease.ensures.debts ∙ sym (lease_step c.args.chart.now c.args.self.now.debts c.args.entry.now c.in-Lease.lease c.in-Lease.is)
 
 pub returns-in-PayDue-clause-debts : goal.returns-in-PayDue-clause-debts
-returns-in-PayDue-clause-debts c =
-    let d = c.args.self.now.debts in
-    let drawn = c.draws-drawn.result in
-    c.pay.ensures.debts
-    ∙ sym (pay_step c.args.chart.now d c.args.desk c.args.on c.in-PayDue.payment drawn)
-    ∙ ap (λ a. stepped c.args.chart.now d c.args.desk c.args.on a drawn) (sym c.in-PayDue.is)
+returns-in-PayDue-clause-debts c = c.pay.ensures.debts ∙ sym (pay_step c.args.chart.now c.args.self.now.debts c.args.entry.now c.in-PayDue.payment c.in-PayDue.is)
 
 pub returns-in-Leave-clause-debts : goal.returns-in-Leave-clause-debts
-returns-in-Leave-clause-debts c =
-    let d = c.args.self.now.debts in
-    let drawn = c.draws-drawn.result in
-    c.change_leave.ensures.debts
-    ∙ sym (leave_step c.args.chart.now d c.args.desk c.args.on c.in-Leave.leave drawn)
-    ∙ ap (λ a. stepped c.args.chart.now d c.args.desk c.args.on a drawn) (sym c.in-Leave.is)
+returns-in-Leave-clause-debts c = c.change_leave.ensures.debts ∙ sym (leave_step c.args.chart.now c.args.self.now.debts c.args.entry.now c.in-Leave.leave c.in-Leave.is)
 
 pub returns-in-Close-clause-debts : goal.returns-in-Close-clause-debts
-returns-in-Close-clause-debts c =
-    let d = c.args.self.now.debts in
-    let drawn = c.draws-drawn.result in
-    c.close.ensures.debts
-    ∙ sym (close_step c.args.chart.now d c.args.desk c.args.on c.in-Close.period drawn)
-    ∙ ap (λ a. stepped c.args.chart.now d c.args.desk c.args.on a drawn) (sym c.in-Close.is)
+returns-in-Close-clause-debts c = c.close.ensures.debts ∙ sym (close_step c.args.chart.now c.args.self.now.debts c.args.entry.now c.in-Close.period c.in-Close.is)
 
-pub returns-in_default-clause-debts : goal.returns-in_default-clause-debts
-returns-in_default-clause-debts c =
-    c.count_act.ensures.debts
-    ∙ sym (quiet_step c.args.act.now c.args.chart.now c.args.self.now.debts c.args.desk c.args.on c.draws-drawn.result c.in_default.not-Issue c.in_default.not-PayDue c.in_default.not-Leave c.in_default.not-Close c.in_default.not-Lease)
+pub returns-in-Adopt-clause-debts : goal.returns-in-Adopt-clause-debts
+returns-in-Adopt-clause-debts c = c.count_act.ensures.debts ∙ sym (quiet_step c.args.chart.now c.args.self.now.debts c.args.entry.now c.in-Adopt.is)
