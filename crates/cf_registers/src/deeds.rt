@@ -218,7 +218,7 @@ fn collect(
                 amount: part.amount,
             }),
         ),
-        _ => Ok(Vec::new(alloc)),
+        (None, _) | (_, None) => Ok(Vec::new(alloc)),
     }
 }
 

@@ -167,7 +167,25 @@ fn moves(chart: &Chart, registers: &Registers, act: &Act) -> usize
 {
     match act {
         Act::PayDue(_) | Act::Leave(_) | Act::Lease(_) => spendings(chart, registers, act),
-        _ => registers.orders().moves(act),
+        Act::Adopt(_)
+        | Act::Amend(_)
+        | Act::Transfer(_)
+        | Act::Requisition(_)
+        | Act::Withdraw(_)
+        | Act::Order(_)
+        | Act::ChangeOrder(_)
+        | Act::CancelOrder(_)
+        | Act::Voucher(_)
+        | Act::VoidVoucher(_)
+        | Act::Pay(_)
+        | Act::Bill(_)
+        | Act::Collect(_)
+        | Act::Receive(_)
+        | Act::WriteOff(_)
+        | Act::Asset(_)
+        | Act::Issue(_)
+        | Act::Interfund(_)
+        | Act::Close(_) => registers.orders().moves(act),
     }
 }
 

@@ -1,10 +1,7 @@
-use Rattle.std.proofs.Common.{◌≡◌, ◌⊎◌, suc, List, [], ◌∷◌, map, length, inl, inr, refl, sym, ap, ◌∙◌}
+use Rattle.std.proofs.Common.{◌≡◌, ◌⊎◌, suc, List, [], ◌∷◌, map, length, inl, inr, refl, sym, ap, ◌∙◌, arith}
 use Rattle.cf_base.specs.declared.calendar.Day.{Day}
 use Rattle.cf_calls.specs.declared.acts.Act.{Act}
-use Rattle.cf_calls.specs.declared.acts.Act.TheVariants.{PayDue, Leave, Lease}
-use Rattle.cf_calls.specs.declared.acts.DebtPayment.{DebtPayment}
-use Rattle.cf_calls.specs.declared.acts.LeaveAct.{LeaveAct}
-use Rattle.cf_calls.specs.declared.acts.NewLease.{NewLease}
+use Rattle.cf_calls.specs.declared.acts.Act.TheVariants.{Adopt, Amend, Transfer, Requisition, Withdraw, Order, ChangeOrder, CancelOrder, Voucher, VoidVoucher, Pay, Bill, Collect, Receive, WriteOff, Asset, Issue, PayDue, Leave, Interfund, Close, Lease}
 use Rattle.cf_chart.specs.Plan.{Plan}
 use Rattle.cf_model.specs.Documents.{Documents}
 use Rattle.cf_model.specs.Moves.{document_moves, spending_move}
@@ -14,20 +11,29 @@ use Rattle.cf_model.specs.Spendings.{Spending, spendings_by}
 use Rattle.cf_registers.specs.Moved.{act_moves}
 use Rattle.cf_registers.proofs.moves.moves.Goals as goal
 
--- the moves of documents
-by_documents : (plan : Plan) (s : Registers) (on : Day) (act : Act) → ((d : DebtPayment) → act ≡ PayDue d → ⊥) → ((l : LeaveAct) → act ≡ Leave l → ⊥) → ((l : NewLease) → act ≡ Lease l → ⊥) →
-    act_moves plan s on act ≡ document_moves plan s.documents (document_number s.documents act) on act
-by_documents plan s on (PayDue d) not_due not_leave not_lease = absurd (not_due d refl)
-by_documents plan s on (Leave l) not_due not_leave not_lease = absurd (not_leave l refl)
-by_documents plan s on (Lease l) not_due not_leave not_lease = absurd (not_lease l refl)
-by_documents plan s on _ not_due not_leave not_lease = refl
+-- an act of this variant
+abbrev Is : {A : Type 0} → (A → Act) → Act → Type 0
+Is make act = (a : _) × (act ≡ make a)
+
+-- an act that spends nothing beside documents
+abbrev IsPlain : Act → Type 0
+IsPlain act =
+    Is Adopt act ⊎ (Is Amend act ⊎ (Is Transfer act ⊎ (Is Requisition act ⊎ (Is Withdraw act ⊎ (Is Order act ⊎ (Is ChangeOrder act ⊎ (Is CancelOrder act ⊎ (Is Voucher act ⊎ (Is VoidVoucher act
+    ⊎ (Is Pay act ⊎ (Is Bill act ⊎ (Is Collect act ⊎ (Is Receive act ⊎ (Is WriteOff act ⊎ (Is Asset act ⊎ (Is Issue act ⊎ (Is Interfund act ⊎ Is Close act)))))))))))))))))
+
+-- its moves are those of its documents
+by_documents : (plan : Plan) (s : Registers) (on : Day) (act : Act) → IsPlain act → act_moves plan s on act ≡ document_moves plan s.documents (document_number s.documents act) on act
+by_documents plan s on (PayDue d) is = grind arith
+by_documents plan s on (Leave l) is = grind arith
+by_documents plan s on (Lease l) is = grind arith
+by_documents plan s on _ is = refl
 
 same_length : (xs : List Spending) → length (map spending_move xs) ≡ length xs
 same_length [] = refl
 same_length (x ∷ xs) = ap suc (same_length xs)
 
 -- .. and what is spent beside them
-by_spendings : (plan : Plan) (s : Registers) (on : Day) (act : Act) → ((d : DebtPayment) × (act ≡ PayDue d)) ⊎ (((l : LeaveAct) × (act ≡ Leave l)) ⊎ ((l : NewLease) × (act ≡ Lease l))) → length (act_moves plan s on act) ≡ length (spendings_by plan s on act)
+by_spendings : (plan : Plan) (s : Registers) (on : Day) (act : Act) → Is PayDue act ⊎ (Is Leave act ⊎ Is Lease act) → length (act_moves plan s on act) ≡ length (spendings_by plan s on act)
 by_spendings plan s on act (inl due) =
     ap (λ (a : Act). length (act_moves plan s on a)) due.1 ∙ same_length (spendings_by plan s on (PayDue due.0)) ∙ ap (λ (a : Act). length (spendings_by plan s on a)) (sym due.1)
 by_spendings plan s on act (inr (inr lease)) =
@@ -35,8 +41,8 @@ by_spendings plan s on act (inr (inr lease)) =
 by_spendings plan s on act (inr (inl leave)) =
     ap (λ (a : Act). length (act_moves plan s on a)) leave.1 ∙ same_length (spendings_by plan s on (Leave leave.0)) ∙ ap (λ (a : Act). length (spendings_by plan s on a)) (sym leave.1)
 
-pub returns-in_default : goal.returns-in_default
-returns-in_default c =
+pub returns-in-Adopt : goal.returns-in-Adopt
+returns-in-Adopt c =
     let plan = c.args.chart.now in
     let s = c.args.registers.now.registers in
     let act = c.args.act.now in
@@ -44,7 +50,7 @@ returns-in_default c =
       value = λ on.
           c.moves.ensures.value plan (document_number s.documents act) on
           ∙ ap (λ (d : Documents). length (document_moves plan d (document_number s.documents act) on act)) c.orders.ensures
-          ∙ ap length (sym (by_documents plan s on act c.in_default.not-PayDue c.in_default.not-Leave c.in_default.not-Lease));
+          ∙ ap length (sym (by_documents plan s on act c.in-Adopt.is));
       few = c.moves.ensures.few;
     }
 
