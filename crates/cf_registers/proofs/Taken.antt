@@ -4,7 +4,7 @@ use Rattle.std.specs.List.{filter}
 use Rattle.std.proofs.lemmas.Bool.Decides.{leb_tells}
 use Rattle.cf_base.specs.declared.calendar.Day.{Day}
 use Rattle.cf_calls.specs.declared.acts.Act.{Act}
-use Rattle.cf_calls.specs.declared.acts.Act.TheVariants.{Voucher, VoidVoucher, Asset, Issue, PayDue, Close, Lease}
+use Rattle.cf_calls.specs.declared.acts.Act.TheVariants.{Requisition, Order, Voucher, VoidVoucher, Bill, Asset, Issue, PayDue, Close, Lease}
 use Rattle.cf_calls.specs.declared.acts.AssetAct.TheVariants.{Donate, Dispose}
 use Rattle.cf_calls.specs.declared.entry.Drawn.{Drawn}
 use Rattle.cf_calls.specs.declared.entry.Entry.{Entry}
@@ -14,21 +14,22 @@ use Rattle.cf_calls.specs.declared.reply.Made.{Made}
 use Rattle.cf_chart.specs.Plan.{Plan}
 use Rattle.cf_model.specs.Calendar.{document_year, open_year, rolled_year, year_of_day}
 use Rattle.cf_model.specs.DocumentRules.{document_refusal}
-use Rattle.cf_model.specs.Documents.{Documents, documents_of, documents_step, is_number}
+use Rattle.cf_model.specs.Documents.{Documents, documents_of, is_number}
 use Rattle.cf_model.specs.Months.{number_of_day}
 use Rattle.cf_model.specs.Moves.{moves_of}
 use Rattle.cf_model.specs.ReceivableRules.{receivable_refusal}
-use Rattle.cf_model.specs.Receivables.{Receivables, Bill, bills_by, loans_by, receivables_step, repayments_by, settlements_by}
+use Rattle.cf_model.specs.Receivables.{Receivables}
 use Rattle.cf_model.specs.RegisterRules.{asset_refusal, debt_refusal, disposed_asset, voided_asset, levy_refusal, payment_year, register_name_refusal, unknown_bond, unknown_payment}
 use Rattle.cf_model.specs.Registers.{Registers, registers_of, registers_step, no_registers}
-use Rattle.cf_model.specs.Results.{bill_draws, bond_at, document_draws, draws, made_of, results_of}
+use Rattle.cf_model.specs.Results.{bond_at, draws, made_of, payment_number, results_of}
 use Rattle.cf_model.specs.Rules.{closed_refusal, closed_year, first_refusal, or_else}
 use Rattle.cf_model.specs.Step.{Adds, IsLegal}
 use Rattle.cf_model.proofs.Accepted.{accepted, accepted_fits}
-use Rattle.cf_debt.specs.Register.{IsEarlyIssue, IsThere, debt_draws, Debts}
+use Rattle.cf_debt.specs.Register.{IsEarlyIssue, IsThere, Debts}
+use Rattle.cf_debt.specs.Register as debt
 use Rattle.cf_assets.specs.Register as assets
 use Rattle.cf_model.specs.Assets.{Asset as CapitalAsset, voucher_of}
-use Rattle.cf_model.specs.Bonds.{bonds_by}
+use Rattle.cf_model.specs.Bonds.{Bond}
 use Rattle.cf_model.proofs.AssetNumbers.{assets_named}
 use Rattle.cf_model.proofs.BondNumbers.{named_always}
 use Rattle.cf_model.proofs.OpenYears.{years_are}
@@ -37,11 +38,9 @@ use Rattle.cf_model.proofs.First.{or_else_none, refuse_none}
 use Rattle.cf_model.proofs.Lawful.{IsWhole}
 use Rattle.cf_model.proofs.LegalMonths.{closed_are}
 use Rattle.cf_model.proofs.MonthNumbers.{day_year_is, early}
-use Rattle.cf_model.proofs.OwnNumbers.{drawn_bills}
 use Rattle.cf_model.proofs.Pushes.{documents_are, registers_push, results_push}
-use Rattle.cf_model.proofs.Tidy.{after_act, by_own_number}
-use Rattle.cf_orders.specs.Register.{entry_for}
-use Rattle.cf_revenue.specs.Register.{entry_for as bill_entry}
+use Rattle.cf_orders.specs.Register as orders
+use Rattle.cf_revenue.specs.Register as revenue
 use Rattle.cf_registers.specs.Moved.{IsCleared, act_moves}
 use Rattle.cf_registers.specs.Numbered.{AreNumbered}
 use Rattle.cf_registers.specs.RegistersState.{RegistersState, HasRoomFor, HaveTaken, CanTakeIn}
@@ -128,38 +127,6 @@ pub made_in : (plan : Plan) (h : List Entry) (e : Entry) (old new : List Made) (
 made_in plan h e old new made s was registers is pushed =
     pushed ∙ (λ i. was i ++ (is ∙ ap (λ (r : Registers). made_of plan r e) registers) i ∷ []) ∙ sym (results_push plan h e)
 
--- the documents depend on their own numbers alone
-pub documents_drawn : (plan : Plan) (s : Registers) (e : Entry) (drawn : Drawn) → drawn ≡ document_draws s.documents e.change.act → e.drawn ≡ draws s e.change.act →
-    documents_step plan s.documents (entry_for e.change.desk e.change.on e.change.act drawn) ≡ documents_step plan s.documents e
-documents_drawn plan s e drawn own is =
-    ap (λ (d : Drawn). after_act plan s.documents d.number e.change.desk e.change.on (document_year plan e.change.on e.change.act) e.change.act) own
-    ∙ sym (by_own_number plan s e.change.desk e.change.on (document_year plan e.change.on e.change.act) e.change.act)
-    ∙ ap (λ (d : Drawn). after_act plan s.documents d.number e.change.desk e.change.on (document_year plan e.change.on e.change.act) e.change.act) (sym is)
-
--- so do the receivables
-pub receivables_drawn : (plan : Plan) (s : Registers) (e : Entry) (drawn : Drawn) → drawn ≡ bill_draws s.receivables e.change.act → e.drawn ≡ draws s e.change.act →
-    receivables_step plan s.receivables (bill_entry e.change.desk e.change.on e.change.act drawn) ≡ receivables_step plan s.receivables e
-receivables_drawn plan s e drawn own is =
-    let r = s.receivables in
-    let bills = ap (λ (d : Drawn). bills_by d.number e.change.act) own ∙ sym (drawn_bills s e.change.act) ∙ ap (λ (d : Drawn). bills_by d.number e.change.act) (sym is) in
-    ap (λ (new : List Bill). let x : Receivables = record {
-      bills = r.bills ++ new;
-      settlements = r.settlements ++ settlements_by plan r.bills e.change.on e.change.act;
-      loans = r.loans ++ loans_by e.change.act;
-      repayments = r.repayments ++ repayments_by e.change.act;
-    } in x) bills
-
--- so do the bonds
-bonds_numbered : (plan : Plan) (s : Registers) (on : Day) (a : Act) → bonds_by plan on a (debt_draws s.bonds a) ≡ bonds_by plan on a (draws s a)
-bonds_numbered plan s on (Issue i) = refl
-bonds_numbered plan s on (Lease l) = refl
-bonds_numbered plan s on _ = refl
-
-pub bonds_drawn : (plan : Plan) (s : Registers) (e : Entry) (drawn : Drawn) → drawn ≡ debt_draws s.bonds e.change.act → e.drawn ≡ draws s e.change.act →
-    bonds_by plan e.change.on e.change.act drawn ≡ bonds_by plan e.change.on e.change.act e.drawn
-bonds_drawn plan s e drawn own is =
-    ap (bonds_by plan e.change.on e.change.act) own ∙ bonds_numbered plan s e.change.on e.change.act ∙ ap (bonds_by plan e.change.on e.change.act) (sym is)
-
 -- the month of an issue or of a lease isn't closed
 pub early_issue : (plan : Plan) (d : Debts) (on : Day) (a : Act) → d.closed ≤ number_of_day plan on → IsEarlyIssue plan d on a
 early_issue plan d on (Issue i) early = early
@@ -173,16 +140,33 @@ asset_same s t on (Asset (Donate d)) assets closed = refl
 asset_same s t on (Asset (Dispose d)) assets closed = ap (λ (xs : List CapitalAsset). first_refusal (disposed_asset on) (filter (λ a. a.number == d.asset) xs)) assets
 asset_same s t on _ assets closed = refl
 
--- the numbers that an act draws are the next of the registers
-pub next_numbers : (s : Registers) (r : assets.Register) (a : Act) (drawn : Drawn) → assets.IsOf s r → r.vouchers ≡ s.documents.vouchers → drawn ≡ draws s a → assets.IsNext a drawn r
-next_numbers s r (Voucher v) drawn of vouchers is = record {
+-- ---- the numbers that an act draws are the next of each register
+
+pub next_documents : (s : Registers) (a : Act) (drawn : Drawn) → drawn ≡ draws s a → orders.IsNext a drawn s.documents
+next_documents s (Requisition r) drawn is = ap (λ (d : Drawn). d.number) is
+next_documents s (Order o) drawn is = ap (λ (d : Drawn). d.number) is
+next_documents s (Voucher v) drawn is = ap (λ (d : Drawn). d.number) is
+next_documents s _ drawn is = tt
+
+pub next_bills : (s : Registers) (r : revenue.Register) (a : Act) (drawn : Drawn) → s.receivables ≡ r.receivables → drawn ≡ draws s a → revenue.IsNext a drawn r
+next_bills s r (Bill l) drawn of is = ap (λ (d : Drawn). d.number) is ∙ ap (λ (x : Receivables). length x.bills + 1) of
+next_bills s r _ drawn of is = tt
+
+pub next_assets : (s : Registers) (r : assets.Register) (a : Act) (drawn : Drawn) → assets.IsOf s r → r.vouchers ≡ s.documents.vouchers → drawn ≡ draws s a → assets.IsNext a drawn r
+next_assets s r (Voucher v) drawn of vouchers is = record {
   voucher = ap (λ (d : Drawn). d.number) is ∙ ap (λ n. n + 1) (sym vouchers);
   asset = ap (λ (d : Drawn). d.second) is ∙ ap (λ (xs : List CapitalAsset). length xs + 1) of.assets;
 }
-next_numbers s r (Asset (Donate d)) drawn of vouchers is = ap (λ (x : Drawn). x.number) is ∙ ap (λ (xs : List CapitalAsset). length xs + 1) of.assets
-next_numbers s r (Asset (Dispose d)) drawn of vouchers is = tt
-next_numbers s r (Lease l) drawn of vouchers is = ap (λ (x : Drawn). x.number) is ∙ ap (λ (xs : List CapitalAsset). length xs + 1) of.assets
-next_numbers s r _ drawn of vouchers is = tt
+next_assets s r (Asset (Donate d)) drawn of vouchers is = ap (λ (x : Drawn). x.number) is ∙ ap (λ (xs : List CapitalAsset). length xs + 1) of.assets
+next_assets s r (Asset (Dispose d)) drawn of vouchers is = tt
+next_assets s r (Lease l) drawn of vouchers is = ap (λ (x : Drawn). x.number) is ∙ ap (λ (xs : List CapitalAsset). length xs + 1) of.assets
+next_assets s r _ drawn of vouchers is = tt
+
+pub next_bonds : (s : Registers) (r : debt.Register) (a : Act) (drawn : Drawn) → s.bonds ≡ r.debts.bonds → drawn ≡ draws s a → debt.IsNext a drawn r
+next_bonds s r (Issue i) drawn of is = ap (λ (d : Drawn). d.number) is ∙ ap (λ (bonds : List Bond). length bonds + 1) of
+next_bonds s r (Lease l) drawn of is = ap (λ (d : Drawn). d.second) is ∙ ap (λ (bonds : List Bond). length bonds + 1) of
+next_bonds s r (PayDue p) drawn of is = ap (λ (d : Drawn). d.number) is ∙ ap (λ (bonds : List Bond). payment_number (bond_at p.bond bonds)) of
+next_bonds s r _ drawn of is = tt
 
 -- the moves of an act that rolls no year are those of its documents, or what it spends beside them
 pub moves_drawn : (plan : Plan) (s : Registers) (on : Day) (act : Act) → rolled_year plan act ≡ None → moves_of plan s (draws s act).number on act ≡ act_moves plan s on act

@@ -21,7 +21,7 @@ use std::alloc::{AllocError, Global};
 use std::marker::Model;
 
 /// The registers that the entries of a history make. Each register has the calls `check`,
-/// `reserve`, `draws`, `apply` and `look`, with parameters of its own; the office speaks to all of
+/// `reserve`, `draws`, `apply` and `look`, with the same parameters; the office speaks to all of
 /// them through this type. An act that no register knows leaves them as they are.
 pub struct Registers {
     orders: Orders,
@@ -111,7 +111,7 @@ impl Registers {
         self.orders
             .check(chart, on, desk, act)
             .or_else(|| self.revenue.check(chart, on, desk, act))
-            .or_else(|| self.assets.check(chart, on, act))
+            .or_else(|| self.assets.check(chart, on, desk, act))
             .or_else(|| self.debt.check(chart, on, desk, act))
     }
 
@@ -196,25 +196,22 @@ impl Registers {
         }
     }
 
-    /// Takes in an entry that the rules accept. It takes no memory, as that was reserved.
+    /// Takes in an entry that the rules accept, with the numbers that it drew: each register is
+    /// given the entry. It takes no memory, as that was reserved.
     pub fn apply(&mut self, chart: &Chart, entry: &Entry)
         requires { CanTakeIn chart.now self.old entry.now }
         ensures registers { self.new.registers
             ≡ registers_step chart.now self.old.registers entry.now }
         ensures taken { (n : ℕ) → HaveTaken n self.old → HaveTaken (n + 1) self.new }
     {
-        let change = &entry.change;
-        self.orders
-            .apply(chart, change.on, change.desk, &change.act);
-        self.revenue
-            .apply(chart, change.on, change.desk, &change.act);
-        self.assets
-            .apply(chart, change.on, &change.act, entry.drawn);
-        self.debt.apply(chart, change.on, change.desk, &change.act);
+        self.orders.apply(chart, entry);
+        self.revenue.apply(chart, entry);
+        self.assets.apply(chart, entry);
+        self.debt.apply(chart, entry);
     }
 
     /// What a look at a document, a bill, an asset, a bond or leave shows, or nothing where there
-    /// is none of its number.
+    /// is none of its number, and at other looks.
     pub fn look(
         &self,
         alloc: Global,
@@ -224,11 +221,16 @@ impl Registers {
         ensures { IfOk result (λ s. s ≡ register_shown chart.now self.now.registers read.now) }
     {
         match read {
-            Read::Bill { .. } => Ok(self.revenue.look(read)),
-            Read::Asset { .. } => Ok(self.assets.look(read)),
-            Read::Bond { .. } => Ok(self.debt.look(chart, read)),
-            Read::Leave { .. } => Ok(self.debt.look(chart, read)),
-            _ => self.orders.look(alloc, chart, read),
+            Read::Requisition { .. } | Read::Order { .. } | Read::Voucher { .. } => {
+                self.orders.look(alloc, chart, read)
+            }
+            Read::Bill { .. } => self.revenue.look(alloc, chart, read),
+            Read::Asset { .. } => self.assets.look(alloc, chart, read),
+            Read::Bond { .. } | Read::Leave { .. } => self.debt.look(alloc, chart, read),
+            Read::Line { .. }
+            | Read::Account { .. }
+            | Read::Reconcile { .. }
+            | Read::Report { .. } => Ok(None),
         }
     }
 }
