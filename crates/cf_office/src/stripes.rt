@@ -56,6 +56,14 @@ fn mark_rows(rows: &[LineAmount], marks: &mut [bool; 8])
     }
 }
 
+/// Marks the stripes of the lines of an item's account.
+fn mark_item(chart: &Chart, item: &AccountItem, marks: &mut [bool; 8])
+    ensures { (k : ℕ) → k < 8
+        → mark_at marks.new k ≡ (mark_at marks.old k || spec.is_item_in chart.now k item.now) }
+{
+    mark_account(chart, item.fund, item.dept, item.object, marks);
+}
+
 /// Marks the stripes of accounts' lines.
 fn mark_items(chart: &Chart, items: &[AccountItem], marks: &mut [bool; 8])
     ensures { (k : ℕ) → k < 8
@@ -63,7 +71,7 @@ fn mark_items(chart: &Chart, items: &[AccountItem], marks: &mut [bool; 8])
         ≡ (mark_at marks.old k || list_any (spec.is_item_in chart.now k) items.now) }
 {
     for item in items {
-        mark_account(chart, item.fund, item.dept, item.object, marks);
+        mark_item(chart, item, marks);
     }
 }
 
@@ -74,8 +82,7 @@ fn mark_voucher(chart: &Chart, items: &[VoucherItem], marks: &mut [bool; 8])
         ≡ (mark_at marks.old k || list_any (λ i. spec.is_item_in chart.now k i.account) items.now) }
 {
     for item in items {
-        let account = &item.account;
-        mark_account(chart, account.fund, account.dept, account.object, marks);
+        mark_item(chart, &item.account, marks);
     }
 }
 
@@ -84,8 +91,9 @@ fn mark_leave(chart: &Chart, act: &LeaveAct, marks: &mut [bool; 8])
     ensures { (k : ℕ) → k < 8
         → mark_at marks.new k ≡ (mark_at marks.old k || spec.leave_touches chart.now k act.now) }
 {
-    if let LeaveAct::Mature(l) = act {
-        mark_account(chart, l.fund, l.dept, l.object, marks);
+    match act {
+        LeaveAct::Mature(l) => mark_account(chart, l.fund, l.dept, l.object, marks),
+        LeaveAct::Earn(_) | LeaveAct::Use(_) => {}
     }
 }
 
@@ -114,22 +122,20 @@ pub fn touched_stripes(chart: &Chart, act: &Act) -> [bool; 8]
             mark_account(chart, p.fund, p.dept, p.interest, &mut marks);
         }
         Act::Leave(l) => mark_leave(chart, l, &mut marks),
-        Act::Lease(l) => {
-            let account = &l.account;
-            mark_account(
-                chart,
-                account.fund,
-                account.dept,
-                account.object,
-                &mut marks,
-            );
-        }
+        Act::Lease(l) => mark_item(chart, &l.account, &mut marks),
         Act::Order(_)
         | Act::Withdraw(_)
         | Act::CancelOrder(_)
         | Act::VoidVoucher(_)
         | Act::Close(_) => marks = ALL,
-        _ => {}
+        Act::Pay(_)
+        | Act::Bill(_)
+        | Act::Collect(_)
+        | Act::Receive(_)
+        | Act::WriteOff(_)
+        | Act::Asset(_)
+        | Act::Issue(_)
+        | Act::Interfund(_) => {}
     }
     marks
 }
@@ -142,7 +148,15 @@ fn read_by(read: &Read) -> [bool; 8]
     match *read {
         Read::Line { line, year: _ } => mark(line, &mut marks),
         Read::Report { .. } => marks = ALL,
-        _ => {}
+        Read::Requisition { .. }
+        | Read::Order { .. }
+        | Read::Voucher { .. }
+        | Read::Bill { .. }
+        | Read::Asset { .. }
+        | Read::Bond { .. }
+        | Read::Leave { .. }
+        | Read::Account { .. }
+        | Read::Reconcile { .. } => {}
     }
     marks
 }

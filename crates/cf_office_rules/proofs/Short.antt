@@ -9,7 +9,6 @@ use Rattle.cf_calls.specs.declared.acts.DebtPayment.{DebtPayment}
 use Rattle.cf_calls.specs.declared.acts.FundMove.{FundMove}
 use Rattle.cf_calls.specs.declared.acts.LeaveAct.TheVariants.{Earn, Use, Mature}
 use Rattle.cf_calls.specs.declared.acts.LeaveMaturity.{LeaveMaturity}
-use Rattle.cf_calls.specs.declared.acts.Payment.{Payment}
 use Rattle.cf_calls.specs.declared.entry.Entry.{Entry}
 use Rattle.cf_calls.specs.declared.names.NameKind.TheVariants as kind
 use Rattle.cf_calls.specs.declared.refusal.Refusal.{Refusal}
@@ -148,13 +147,20 @@ payment_short plan h on p alone named =
     taken : (fund : ℕ) → cash_taken (registers_of plan h) fund (PayDue p) ≡ (if p.fund == fund then due_amount (due_now plan (bond_at p.bond (registers_of plan h).bonds)) else 0)
     taken fund = ap (λ (bonds : List Bond). sum_by (λ b. if p.fund == fund then due_cash b (next_due b) else 0) bonds) alone ∙ due_taken plan fund p.fund (bond_at p.bond (registers_of plan h).bonds)
 
--- every other act takes no cash
-pub nothing_short : (plan : Plan) (h : List Entry) (act : Act) → ((p : Payment) → act ≡ Pay p → ⊥) → ((p : DebtPayment) → act ≡ PayDue p → ⊥) → ((l : LeaveMaturity) → act ≡ Leave (Mature l) → ⊥) →
-    ((m : FundMove) → act ≡ Interfund m → ⊥) → None ≡ cash_refusal plan h act
-nothing_short plan h (Pay p) pays dues leaves moves = absurd (pays p refl)
-nothing_short plan h (PayDue p) pays dues leaves moves = absurd (dues p refl)
-nothing_short plan h (Leave (Earn l)) pays dues leaves moves = sym (none_short plan h plan.funds)
-nothing_short plan h (Leave (Use l)) pays dues leaves moves = sym (none_short plan h plan.funds)
-nothing_short plan h (Leave (Mature l)) pays dues leaves moves = absurd (leaves l refl)
-nothing_short plan h (Interfund m) pays dues leaves moves = absurd (moves m refl)
-nothing_short plan h _ pays dues leaves moves = sym (none_short plan h plan.funds)
+-- whether an act takes cash of a fund
+abbrev pub takes_cash : Act → Bool
+takes_cash (Pay p) = true
+takes_cash (PayDue p) = true
+takes_cash (Leave (Mature l)) = true
+takes_cash (Interfund m) = true
+takes_cash _ = false
+
+-- no fund is short for an act that takes none
+pub nothing_short : (plan : Plan) (h : List Entry) (act : Act) → takes_cash act ≡ false → None ≡ cash_refusal plan h act
+nothing_short plan h (Pay p) none = cc
+nothing_short plan h (PayDue p) none = cc
+nothing_short plan h (Leave (Earn l)) none = sym (none_short plan h plan.funds)
+nothing_short plan h (Leave (Use l)) none = sym (none_short plan h plan.funds)
+nothing_short plan h (Leave (Mature l)) none = cc
+nothing_short plan h (Interfund m) none = cc
+nothing_short plan h _ none = sym (none_short plan h plan.funds)

@@ -103,6 +103,23 @@ pub fn cash_refusal(history: &History, on: Day, act: &Act) -> Option<Refusal>
         Act::Leave(leave) => leave_refusal(history, on, leave),
         Act::Pay(payment) => paid_refusal(history, payment.vouchers.as_slice()),
         Act::PayDue(payment) => payment_refusal(history, on, payment),
-        _ => None,
+        Act::Adopt(_)
+        | Act::Amend(_)
+        | Act::Transfer(_)
+        | Act::Requisition(_)
+        | Act::Withdraw(_)
+        | Act::Order(_)
+        | Act::ChangeOrder(_)
+        | Act::CancelOrder(_)
+        | Act::Voucher(_)
+        | Act::VoidVoucher(_)
+        | Act::Bill(_)
+        | Act::Collect(_)
+        | Act::Receive(_)
+        | Act::WriteOff(_)
+        | Act::Asset(_)
+        | Act::Issue(_)
+        | Act::Close(_)
+        | Act::Lease(_) => None,
     }
 }

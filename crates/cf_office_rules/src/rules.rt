@@ -50,7 +50,7 @@ pub fn ahead_refusal(after: Option<u64>, length: u64) -> Option<Refusal>
 {
     match after {
         Some(after) if length < after => Some(Refusal::Ahead { after, length }),
-        _ => None,
+        Some(_) | None => None,
     }
 }
 

@@ -1,4 +1,4 @@
-use Rattle.std.proofs.Common.{◌≡◌, None, sym, ap, subst, ◌∙◌}
+use Rattle.std.proofs.Common.{◌≡◌, None, refl, sym, ap, subst, ◌∙◌}
 use Rattle.cf_calls.specs.declared.acts.Act.TheVariants.{Leave}
 use Rattle.cf_calls.specs.declared.acts.LeaveAct.{LeaveAct}
 use Rattle.cf_calls.specs.declared.acts.LeaveAct.TheVariants.{Earn, Use}
@@ -18,10 +18,10 @@ pub returns-in-Earn : goal.returns-in-Earn
 returns-in-Earn c =
     let plan = c.args.history.now.plan in
     let h = c.args.history.now.entries in
-    subst (λ (x : LeaveAct). None ≡ cash_refusal plan h (Leave x)) (sym c.in-Earn.is) (nothing_short plan h (Leave (Earn c.in-Earn.field-0)) (λ p e. cc) (λ p e. cc) (λ l e. cc) (λ m e. cc))
+    subst (λ (x : LeaveAct). None ≡ cash_refusal plan h (Leave x)) (sym c.in-Earn.is) (nothing_short plan h (Leave (Earn c.in-Earn.field-0)) refl)
 
 pub returns-in-Use : goal.returns-in-Use
 returns-in-Use c =
     let plan = c.args.history.now.plan in
     let h = c.args.history.now.entries in
-    subst (λ (x : LeaveAct). None ≡ cash_refusal plan h (Leave x)) (sym c.in-Use.is) (nothing_short plan h (Leave (Use c.in-Use.field-0)) (λ p e. cc) (λ p e. cc) (λ l e. cc) (λ m e. cc))
+    subst (λ (x : LeaveAct). None ≡ cash_refusal plan h (Leave x)) (sym c.in-Use.is) (nothing_short plan h (Leave (Use c.in-Use.field-0)) refl)
