@@ -1,6 +1,7 @@
 //! The rules in their order, over what a history keeps: the verdict on a change.
 #![tactic(auto)]
 
+mod budgets;
 mod cash;
 mod exceeds;
 mod names;

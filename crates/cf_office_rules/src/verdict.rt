@@ -12,14 +12,14 @@ ghost use Rattle.cf_model.specs.Rules as rules;
 ghost use Rattle.cf_model.specs.Step as step;
 ghost use Rattle.cf_registers.specs.RegistersState.{register_rules};
 
+use crate::budgets::{adopted_refusal, payment_refusal, unadopted_refusal};
 use crate::cash::cash_refusal;
 use crate::exceeds::exceed_refusal;
 use crate::names::name_refusal;
 use crate::register_names::register_name_refusal;
 use crate::rules::{
-    adopted_refusal, ahead_refusal, amount_refusal, closed_refusal, closing_refusal, desk_refusal,
-    full_refusal, levy_refusal, or, payment_refusal, period_refusal, role_refusal,
-    unadopted_refusal, year_refusal,
+    ahead_refusal, amount_refusal, closed_refusal, closing_refusal, desk_refusal, full_refusal,
+    levy_refusal, or, period_refusal, role_refusal, year_refusal,
 };
 use crate::windows::window_refusal;
 use cf_calls::{Change, Refusal, Verdict};

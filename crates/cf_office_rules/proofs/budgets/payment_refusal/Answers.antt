@@ -7,7 +7,7 @@ use Rattle.cf_model.specs.Results.{bond_at}
 use Rattle.cf_model.specs.Rules.{first_refusal}
 use Rattle.cf_model.proofs.BondNumbers.{named_always}
 use Rattle.cf_office_rules.proofs.Dues.{due_over, no_unadopted, paid_unadopted}
-use Rattle.cf_office_rules.proofs.rules.payment_refusal.Goals as goal
+use Rattle.cf_office_rules.proofs.budgets.payment_refusal.Goals as goal
 
 pub returns-in-Some : goal.returns-in-Some
 returns-in-Some c =
