@@ -91,6 +91,7 @@ fn leave_refusal(history: &History, on: Day, act: &LeaveAct) -> Option<Refusal>
 }
 
 /// The least fund of which a change takes more cash than it has.
+#[tactic(auto, using(crate::proofs::Short::nothing_short))]
 pub fn cash_refusal(history: &History, on: Day, act: &Act) -> Option<Refusal>
     requires names { name_refusal history.now.plan
         (documents_of history.now.plan history.now.entries) on act.now ≡ None }

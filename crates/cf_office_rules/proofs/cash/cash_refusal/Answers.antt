@@ -1,8 +1,8 @@
-use Rattle.std.proofs.Common.{rules, ◌≡◌, false, sym, ◌∙◌, ap}
+use Rattle.std.proofs.Common.{◌≡◌, sym, ◌∙◌, ap}
 use Rattle.cf_calls.specs.declared.acts.Act.TheVariants.{Pay}
 use Rattle.cf_model.specs.Cash.{cash_short, cash_refusal}
 use Rattle.cf_model.specs.Postings.{cash_of}
-use Rattle.cf_office_rules.proofs.Short.{moved_short, nothing_short, takes_cash}
+use Rattle.cf_office_rules.proofs.Short.{moved_short}
 use Rattle.cf_office_rules.proofs.cash.cash_refusal.Goals as goal
 
 pub returns-in-Interfund : goal.returns-in-Interfund
@@ -16,8 +16,3 @@ pub returns-in-Pay : goal.returns-in-Pay
 returns-in-Pay c =
     let same : Pay (record { vouchers = c.as_slice.result.now }) ≡ c.args.act.now = ap (λ vouchers. Pay (record { vouchers = vouchers })) c.as_slice.ensures ∙ sym c.in-Pay.is in
     c.paid_refusal.ensures ∙ ap (cash_refusal c.args.history.now.plan c.args.history.now.entries) same
-
-pub returns-in-Adopt : goal.returns-in-Adopt
-returns-in-Adopt c =
-    let none : takes_cash c.args.act.now ≡ false = search rules in
-    nothing_short c.args.history.now.plan c.args.history.now.entries c.args.act.now none
