@@ -78,6 +78,7 @@ fn payment_refusal(history: &History, on: Day, payment: &DebtPayment) -> Option<
 }
 
 /// The fund that pays leave out has less cash than that.
+#[tactic(auto, using(crate::proofs::Short::nothing_short))]
 fn leave_refusal(history: &History, on: Day, act: &LeaveAct) -> Option<Refusal>
     requires { register_name_refusal history.now.plan
         (registers_of history.now.plan history.now.entries) on (Act.Leave act.now) ≡ None }
