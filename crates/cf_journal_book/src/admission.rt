@@ -12,6 +12,7 @@ pub(crate) fn kept(posted: &Posted) -> Admission
 {
     match posted {
         Posted::Disk => Admission::Disk,
-        _ => Admission::NoMemory,
+        Posted::NoMemory => Admission::NoMemory,
+        Posted::Reply(_) => Admission::NoMemory,
     }
 }
