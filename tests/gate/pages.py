@@ -6,7 +6,8 @@
 It checks that
 - crates.txt has a crate below those that it uses, and names the libraries that files of the crate name, and
   no others; docs/ARCHITECTURE.md lists the same crates in the same groups and order;
-- each file and each name of the tables of docs/NEW-CALL.md is there, and its counts are right;
+- each file and each name of the tables of docs/NEW-CALL.md is there, its counts are right, and its files of source
+  are, in the order of crates.txt, those with a match on acts, and others;
 - a page, a heading of a page, a script or a folder that a page names is there;
 - no two pages share a run of nine words, and no line is longer than 100 columns. Rows of tables,
   lines of code and headings are left aside; of docs/CLAUSES.md every line counts;
@@ -104,31 +105,58 @@ def where(span):
     return next((path for path in (span, f"crates/{span}") if os.path.exists(os.path.join(TOP, path))), None)
 
 
-def call_faults():
-    page = read("docs/NEW-CALL.md")
+def cells(page):
+    """The files of each cell of a page's tables, each with the names after it. A file alone lies beside the one before it."""
     for line in page.split("\n"):
         if not line.startswith("| ") or "." not in line:
             continue
         for cell in line.strip("|").split(" | "):
-            path = None
+            path = ""
             for span in re.findall(r"`([^`]+)`", cell):
                 if re.fullmatch(r"[\w./-]+/[\w./-]+", span):
-                    path = where(span)
-                    if path is None:
-                        yield f"docs/NEW-CALL.md: no file {span}"
-                elif path and os.path.isfile(os.path.join(TOP, path)) and re.fullmatch(r"\w+", span) and not has_name(path, span):
-                    yield f"docs/NEW-CALL.md: {path} has no {span}"
+                    path = where(span) or span
+                    yield path, None
+                elif path and re.fullmatch(r"[\w-]+\.\w+", span):
+                    path = os.path.join(os.path.dirname(path), span)
+                    yield path, None
+                elif path and re.fullmatch(r"\w+", span):
+                    yield path, span
+
+
+def call_faults():
+    page = read("docs/NEW-CALL.md")
+    for path, name in cells(page):
+        if not os.path.exists(os.path.join(TOP, path)):
+            yield f"docs/NEW-CALL.md: no file {path}"
+        elif name and os.path.isfile(os.path.join(TOP, path)) and not has_name(path, name):
+            yield f"docs/NEW-CALL.md: {path} has no {name}"
     numbers = [str(counted(word, kind)) for word in ("Receive", "Lease") for kind in ("src", "specs", "proofs")]
     said = re.search(r"stands in (\d+) files of source, (\d+) of definitions and (\d+) of proofs; `lease` in (\d+), (\d+)\s+and (\d+)", spaced(page))
     if not said or list(said.groups()) != numbers:
         yield f"docs/NEW-CALL.md: receive and lease stand in {', '.join(numbers)} files"
+    yield from match_faults(page)
+
+
+def match_faults(page):
+    """What the page says of the matches on acts and kinds, of their files, and of the definitions."""
     whole, silent = matches()
-    said = re.search(r"Of (\d+) matches on `Act` (\d+) list every act", spaced(page))
-    if not said or said.groups() != (str(len(whole) + len(silent)), str(len(whole))):
-        yield f"docs/NEW-CALL.md: of {len(whole) + len(silent)} matches on Act {len(whole)} list every act"
-    for name in silent:
+    files_of = {path for path, _ in whole}
+    said = re.search(r"Of (\d+) matches on `Act` or `ActKind` (\d+) list all (\d+)\.\*\* Of their (\d+) files", spaced(page))
+    numbers = [len(whole) + len(silent), len(whole), len(variants("Act")), len(files_of)]
+    if not said or [int(one) for one in said.groups()] != numbers:
+        yield f"docs/NEW-CALL.md: of {numbers[0]} matches {numbers[1]} list all {numbers[2]}, in {numbers[3]} files"
+    if not re.search(rf"Of the definitions {definitions()} list all", spaced(page)):
+        yield f"docs/NEW-CALL.md: {definitions()} definitions list all acts or kinds"
+    for _, name in silent:
         if f"`{name}`" not in page:
             yield f"docs/NEW-CALL.md: {name} lists not every act"
+    shown = [path for path, name in cells(page) if path.endswith(".rt") and not name]
+    for path in sorted({path for path, _ in whole + silent}.difference(shown)):
+        yield f"docs/NEW-CALL.md: {path} matches on acts, and no row names it"
+    order = list(crates())
+    places = [order.index(path.split("/")[1]) for path in shown]
+    if places != sorted(places):
+        yield "docs/NEW-CALL.md: its files of source don't stand in the order of crates.txt"
 
 
 def spaced(text):
@@ -141,18 +169,45 @@ def counted(word, kind):
     return sum(1 for path in files(f"crates/*/{kind}/**/*.{kinds[kind]}") if re.search(rf"\b{word}\b", read(path)))
 
 
+# The head of an arm, with brackets in brackets in brackets.
+ARM = re.compile(r"(?:\((?:[^(){}]|\((?:[^(){}]|\([^(){}]*\))*\))*\)|[^{},;=()])+?=>")
+
+
+@functools.cache
+def variants(name):
+    """The variants of an enumeration of cf_calls."""
+    text = "\n".join(read(f"crates/cf_calls/src/{file}.rt") for file in ("acts", "kind"))
+    return frozenset(re.findall(r"^    (\w+)\b[(,]", re.search(rf"^pub enum {name} \{{(.*?)^\}}", text, re.M | re.S).group(1), re.M))
+
+
 def matches():
-    """The functions with a match on acts: those that list every act, and those that end with `_ =>`."""
+    """The functions with a match on acts or their kinds, with their files: those that list all, and those with a default."""
     whole, silent = [], []
     for path in files("crates/*/src/**/*.rt"):
         text = read(path)
         for found in re.finditer(r"\bmatch [^{;]+? \{", text):
             body = text[found.end():closing(text, found.end() - 1)]
-            if not any(re.search(r"\bAct::", arm) for arm in re.findall(r"[^{},;=]+?=>", body)):
+            named = set(re.findall(r"\b(Act|ActKind)::(\w+)", " ".join(ARM.findall(body))))
+            if not named:
                 continue
+            listed = [{one for kind, one in named if kind == name} == variants(name) for name in ("Act", "ActKind")]
             name = re.findall(r"fn (\w+)", text[:found.start()])[-1]
-            (silent if re.search(r"^\s*_ =>", body, re.M) else whole).append(name)
+            (whole if any(listed) else silent).append((path, name))
     return whole, silent
+
+
+@functools.cache
+def definitions():
+    """How many definitions have no line but those that name acts, or kinds, and so name all."""
+    count = 0
+    for path in files("crates/*/specs/**/*.antt"):
+        lines = collections.defaultdict(list)
+        for part in re.split(r"\n(?=\S)", read(path)):
+            head = re.split(r" =\s", part)[0]
+            if head != part and re.match(r"\w+ ", head):
+                lines[head.split()[0]].append(variants("Act").intersection(re.findall(r"\w+", head)))
+        count += sum(1 for found in lines.values() if all(found) and set().union(*found) == variants("Act"))
+    return count
 
 
 def closing(text, start):
