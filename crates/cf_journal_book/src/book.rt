@@ -30,6 +30,7 @@ use cf_budget::Lines;
 use cf_calls::{Call, Entry, Posted, Row};
 use cf_chart::Chart;
 use cf_disk::Disk;
+use cf_follow::Admission;
 use cf_journal::Journal;
 use cf_office::{BookOffice, History, apply_lines};
 use cf_office_looks::report_rows;
