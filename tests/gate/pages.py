@@ -6,8 +6,8 @@
 It checks that
 - crates.txt has a crate below those that it uses, and names the libraries that files of the crate name, and
   no others; docs/ARCHITECTURE.md lists the same crates in the same groups and order;
-- each file and each name of the tables of docs/NEW-CALL.md is there, its counts are right, and its files of source
-  are, in the order of crates.txt, those with a match on acts, and others;
+- each file and each name of the tables of docs/NEW-CALL.md is there, and its counts are right; its files of source
+  have the order of crates.txt, and each file with a match on acts is among them;
 - a page, a heading of a page, a script or a folder that a page names is there;
 - no two pages share a run of nine words, and no line is longer than 100 columns. Rows of tables,
   lines of code and headings are left aside; of docs/CLAUSES.md every line counts;
@@ -23,6 +23,8 @@ import sys
 
 TOP = os.path.join(os.path.dirname(os.path.abspath(__file__)), "..", "..")
 MADE = "docs/CLAUSES.md"
+# The crates whose files with a match on acts are a call's own: what it is, and what reads and writes it.
+OWN = ("cf_calls", "cf_codec", "cf_json", "cf_json_calls")
 # The lines of more than 100 columns that the crates have: printed texts, and tables in comments.
 WIDE = 58
 
@@ -140,21 +142,25 @@ def call_faults():
 def match_faults(page):
     """What the page says of the matches on acts and kinds, of their files, and of the definitions."""
     whole, silent = matches()
-    files_of = {path for path, _ in whole}
-    said = re.search(r"Of (\d+) matches on `Act` or `ActKind` (\d+) list all (\d+)\.\*\* Of their (\d+) files", spaced(page))
-    numbers = [len(whole) + len(silent), len(whole), len(variants("Act")), len(files_of)]
+    files_of = {path for path, _, _ in whole}
+    others = {path for path in files_of if path.split("/")[1] not in OWN}
+    said = re.search(
+        r"Of (\d+) matches on `Act` or `ActKind` (\d+) list all (\d+)\.\*\* Of their (\d+) files (\d+) are the call's own "
+        r"\([\d, ]+\)\. In the other (\d+) `receive` does something in (\d+), and `lease` in (\d+);", spaced(page))
+    numbers = [len(whole) + len(silent), len(whole), len(variants("Act")), len(files_of), len(files_of) - len(others), len(others)]
+    numbers += [len(others & {path for path, _, arms in whole if does(word, arms)}) for word in ("Receive", "Lease")]
     if not said or [int(one) for one in said.groups()] != numbers:
-        yield f"docs/NEW-CALL.md: of {numbers[0]} matches {numbers[1]} list all {numbers[2]}, in {numbers[3]} files"
+        yield f"docs/NEW-CALL.md: matches, those that list all, acts, files, own, others, receive, lease: {numbers}"
     if not re.search(rf"Of the definitions {definitions()} list all", spaced(page)):
         yield f"docs/NEW-CALL.md: {definitions()} definitions list all acts or kinds"
-    for _, name in silent:
+    for _, name, _ in silent:
         if f"`{name}`" not in page:
             yield f"docs/NEW-CALL.md: {name} lists not every act"
     shown = [path for path, name in cells(page) if path.endswith(".rt") and not name]
-    for path in sorted({path for path, _ in whole + silent}.difference(shown)):
+    for path in sorted({path for path, _, _ in whole + silent}.difference(shown)):
         yield f"docs/NEW-CALL.md: {path} matches on acts, and no row names it"
     order = list(crates())
-    places = [order.index(path.split("/")[1]) for path in shown]
+    places = [order.index(path.split("/")[1]) for path in shown if os.path.exists(os.path.join(TOP, path))]
     if places != sorted(places):
         yield "docs/NEW-CALL.md: its files of source don't stand in the order of crates.txt"
 
@@ -181,19 +187,27 @@ def variants(name):
 
 
 def matches():
-    """The functions with a match on acts or their kinds, with their files: those that list all, and those with a default."""
+    """The functions with a match on acts or their kinds, with their files and what their arms name: those that list all, and
+    those with a default."""
     whole, silent = [], []
     for path in files("crates/*/src/**/*.rt"):
         text = read(path)
         for found in re.finditer(r"\bmatch [^{;]+? \{", text):
             body = text[found.end():closing(text, found.end() - 1)]
-            named = set(re.findall(r"\b(Act|ActKind)::(\w+)", " ".join(ARM.findall(body))))
+            arms = [set(re.findall(r"\b(Act|ActKind)::(\w+)", arm)) for arm in ARM.findall(body)]
+            named = set().union(*arms)
             if not named:
                 continue
             listed = [{one for kind, one in named if kind == name} == variants(name) for name in ("Act", "ActKind")]
             name = re.findall(r"fn (\w+)", text[:found.start()])[-1]
-            (whole if any(listed) else silent).append((path, name))
+            (whole if any(listed) else silent).append((path, name, arms))
     return whole, silent
+
+
+def does(word, arms):
+    """Whether an act stands in an arm of a match that isn't the one for all that do nothing there, which is the longest."""
+    rest = max(arms, key=len)
+    return any((kind, word) in arm for kind in ("Act", "ActKind") for arm in arms if arm is not rest or len(arm) == 1)
 
 
 @functools.cache
