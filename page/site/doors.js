@@ -11,6 +11,8 @@ export class Doors extends EventTarget {
         this.me = me;
         this.mark = `call ${encodeURIComponent(me.user)} ${me.desk} `;
         this.sending = false;
+        this.latest = '';
+        this.entered = 0;
         this.recall();
         addEventListener('storage', event => {
             if (event.key !== null && !event.key.startsWith(this.mark)) return;
@@ -76,9 +78,19 @@ export class Doors extends EventTarget {
 
     /** Writes a call down, and sends it. Throws where the browser has no room to write it down: then nothing was sent. */
     enter(call) {
-        const now = new Date().toISOString(), some = crypto.getRandomValues(new Uint32Array(1))[0].toString(36);
-        this.store({...call, id: `${this.mark}${now} ${some}`, made: now});
+        const made = new Date().toISOString();
+        this.store({...call, id: this.newId(made), made});
         this.sendAll();
+    }
+
+    /**
+     * A name for a call that sorts behind those of all that this page entered before, also within a
+     * millisecond, or after the clock was set back. Its last part tells it from another page's.
+     */
+    newId(now) {
+        if (now > this.latest) this.latest = now;
+        const count = String(++this.entered).padStart(6, '0'), some = crypto.getRandomValues(new Uint32Array(1))[0].toString(36);
+        return `${this.mark}${this.latest} ${count} ${some}`;
     }
 
     store({id, ...call}) {

@@ -27,6 +27,7 @@ def run(stand):
     lost(stand, clerk)
     clerk = closed(stand, clerk)
     both(stand, clerk)
+    turns(stand)
     killed(stand, clerk)
     others(stand, clerk)
 
@@ -130,6 +131,35 @@ def both(stand, clerk):
         each.page.until("document.getElementById('waiting').hidden")
     stand.same("each call once", sorted(key for key in keys(stand) if key.startswith("both-")), ["both-1", "both-2"])
     second.page.close()
+
+
+# The clock stands still, and then runs an hour behind. Calls wait until `through` lets them go.
+STILL = """(() => { const now = Date.now(); Date.now = () => now - (window.back || 0);
+    const real = window.fetch, open = new Promise(go => { window.through = () => go(true); });
+    window.fetch = async (...words) => { if (words[0] === '/calls' && words[1].body.includes('"key":"turn-')) await open; return real(...words); }; })(); true"""
+KEPT = "Object.values(localStorage).some(text => text.includes('\"key\":\"%s\"'))"
+
+
+def turns(stand):
+    """Calls are sent in the order in which they were entered, also where the clock doesn't tell it."""
+    clerk = stand.desk(14)
+    clerk.page.do(STILL)
+    wanted = [f"turn-{place}" for place in range(8)]
+    for place, key in enumerate(wanted):
+        if place == 6:
+            clerk.page.do("window.back = 3600 * 1000; true")
+        clerk.fill(utilities(key, 100))
+        clerk.page.do("document.getElementById('form').requestSubmit()")
+        clerk.page.until(KEPT % key)
+    clerk.page.do("window.through()")
+    sent = lambda: [key for key in keys(stand) if key.startswith("turn-")]
+    stand.waited(lambda: len(sent()) == len(wanted))
+    stand.same("calls of one millisecond are sent in the order of their entry", sent()[:6], wanted[:6])
+    stand.same("and those of a clock that was set back", sent()[6:], wanted[6:])
+    clerk.view("sent", "document.querySelectorAll('#sent-table tbody tr').length >= 8")
+    shown = clerk.page.do("[...document.querySelectorAll('#sent-table tbody tr')].map(row => row.children[2].textContent)")
+    stand.same("the last one stands first in Sent", shown[:8], wanted[::-1])
+    clerk.page.close()
 
 
 def killed(stand, clerk):
