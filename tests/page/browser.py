@@ -8,7 +8,8 @@ import subprocess
 import tempfile
 import time
 
-PATIENCE = 60  # seconds
+# How many seconds something is waited for. On a busy machine the variable says more.
+PATIENCE = int(os.environ.get("PATIENCE", "60"))
 
 
 class Browser:

@@ -1,6 +1,9 @@
 """A clerk at the page: fills forms in as one does, field by field, and reads what it says."""
 import json
 
+from browser import PATIENCE
+
+
 class Clerk:
     def __init__(self, page, url):
         self.page, self.url = page, url
@@ -18,7 +21,7 @@ class Clerk:
 
     def send(self):
         """Sends the form, says yes to what is asked, and gives what is said first."""
-        return self.page.do("clerk.send()")
+        return self.page.do(f"clerk.send({PATIENCE * 500})")
 
     def enter(self, call):
         self.fill(call)
@@ -93,12 +96,12 @@ window.clerk = {
         for (const tick of prepared.querySelectorAll('input:not(:checked)')) tick.click();
         prepared.querySelector('.go').click();
     },
-    async send() {
-        const said = document.getElementById('said'), before = said.firstChild;
+    async send(patience) {
+        const said = document.getElementById('said'), before = said.firstChild, until = performance.now() + patience;
         const prepared = document.getElementById('prepared');
         clerk.asked = '';
         document.getElementById('form').requestSubmit();
-        for (let n = 0; n < 1200 && said.firstChild === before; n++) {
+        while (said.firstChild === before && performance.now() < until) {
             if (!prepared.hidden) clerk.confirm();
             await new Promise(go => setTimeout(go, 25));
         }

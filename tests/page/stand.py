@@ -8,7 +8,7 @@ import sys
 import time
 
 import doors
-from browser import Browser
+from browser import Browser, PATIENCE
 from clerk import Clerk
 
 TOP = os.path.join(os.path.dirname(os.path.abspath(__file__)), "..", "..")
@@ -123,7 +123,7 @@ class Stand:
         if self.pictures:
             page.shot(os.path.join(self.pictures, name + ".png"), whole)
 
-    def waited(self, what, seconds=60):
+    def waited(self, what, seconds=PATIENCE):
         """Whether something comes to hold. The browser's requests go on meanwhile."""
         end = time.time() + seconds
         while time.time() < end:
