@@ -72,12 +72,34 @@ export function table(caption, heads, rows, className = '') {
     }));
     // On a phone each row is a card, whose cells have the heads before them.
     for (const each of rows) [...each.children].forEach((cell, place) => { if (texts[place]) cell.dataset.head = texts[place]; });
-    return made('div', {className: 'scroll', tabIndex: 0, role: 'region', 'aria-label': caption},
-        made('table', {className, role: 'table'}, made('caption', {}, caption), made('thead', {role: 'rowgroup'}, head), made('tbody', {role: 'rowgroup'}, ...rows)));
+    const made_ = made('table', {className, role: 'table'}, made('caption', {}, caption), made('thead', {role: 'rowgroup'}, head), made('tbody', {role: 'rowgroup'}, ...rows));
+    // By its width letters are smaller on paper, where the sheet wouldn't have the whole table.
+    made_.style.setProperty('--wide', widthOf(texts, rows).toFixed(1));
+    return made('div', {className: 'scroll', tabIndex: 0, role: 'region', 'aria-label': caption}, made_);
 }
 
 const AMOUNT = /^-?[\d,]+\.\d\d$/, DAY = /^\d{4}-\d\d-\d\d$/;
 const kindOf = part => typeof part !== 'string' ? '' : AMOUNT.test(part) ? 'amount' : DAY.test(part) ? 'day' : '';
+
+/** About how wide a text is, in heights of its letters. */
+const wideOf = text => [...text].reduce((all, letter) => all + (/\d/.test(letter) ? .64 : .36), 0);
+
+/**
+ * About how wide a table is at least, in heights of its letters: amounts, days and the words of heads
+ * aren't broken, and other texts are where they are longer than a word. Columns of bars don't count.
+ */
+function widthOf(heads, rows) {
+    const bold = row => /head|part|sum/.test(row.className) ? 1.1 : 1;
+    const least = (row, place) => {
+        const text = row.children[place]?.textContent || '', most = kindOf(text) ? Infinity : place ? 4 : 8;
+        return text && .8 + Math.min(most, wideOf(text) * bold(row));
+    };
+    const ofHead = text => .8 + .66 * Math.max(...text.split(' ').map(word => word.length));
+    return heads.reduce((all, text, place) => {
+        const most = rows.reduce((one, row) => Math.max(one, least(row, place)), 0);
+        return all + (most && Math.max(most, ofHead(text)));
+    }, 1);
+}
 
 /** A row of cells, the first of which heads it. */
 export function row(parts, className = '') {

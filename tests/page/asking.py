@@ -289,8 +289,25 @@ WIDER = (
 )
 
 
+# What the lists have of a ledger and of a month comes with amounts of nearly a trillion.
+LARGE = """(() => { const real = window.fetch; window.fetch = async (...words) => { const answer = await real(...words);
+    const isLedger = /^data\\/\\d+-fund-/.test(words[0]), isMonth = /^data\\/month-/.test(words[0]);
+    if (!isLedger && !isMonth) return answer;
+    const said = await answer.json(), isAmount = at => isMonth && said.names[at] !== 'percent_left';
+    const large = (text, at) => isAmount(at) && /^-?\\d+\\.\\d\\d$/.test(text) ? '-999999999999.99' : text;
+    const rows = isLedger ? said.map(row => [...row.slice(0, -5), ...Array(5).fill(-99999999999999)])
+        : {...said, rows: said.rows.map(row => row.map(large))};
+    return new Response(JSON.stringify(rows)); }; window.small = () => { window.fetch = real; }; })(); true"""
+# The size of a table's letters, and what it were however large its amounts are.
+SIZES = """(table => { const size = () => getComputedStyle(table).fontSize, now = size(), its = table.style.getPropertyValue('--wide');
+    table.style.setProperty('--wide', '1'); const other = size(); table.style.setProperty('--wide', its); return [now, other];
+    })(document.querySelector('#%s table'))"""
+
+
 def printed(stand, clerk, name, address, count):
-    """On A4 and Letter nothing is wider than the sheet, which has the city and the entries."""
+    """On A4 and Letter, upright and on its side, nothing is wider than the sheet, which has the city
+    and the entries; nor are amounts of nearly a trillion.
+    """
     go(clerk, address, f"document.querySelectorAll('#{name} tbody tr').length > {count}")
     said = clerk.text(name)
     stand.holds(
@@ -298,13 +315,27 @@ def printed(stand, clerk, name, address, count):
         said.startswith("Harborview: ") and "ntries 1 to " in said,
         said[:200],
     )
-    for sheet, (_, _, wide) in SHEETS.items():
-        clerk.page.size(wide, 1000)
-        clerk.page.media(media="print")
-        stand.same(f"{name} on {sheet}", clerk.page.do(WIDER.format(name, wide)), [])
-        stand.same(f"without the form on {sheet}: {name}", clerk.page.do(ON_PAPER), 0)
-        clerk.page.media(media="")
-        clerk.page.send("Emulation.clearDeviceMetricsOverride")
+    sheets_of(stand, clerk, name, "")
+    clerk.page.do(LARGE)
+    clerk.page.do(f"document.getElementById('{name.replace('table', 'form')}').requestSubmit()")
+    clerk.page.until(f"/-999,999,999,999\\.99/.test({TEXT.format(name)})")
+    sheets_of(stand, clerk, name, " with the largest amounts")
+    clerk.page.do("window.small(); true")
+
+
+def sheets_of(stand, clerk, name, more):
+    """The widths of a table on each sheet. Ordinary amounts don't make letters smaller."""
+    for sheet, (_, high, wide) in SHEETS.items():
+        for width in (wide, int(high * 96) - 91):
+            clerk.page.size(width, 1000)
+            clerk.page.media(media="print")
+            what = f"{name}{more} on {sheet}, {width} pixels"
+            stand.same(what, clerk.page.do(WIDER.format(name, width)), [])
+            stand.same(f"without the form: {what}", clerk.page.do(ON_PAPER), 0)
+            size, other = clerk.page.do(SIZES % name)
+            stand.holds(f"letters of {what}", more or size == other, [size, other])
+            clerk.page.media(media="")
+            clerk.page.send("Emulation.clearDeviceMetricsOverride")
 
 
 AMOUNTS = (
