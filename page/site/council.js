@@ -1,6 +1,6 @@
 // For the council: the budget of each fund against what was spent and came in, as a picture.
 
-import {byId, drawn, made, row, table} from './dom.js';
+import {byId, drawn, made, row, table, tell} from './dom.js';
 import {added, fundsOf, PARTS} from './bars.js';
 import {money, sum} from './money.js';
 
@@ -28,6 +28,7 @@ export class Council {
         const funds = fundsOf(said.is.rows, this.chart).map(inAll), title = `${this.chart.city}: budget against actual, fiscal year ${year}`;
         const age = made('p', {className: 'hint'}, `As of entry ${said.at}. Each fund has a scale of its own: its larger budget is the whole width.`);
         place.replaceChildren(made('h2', {}, title), this.picture(funds, title), this.figures(funds, title), age);
+        tell(title);
     }
 
     /**

@@ -2,6 +2,9 @@
 
 export const byId = id => document.getElementById(id);
 
+/** Says to who reads by ear what a view shows now. Nobody wants a whole table read out. */
+export const tell = text => { byId('told').textContent = text; };
+
 /** A node with properties, or attributes where the name has a dash, and parts that are nodes or texts. */
 export function made(tag, more = {}, ...parts) {
     const node = document.createElement(tag);

@@ -105,7 +105,7 @@ export function inputOf(field, context) {
     if (type === 'true or false') return made('input', {...more, type: 'checkbox'});
     if (type === 'choice') return choice(more, Object.entries(field.words));
     if (type === 'day') return made('input', {...more, type: 'date', min: FIRST_DAY, max: LAST_DAY});
-    if (type === 'month') return made('input', {...more, type: 'month', min: '1970-01', max: '2199-12'});
+    if (type === 'month') return made('input', {...more, type: 'month', min: '1970-01', max: '2199-12', placeholder: '2026-07'});
     if (type === 'cents' || type === 'by') return amountInput(more);
     if (type === 'n16' && ['fund', 'dept', 'object', 'principal', 'interest'].includes(name)) return choice(more, [], 'Choose');
     if (name === 'source') return choice(more, chart.source.map(row => [row.id, `${row.id} ${row.name} (${chart.name('fund', row.fund)})`]), 'Choose');

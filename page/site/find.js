@@ -1,7 +1,8 @@
 // Finds documents by a number, a vendor or payer, a part of a key, or an amount: open, paid and
 // closed ones. And what an entry is: its call, the documents that it touched, what it moved.
 
-import {byId, made} from './dom.js';
+import {byId, made, tell} from './dom.js';
+import {many} from './calls.js';
 import {Documents, entryLink, LedgerRows} from './documents.js';
 import {wordsOf} from './lists.js';
 import {cents, money} from './money.js';
@@ -100,11 +101,12 @@ export class Entry {
         if (documents.length) parts.push(this.rows.table('Documents of this entry', documents));
         if (moved.length) parts.push(this.moved.table('What it moved of lines and sources', moved));
         sheet.replaceChildren(...parts);
+        tell(`Entry ${place}: ${many(documents.length, 'document')}`);
     }
 
     missing(text) {
         const {entries} = this.lists.state;
-        return made('p', {className: 'said no'},
+        return made('p', {className: 'said no', role: 'alert'},
             `Entry ${text} isn’t in the lists, which have ${entries || 0}.`);
     }
 

@@ -19,16 +19,16 @@ export class Items {
 
     /** Another item; its first choice, to be focused. */
     add() {
-        const {field, context} = this, place = this.rows.length + 1;
+        const {field, context} = this;
         const make = part => part.name === 'order' ? this.orders() : inputOf(part, context);
         const inputs = Object.fromEntries(field.parts.map(part => [part.name, make(part)]));
-        const out = {type: 'button', className: 'away', 'aria-label': `Take item ${place} out`, onclick: () => this.remove(row)};
+        const out = made('button', {type: 'button', className: 'away', onclick: () => this.remove(row)}, 'Take out');
         // The item of an order is needed where an order is named.
         const about = part => part.label + (part.optional && part.type !== 'true or false' && part.name !== 'item' ? ' (optional)' : '');
         const boxes = field.parts.map(part => labelled(about(part), inputs[part.name], part.hint));
         const ofOrder = ['item', 'recorded', 'final'].map(name => inputs[name]?.box).filter(Boolean);
         const note = made('p', {className: 'note', role: 'status'});
-        const row = {inputs, note, box: made('div', {className: 'item', role: 'group', 'aria-label': `Item ${place}`}, ...boxes, made('button', out, 'Take out'), note)};
+        const row = {inputs, note, out, box: made('div', {className: 'item', role: 'group'}, ...boxes, out, note)};
         row.account = new Account(context, {fund: inputs.fund, dept: inputs.dept, object: inputs.object});
         if (inputs.order) {
             const show = () => ofOrder.forEach(box => { box.hidden = !inputs.order.value; });
@@ -38,18 +38,26 @@ export class Items {
         }
         this.rows.push(row);
         this.box.insertBefore(row.box, this.more);
-        this.more.disabled = this.rows.length >= field.most;
+        this.number();
         return inputs.fund;
     }
 
     remove(row) {
-        if (this.rows.length === 1) return;
         this.rows.splice(this.rows.indexOf(row), 1);
         row.box.remove();
-        this.rows.forEach((each, place) => each.box.setAttribute('aria-label', `Item ${place + 1}`));
-        this.more.disabled = false;
+        this.number();
         this.more.focus();
         this.changed();
+    }
+
+    /** Names the items by their places. The only one can't be taken out. */
+    number() {
+        this.rows.forEach(({box, out}, place) => {
+            box.setAttribute('aria-label', `Item ${place + 1}`);
+            out.setAttribute('aria-label', `Take item ${place + 1} out`);
+            out.hidden = this.rows.length === 1;
+        });
+        this.more.disabled = this.rows.length >= this.field.most;
     }
 
     /** The orders that may be open, by their names. */

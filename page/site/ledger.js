@@ -1,6 +1,7 @@
 // The ledger of a line, a department, a vendor or payer, a source or a fund, in a fiscal year.
 
-import {byId, fill, give, made} from './dom.js';
+import {byId, fill, give, made, tell} from './dom.js';
+import {many} from './calls.js';
 import {dated} from './chart.js';
 import {sheet} from './cells.js';
 import {Documents, LedgerRows} from './documents.js';
@@ -91,6 +92,7 @@ export class Ledger {
         const title = `${this.chart.city}: ${this.title(asked)}`;
         place.replaceChildren(made('h2', {}, title),
             made('p', {className: 'span'}, spanOf(asked)), this.rows.table(title, found));
+        tell(`${title}: ${many(found.length, 'row')}`);
     }
 
     missing(by) {

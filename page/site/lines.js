@@ -1,8 +1,9 @@
 // Budget lines of a fiscal year, by fund and department, with bars; and what each document put on a
 // line or took off it, which comes to the line's numbers.
 
-import {byId, fill, made, row, table} from './dom.js';
+import {byId, fill, made, row, table, tell} from './dom.js';
 import {added, bar, fundsOf, isLow, legend} from './bars.js';
+import {many} from './calls.js';
 import {Documents, LedgerRows} from './documents.js';
 import {money} from './money.js';
 
@@ -29,8 +30,10 @@ export class Lines {
             return line && (!fund || line.fund === Number(fund)) && (!dept || line.dept === Number(dept)) && (!low || isLow(each));
         });
         const rows = [...new Set(shown.map(each => this.chart.line[each.line].fund))].flatMap(id => this.ofFund(id, shown, year));
+        const count = `${many(shown.length, 'line')}, as of entry ${said.at}`;
         place.replaceChildren(legend(), table(`${this.chart.city}: budget lines of fiscal year ${year}`, ['Line', 'Of the appropriation', ['Appropriated', true],
-            ['Spent', true], ['Ordered', true], ['Held', true], ['Room', true]], rows, 'cards'), made('p', {className: 'hint'}, `${shown.length} lines, as of entry ${said.at}`));
+            ['Spent', true], ['Ordered', true], ['Held', true], ['Left', true]], rows, 'cards'), made('p', {className: 'hint'}, count));
+        tell(`Fiscal year ${year}: ${count}`);
     }
 
     ofFund(fund, lines, year) {

@@ -1,7 +1,7 @@
 // A month by department, as `books month` has it: what was spent in it and in the year so far, what
 // is on order, held and left, and a year before.
 
-import {byId, fill, give, made, row, table} from './dom.js';
+import {byId, fill, give, made, row, table, tell} from './dom.js';
 import {bar, isLow, legend} from './bars.js';
 import {dated, today} from './chart.js';
 import {sheet} from './cells.js';
@@ -68,6 +68,7 @@ export class Month {
         const all = rows.map(each => Object.fromEntries(names.map((name, at) => [name, each[at]])));
         this.found = {kept, names, rows: rows.filter((_, at) => !dept || all[at].dept === dept)};
         place.replaceChildren(...this.parts(kept, all, dept));
+        tell(place.querySelector('h2').textContent);
     }
 
     parts(kept, all, dept) {

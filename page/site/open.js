@@ -47,7 +47,7 @@ export class Open {
         fill(byId('open-kind'), KINDS);
         byId('open-form').addEventListener('submit', event => { event.preventDefault(); this.show(); });
         byId('open-kind').addEventListener('change', () => this.show());
-        byId('open-more').addEventListener('click', () => this.more());
+        byId('open-more').addEventListener('click', () => this.onward());
     }
 
     async show() {
@@ -65,6 +65,14 @@ export class Open {
         this.kind = kind;
         byId('open-table').replaceChildren();
         await this.more();
+    }
+
+    /** More documents. The keyboard stays at the button, or is at their table where there are no more. */
+    async onward() {
+        await this.more();
+        if (document.activeElement !== document.body) return;
+        const more = byId('open-more'), shown = byId('open-table').querySelector('.scroll');
+        (more.hidden ? shown : more)?.focus({preventScroll: true});
     }
 
     /** Asks a door for the states of the next documents, a few at a time. */

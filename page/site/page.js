@@ -66,7 +66,11 @@ function menu() {
     const button = byId('menu'), shown = byId('views').classList;
     const show = isShown => { shown.toggle('shown', isShown); button.setAttribute('aria-expanded', String(shown.contains('shown'))); };
     button.addEventListener('click', () => show());
-    byId('views').addEventListener('click', () => show(false));
+    byId('views').addEventListener('click', () => {
+        // The keyboard goes on in the view that was chosen.
+        if (shown.contains('shown')) byId('main').focus({preventScroll: true});
+        show(false);
+    });
     addEventListener('keydown', event => { if (event.key === 'Escape' && shown.contains('shown')) { show(false); button.focus(); } });
 }
 

@@ -2,7 +2,7 @@
 // prints. #paper/order/12, #paper/run/40 or #paper/run/40+41, and #paper/receipt/41 are their
 // addresses: an order's number, and the places of the entries.
 
-import {byId, made, row, table} from './dom.js';
+import {byId, made, row, table, tell} from './dom.js';
 import {dated} from './chart.js';
 import {many} from './calls.js';
 import {money, sum} from './money.js';
@@ -36,6 +36,7 @@ export class Papers {
             .catch(fault => [made('p', {className: 'said no'}, fault.message)]);
         if (turn !== this.turn) return;
         place.replaceChildren(...(made_ || [made('p', {}, 'There is no such paper.')]));
+        tell(place.firstElementChild.textContent);
     }
 
     head(title, ...facts) {
@@ -60,6 +61,8 @@ export class Papers {
         const open = item => item?.state === 'live' ? money(item.open) : item?.state || '';
         const rows = items.map(([fund, dept, object, cents, by], place) => row([String(place + 1), this.chart.account(fund, dept, object),
             ...(isChanged ? [money(cents), money(by)] : []), money(cents + by), open(now[place])]));
+        // The state of an item that isn't open stands where its amount would.
+        for (const each of rows) each.lastChild.className = 'amount';
         const all = place => sum(items.map(item => item[place])), parts = isChanged ? [money(all(3)), money(all(4))] : [];
         rows.push(row(['', 'Total', ...parts, money(all(3) + all(4)), ''], 'sum'));
         return [...this.head(`purchase order ${number}`, ['Order', found.key], ['Day', dated(found.day)], ['Entered by', this.chart.name('desk', found.desk)]),

@@ -29,15 +29,21 @@ export class Room {
         const known = found.filter(Boolean), short = known.filter(each => each.asked > each.room);
         place.replaceChildren();
         if (!known.length) return;
-        const rows = known.map(({line, year, asked, room}) => row([this.chart.lineInFull(line), String(year), money(room),
-            asked < 0n ? 'adds ' + money(-asked) : money(asked), money(room - asked),
-            asked > room ? made('b', {className: 'low'}, 'lacks ' + money(asked - room)) : ''], asked > room ? 'short' : ''));
+        const rows = known.map(each => this.row(each));
         place.append(table('Room of the lines', ['Line', 'Year', ['Room', true], ['Asked', true], ['Then left', true], ''], rows, 'cards'));
         if (short.length) {
             const lacks = short.map(each => `${this.chart.lineInFull(each.line)} lacks ${money(each.asked - each.room)}`).join('; ');
             const many = short.length === 1 ? 'One line lacks' : `${short.length} lines lack`;
             place.append(made('p', {className: 'said no'}, `${many} room, so this would be refused: ${lacks}.`));
         }
+    }
+
+    row({line, year, asked, room}) {
+        const lacks = asked > room ? made('b', {className: 'low'}, 'lacks ' + money(asked - room)) : '';
+        const made_ = row([this.chart.lineInFull(line), String(year), money(room), asked < 0n ? 'adds ' + money(-asked) : money(asked),
+            money(room - asked), lacks], lacks && 'short');
+        made_.children[3].className = 'amount';
+        return made_;
     }
 
     /** What the call asks of each line and year, by "line year". */

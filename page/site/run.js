@@ -42,8 +42,20 @@ export class Run {
         const chosen = this.vendor.value;
         fill(this.vendor, numbers.map(number => [number, this.vendors.cell(number)]), 'All vendors');
         if (!chosen) this.vendor.value = '';
+        const back = this.stay();
         this.render();
+        back();
         this.say();
+    }
+
+    /** Gives what leads back to where the clerk is in the rows, once they are made anew. */
+    stay() {
+        const {rows} = this, {activeElement: at} = document, place = () => rows.querySelector('.scroll'), top = place()?.scrollTop;
+        const isAt = rows.contains(at), {name} = at;
+        return () => {
+            if (place()) place().scrollTop = top || 0;
+            if (isAt) (name ? rows.querySelector(`[name="${name}"]`) : place())?.focus({preventScroll: true});
+        };
     }
 
     /** What a draft had ticked, where it is still listed. */
@@ -138,15 +150,20 @@ export class Run {
         if (this.on !== this.context.value('on')) this.render();
         const chosen = this.chosen(), asked = new Map();
         for (const each of chosen) for (const [fund, cents] of this.parts(each)) asked.set(fund, (asked.get(fund) || 0n) + cents);
-        const rows = [...asked].sort(([one], [other]) => one - other).map(([fund, cents]) => {
-            const cash = this.cash.get(fund), known = cash !== undefined && cash !== null, lacks = known && cents > cash ? cents - cash : 0n;
-            return row([this.context.chart.name('fund', fund), known ? money(cash) : 'not known', money(cents), known ? money(cash - cents) : '',
-                lacks ? made('b', {className: 'low'}, 'lacks ' + money(lacks)) : ''], lacks ? 'short' : '');
-        });
+        const rows = [...asked].sort(([one], [other]) => one - other).map(([fund, cents]) => this.ofFund(fund, cents));
         this.funds.replaceChildren(rows.length ? table('Cash of the funds', ['Fund', ['Cash', true], ['Ticked', true], ['Then left', true], ''], rows, 'cards') : '');
         const calls = Math.ceil(chosen.length / this.field.most);
         this.total.textContent = chosen.length ? `${chosen.length} ticked, ${money(sum(chosen.map(each => each.cents)))}` +
             (calls > 1 ? `. They are sent as ${calls} calls of at most ${this.field.most}` : '') : '';
+    }
+
+    /** What is ticked of a fund, with its cash and what that lacks. */
+    ofFund(fund, cents) {
+        const cash = this.cash.get(fund), known = cash !== undefined && cash !== null, lacks = known && cents > cash ? cents - cash : 0n;
+        const made_ = row([this.context.chart.name('fund', fund), known ? money(cash) : 'not known', money(cents), known ? money(cash - cents) : '',
+            lacks ? made('b', {className: 'low'}, 'lacks ' + money(lacks)) : ''], lacks ? 'short' : '');
+        made_.children[1].className = 'amount';
+        return made_;
     }
 
     /**

@@ -3,7 +3,7 @@
 // doors. Those through another day or at another entry are made when they are asked for.
 
 import {sheet} from './cells.js';
-import {byId, fill, give, made, row, table} from './dom.js';
+import {byId, fill, give, made, row, table, tell} from './dom.js';
 import {dated, today} from './chart.js';
 import {cents, plain, money} from './money.js';
 
@@ -108,6 +108,7 @@ export class Statements {
         if (!said.rows) return place.replaceChildren(this.words.failed(said));
         this.made = {...wanted, heads: HEADS[wanted.kind] || ['Amount'], rows: said.rows};
         place.replaceChildren(...this.parts(this.made, said.at));
+        tell(place.querySelector('h2').textContent);
     }
 
     /** What is chosen: `at` is now, a day or an entry; `entries` may stand beside a day. */

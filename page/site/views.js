@@ -61,6 +61,8 @@ export class Views {
 
     show(name, rest) {
         const isOther = byId(name).hidden || OF_ONE.includes(name);
+        // A link to a paper or an entry goes away with its view: the keyboard goes on in the other one.
+        const isLeft = isOther && document.activeElement.closest('main > section');
         this.name = name;
         for (const part of document.querySelectorAll('main > section')) part.hidden = part.id !== name;
         document.title = this.chart.city;
@@ -74,6 +76,7 @@ export class Views {
         }
         // An address scrolls to its view, below the head; a button leaves the place of the last one.
         if (isOther) scrollTo(0, 0);
+        if (isLeft) byId('main').focus({preventScroll: true});
         if (name !== 'enter') this.views[name].show(rest);
     }
 }

@@ -23,7 +23,7 @@ export class Words {
 
     /** What is shown in place of what couldn't be asked. */
     failed(said) {
-        return made('p', {className: 'said no'}, said.fault ? said.fault.message : this.of(said).text);
+        return made('p', {className: 'said no', role: 'alert'}, said.fault ? said.fault.message : this.of(said).text);
     }
 
     form(said, call) {

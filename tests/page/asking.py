@@ -174,6 +174,10 @@ def entry(stand, clerk):
         "/isn’t in the lists/.test(document.getElementById('entry-sheet').textContent) && 'yes'",
     )
     stand.same("an entry that isn't there", said, "yes")
+    search(clerk, row["key"])
+    clerk.page.do("document.querySelector('#find-table a').focus(); document.activeElement.click()")
+    clerk.page.until("!document.getElementById('entry').hidden")
+    stand.same("the keyboard is at the entry", clerk.page.do("document.activeElement.id"), "main")
 
 
 def line(stand, clerk):

@@ -87,6 +87,12 @@ def items(stand):
     stand.same("the order in full", clerk.page.do("document.querySelector('.item .note').textContent"), f"Order {number}: po-traps, vendor 650 {name}")
     said = clerk.page.do("document.getElementById('form').elements.vendor.box.querySelector('.refers').textContent")
     stand.holds("and its vendor by name", said.startswith(name), said)
+    out = "[...document.querySelectorAll('#form .away:not([hidden])')]"
+    stand.same("the only item can't be taken out", clerk.page.do(f"{out}.length"), 0)
+    clerk.page.do("for (let n = 0; n < 2; n++) document.querySelector('#form fieldset.list > button').click()")
+    clerk.page.do(f"{out}[0].click()")
+    named_ = clerk.page.do(f"{out}.map(each => [each.closest('.item'), each].map(node => node.getAttribute('aria-label')).join())")
+    stand.same("items are named by their places", named_, ["Item 1,Take item 1 out", "Item 2,Take item 2 out"])
     clerk.page.close()
     clerk = stand.clerk("purchasing")
     clerk.fill({"call": "change_order", "on": DAY, "order": number})
@@ -209,9 +215,11 @@ def newly_entered(stand):
     clerk.fill({"call": "pay", "on": DAY, "vouchers": [first]}, paper="50")
     second = stand.ask(invoice("inv-640-late-2", 4))["ok"]["voucher"]
     stand.make_lists()
+    clerk.page.do(f"document.getElementById('form').elements.namedItem('voucher-{first}').focus(); true")
     clerk.page.do(AHEAD.format(0))
     there = f"document.getElementById('form').elements.namedItem('voucher-{second}')"
     stand.holds("a new voucher comes into the run", clerk.page.until(f"Boolean({there})"))
+    stand.same("the keyboard stays at its voucher", clerk.page.do("document.activeElement.name"), f"voucher-{first}")
     stand.same("and what was ticked stays", clerk.page.do("[...document.querySelectorAll('#form .run input:checked')].map(each => each.value).join()"), str(first))
     clerk.page.close()
 
@@ -342,6 +350,7 @@ def menu(stand, page, width):
     stand.same(f"contrast of the views, {width} pixels", page.do(looking.CONTRAST), [])
     page.do("document.querySelector('nav [data-view=council]').click()")
     stand.same("which a choice hides again", [page.do(shown), page.do("document.getElementById('council').hidden")], [0, False])
+    stand.same("and the keyboard is at the view", page.do("document.activeElement.id"), "main")
 
 
 # Answered calls of a user, as the browser keeps them.
