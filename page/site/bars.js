@@ -3,7 +3,7 @@
 import {drawn, made} from './dom.js';
 import {money, sum} from './money.js';
 
-export const PARTS = [['spent', 'Spent'], ['ordered', 'Ordered'], ['held', 'Held'], ['room', 'Room']];
+export const PARTS = [['spent', 'Spent'], ['ordered', 'Ordered'], ['held', 'Held'], ['room', 'Left']];
 
 /** A budgetary comparison by funds: a heading each, then a row for each of its sources, then its lines, with cents. */
 export function fundsOf(rows, chart) {

@@ -84,7 +84,7 @@ export class Council {
 
     figures(funds, title) {
         const rows = funds.map(fund => row([fund.name, ...['all', 'spent', 'ordered', 'held', 'room', 'estimated', 'came'].map(part => money(fund[part]))]));
-        return table(title, ['Fund', ...['Budget', 'Spent', 'Ordered', 'Held', 'Room', 'Estimated revenue', 'Came in'].map(text => [text, true])], rows, 'cards');
+        return table(title, ['Fund', ...['Budget', 'Spent', 'Ordered', 'Held', 'Left', 'Estimated revenue', 'Came in'].map(text => [text, true])], rows, 'cards');
     }
 }
 

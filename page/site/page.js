@@ -33,7 +33,7 @@ async function begin() {
     city.calls = new Calls(city);
     city.papers = new Papers(city);
     byId('city').textContent = chart.city;
-    byId('who').textContent = me.user + (desk ? `, desk ${desk.id} ${desk.name} (${roles.join(', ')})` : ', without a desk: may look alone');
+    byId('who').textContent = me.user + (desk ? `, desk ${desk.id} ${desk.name} (${roles.join(', ')})` : ', without a desk: may only look');
     const enter = new Enter(city);
     city.begin = (call, values) => { enter.begin(call, values); views.go('enter'); byId('call').focus(); };
     let year = years(chart, lists);

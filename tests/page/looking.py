@@ -18,8 +18,8 @@ DONE = {"enter": "true", "lines": "document.querySelectorAll('#lines-table tr').
 def run(stand):
     stand.make_lists(30)
     clerk = stand.clerk("auditor")
-    alone = "may look alone" in clerk.text("who") and clerk.page.do("document.querySelector('nav [data-view=enter]').hidden")
-    stand.holds("who has no desk may look alone", alone, clerk.text("who"))
+    alone = "may only look" in clerk.text("who") and clerk.page.do("document.querySelector('nav [data-view=enter]').hidden")
+    stand.holds("who has no desk may only look", alone, clerk.text("who"))
     lines(stand, clerk)
     statements(stand, clerk)
     printed(stand, clerk)
