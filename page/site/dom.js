@@ -88,8 +88,8 @@ const kindOf = part => typeof part !== 'string' ? '' : AMOUNT.test(part) ? 'amou
 const wideOf = text => [...text].reduce((all, letter) => all + (/\d/.test(letter) ? .64 : .36), 0);
 
 /**
- * About how wide a table is at least, in heights of its letters: amounts, days and the words of heads
- * aren't broken, and other texts are where they are longer than a word. Columns of bars don't count.
+ * About how wide a table is at least, in heights of its letters. Amounts, days and the words of
+ * heads aren't broken; other texts are where they are longer than a word. Bars don't count.
  */
 function widthOf(heads, rows) {
     const bold = row => /head|part|sum/.test(row.className) ? 1.1 : 1;

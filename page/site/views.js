@@ -61,7 +61,9 @@ export class Views {
 
     show(name, rest) {
         const isOther = byId(name).hidden || OF_ONE.includes(name);
-        // A link to a paper or an entry goes away with its view: the keyboard goes on in the other one.
+        // A line's documents lead to an entry: left open they would hold the keyboard and the mouse.
+        for (const dialog of document.querySelectorAll('dialog[open]')) dialog.close();
+        // A link goes away with its view, as one to an entry: the keyboard goes on in the other one.
         const isLeft = isOther && document.activeElement.closest('main > section');
         this.name = name;
         for (const part of document.querySelectorAll('main > section')) part.hidden = part.id !== name;

@@ -180,6 +180,13 @@ def entry(stand, clerk):
     stand.same("the keyboard is at the entry", clerk.page.do("document.activeElement.id"), "main")
 
 
+# The view whose button a mouse would hit there.
+HIT = (
+    "(({x, y}) => document.elementFromPoint(x + 9, y + 9)?.dataset.view || '')"
+    "(document.querySelector('nav [data-view=month]').getBoundingClientRect())"
+)
+
+
 def line(stand, clerk):
     """The documents of a line come to its numbers, with what was freed and payments of debts."""
     for number in (44, 46, 53, 63, 64):
@@ -202,6 +209,10 @@ def line(stand, clerk):
                 any(row[2] == "Enter an invoice" and row[-3].startswith("-") for row in rows),
                 rows[:4],
             )
+            clerk.page.do("document.querySelector('#line-table a').click(); true")
+            clerk.page.until("!document.getElementById('entry').hidden")
+            at = clerk.page.do(HIT)
+            stand.same("from a line's documents to an entry, which can be left", at, "month")
         if number == 64:
             stand.holds(
                 "a payment of a debt",
@@ -309,8 +320,8 @@ SIZES = """(table => { const size = () => getComputedStyle(table).fontSize, now 
 
 
 def printed(stand, clerk, name, address, count):
-    """On A4 and Letter, upright and on its side, nothing is wider than the sheet, which has the city
-    and the entries; nor are amounts of nearly a trillion.
+    """On A4 and Letter, upright and on its side, nothing is wider than the sheet, nor with amounts
+    of nearly a trillion. It has the city and the entries.
     """
     go(clerk, address, f"document.querySelectorAll('#{name} tbody tr').length > {count}")
     said = clerk.text(name)

@@ -141,7 +141,7 @@ KEPT = "Object.values(localStorage).some(text => text.includes('\"key\":\"%s\"')
 
 
 def turns(stand):
-    """Calls are sent in the order in which they were entered, also where the clock doesn't tell it."""
+    """Calls are sent in the order of their entry, also where the clock doesn't tell it."""
     clerk = stand.desk(14)
     clerk.page.do(STILL)
     wanted = [f"turn-{place}" for place in range(8)]
