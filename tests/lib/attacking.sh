@@ -245,7 +245,7 @@ clock() {
     cp "$scratch/rolled" "$scratch/one/fund.journal"
     for number in 1 2 3 4 5 6 7 8 9; do voucher "other$number"; done | (cd "$scratch/one" && "$copy/cityfund" desk) > /dev/null
     said=$(backed)
-    echo "status $?: $(echo "$said" | cut -d : -f 2- | cut -c 2-110 | tr '\n' ' ' | sed "s|$scratch/||g")"
+    echo "status $?: $(echo "$said" | cut -d : -f 2- | sed "s|$scratch/||g" | cut -c 2-110 | tr '\n' ' ')"
 }
 
 backed() {

@@ -158,7 +158,7 @@ def turns(stand):
     stand.same("and those of a clock that was set back", sent()[6:], wanted[6:])
     clerk.view("sent", "document.querySelectorAll('#sent-table tbody tr').length >= 8")
     shown = clerk.page.do("[...document.querySelectorAll('#sent-table tbody tr')].map(row => row.children[2].textContent)")
-    stand.same("the last one stands first in Sent", shown[:8], wanted[::-1])
+    stand.same("the last one stands first in Sent", [key for key in shown if key.startswith("turn-")], wanted[::-1])
     clerk.page.close()
 
 
