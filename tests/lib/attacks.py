@@ -187,7 +187,7 @@ def rate(count=600):
         link = http.client.HTTPSConnection(*SITE, context=TLS, timeout=10, source_address=("127.0.0.6", 0))
         for _ in range(count // 8):
             began = time.time()
-            link.request("GET", "/desk/icon.svg", headers={"Authorization": f"Basic {word}"})
+            link.request("GET", "/whoami", headers={"Authorization": f"Basic {word}"})
             answer = link.getresponse()
             answer.read()
             codes[answer.status] += 1

@@ -1,6 +1,6 @@
-"""Asks a proxy for more than a user may have at an address, of a file of the page, and then
-for a look by another user: hasty.py URL FOLDER, with the folder's certificate. Run by
-tests/long/operate.sh."""
+"""Asks a proxy for more than a user may have at an address, then for a file of the page, which
+isn't counted there, and at last for a look by another user: hasty.py URL FOLDER, with the
+folder's certificate. Run by tests/long/operate.sh."""
 import base64
 import concurrent.futures
 import http.client
@@ -26,7 +26,8 @@ def codes(user, path, count):
 
 # Eighty a second are less than an address may have, and more than a user.
 with concurrent.futures.ThreadPoolExecutor(8) as pool:
-    got = [code for each in pool.map(lambda _: codes("treasury", "/desk/icon.svg", 60), range(8)) for code in each]
+    got = [code for each in pool.map(lambda _: codes("treasury", "/whoami", 60), range(8)) for code in each]
+files = codes("treasury", "/desk/icon.svg", 3)
 time.sleep(3)
 bounded = got.count(429) >= 20 and got.count(200) >= 200
-print("bounded" if bounded else f"{got.count(200)} {got.count(429)}", *codes("auditor", "/lines/3/2026", 1))
+print("bounded" if bounded else f"{got.count(200)} {got.count(429)}", *files, *codes("auditor", "/lines/3/2026", 1))

@@ -321,9 +321,10 @@ if part clients; then
 fi
 
 if part rate; then
-    # One user asks for more than its rate. Another one at the same address goes on.
+    # One user asks for more than its rate. It still gets the page's files, and another one at the
+    # same address goes on.
     said=$(python3 tests/lib/hasty.py "$url" "$etc")
-    [ "$said" = "bounded 200" ]
+    [ "$said" = "bounded 200 200 200 200" ]
     verdict "a user's rate: $said" $?
     sleep 3
 fi
