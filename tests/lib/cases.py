@@ -2,7 +2,8 @@
 with the head of its case. Called by tests/run.
 
     cases.py PROGRAM           runs the whole script of crates/PROGRAM
-    cases.py PROGRAM TEXT      runs the cases whose heads have the text, each alone, behind the lines that it rests on
+    cases.py PROGRAM TEXT      compares the cases whose heads have the text. It runs the script to the last of them, since
+                               a case may go on where an earlier one left off
 
 It runs crates/PROGRAM/out/PROGRAM where rt built that, and else has `rt try` interpret the sources, which takes minutes.
 """
@@ -14,10 +15,6 @@ import sys
 import tempfile
 
 TOP = os.path.join(os.path.dirname(os.path.abspath(__file__)), "..", "..")
-# By the program, the words of lines with which a case begins anew; a case of another program rests on all above it.
-ANEW = {"cases_runs": ("empty", "chart"), "cases_texts": ("chart", "clear")}
-# Such a line holds for all below it, until the next one with its word.
-HOLDS = ("chart", "answer")
 
 
 def parted(text):
@@ -47,17 +44,12 @@ def run(program, script):
         return subprocess.run(words, cwd=where, input=script.encode(), stdout=subprocess.PIPE, check=False).stdout.decode()
 
 
-def before(program, script, place):
-    """The lines that a case rests on: what holds for it, and the cases since one that begins anew."""
-    first = place
-    while first > 0 and (script[first][1] + ["", ""])[1].split(" ")[0] not in ANEW.get(program, ()):
-        first -= 1
-    above = [line for _, lines in script[:first] for line in lines]
-    held = {line.split(" ")[0]: line for line in above if line.split(" ")[0] in HOLDS}
-    if "halls" in above:
-        inside = above[above.index("halls"):]
-        held = {"halls": "halls"} | {line.split(" ")[0]: line for line in inside if line.split(" ")[0] in HOLDS}
-    return [*held.values(), *(line for _, lines in script[first:place] for line in lines)]
+def lines_of(parts, place):
+    """The lines of a case, without empty ones at its end; none where there is no such case."""
+    lines = list(parts[place][1]) if place < len(parts) else []
+    while lines and lines[-1] == "":
+        lines.pop()
+    return lines
 
 
 def differs(head, wanted, got):
@@ -80,25 +72,11 @@ def main(words):
     if [head for head, _ in script] != [head for head, _ in stored]:
         print(f"the heads of crates/{words[0]}/stdin and stdout differ")
         return 1
-    if len(words) == 1:
-        got = parted(run(words[0], "\n".join(line for _, lines in script for line in lines)))
-        chosen = list(zip(script, stored, got))
-        failed = sum(differs(head, wanted, printed) for (head, _), (_, wanted), (_, printed) in chosen)
-        print(f"{words[0]}: {len(script) - 1} cases, {failed} failed")
-        return min(failed + (len(got) != len(stored)), 1)
-    chosen = [place for place in range(1, len(script)) if words[1].lower() in script[place][0].lower()]
-    failed = 0
-    for place in chosen:
-        lines = [*before(words[0], script, place), *script[place][1]]
-        got = parted(run(words[0], "\n".join(line for line in lines if line != "") + "\n"))[-1][1]
-        while got and got[-1] == "":
-            got.pop()
-        wanted = [line for line in stored[place][1]]
-        while wanted and wanted[-1] == "":
-            wanted.pop()
-        failed += differs(script[place][0], wanted, got)
-    print(f"{words[0]}: {len(chosen)} of {len(script) - 1} cases, {failed} failed")
-    return min(failed + (not chosen), 1)
+    chosen = [place for place, (head, _) in enumerate(script) if len(words) == 1 or place and words[1].lower() in head.lower()]
+    got = parted(run(words[0], "\n".join(line for _, lines in script[:max(chosen, default=0) + 1] for line in lines)))
+    failed = sum(differs(script[place][0], lines_of(stored, place), lines_of(got, place)) for place in chosen)
+    print(f"{words[0]}: {len(chosen) - (len(words) == 1)} of {len(script) - 1} cases, {failed} failed")
+    return min(failed + (not chosen) + (len(got) > len(script)), 1)
 
 
 if __name__ == "__main__":
