@@ -1,3 +1,2 @@
 pub mod DayNumbers
 pub mod Floors
-pub mod Reading

@@ -1,9 +1,16 @@
-use Rattle.std.proofs.Common.{◌≡◌, ◌++◌, codes, decimal, ap, sym, ◌∙◌, arith, true≢false, rules}
+use Rattle.std.proofs.Common.{◌≡◌, ◌++◌, ◌∙◌, ℕ, codes, decimal, ap, sym, arith, true≢false, Result, Ok, Err, is_ok, rules}
 use Rattle.std.proofs.lemmas.Slice.Eq.{bytes_eq-Decides}
 use Rattle.std.proofs.lemmas.Fmt.{parse-decimal}
-use Rattle.cf_base.proofs.Reading.{ok_is, ok≢err}
+use Rattle.std.specs.Result.{result_unwrap_or}
 use Rattle.cf_claims.proofs.Numbers.{tail_of}
 use Rattle.cf_claims.proofs.marks.claim_number.Goals as goal
+
+ok≢err : {X E : Type 0} (x : X) (e : E) → Err e ≡ Ok x → ⊥
+ok≢err x e h = true≢false (sym (ap (λ r. is_ok r) h))
+
+-- two readings of one text agree
+ok_is : {E : Type 0} (x y : ℕ) (r : Result ℕ E) → r ≡ Ok x → r ≡ Ok y → x ≡ y
+ok_is x y r h k = ap (λ q. result_unwrap_or q x) (sym h ∙ k)
 
 pub returns-in-Err : goal.returns-in-Err
 returns-in-Err c = λ n lt e.
