@@ -1,5 +1,5 @@
 -- What each act makes of assets, as the step of all registers has it.
-use Rattle.std.proofs.Common.{◌≡◌, ◌⊎◌, inl, inr, ℕ, zero, suc, ◌≤◌, Bool, true, false, ◌==◌, not, ◌&&◌, nat_le, List, [], ◌∷◌, ◌++◌, map, Option, Some, None, refl, sym, subst, ap, ◌∙◌, arith}
+use Rattle.std.proofs.Common.{◌≡◌, ◌⊎◌, ℕ, zero, suc, ◌≤◌, Bool, true, false, ◌==◌, not, ◌&&◌, nat_le, List, [], ◌∷◌, ◌++◌, map, Option, Some, None, refl, sym, subst, ap, ◌∙◌, arith}
 use Rattle.std.proofs.lemmas.Grind.{common_steps}
 use Rattle.std.proofs.lemmas.List.{map-id, append-nil}
 use Rattle.std.specs.List.{filter}
@@ -8,28 +8,14 @@ use Rattle.cf_assets.specs.Steps.{AreMost}
 use Rattle.cf_base.specs.declared.calendar.Day.{Day}
 use Rattle.cf_calls.specs.declared.acts.Act.TheVariants as act
 use Rattle.cf_calls.specs.declared.acts.Act.{Act}
-use Rattle.cf_calls.specs.declared.acts.Adoption.{Adoption}
-use Rattle.cf_calls.specs.declared.acts.Amendment.{Amendment}
 use Rattle.cf_calls.specs.declared.acts.AssetAct.TheVariants.{Donate, Dispose}
 use Rattle.cf_calls.specs.declared.acts.AssetAct.{AssetAct}
-use Rattle.cf_calls.specs.declared.acts.BillAmount.{BillAmount}
-use Rattle.cf_calls.specs.declared.acts.BondIssue.{BondIssue}
-use Rattle.cf_calls.specs.declared.acts.DebtPayment.{DebtPayment}
 use Rattle.cf_calls.specs.declared.acts.Disposal.{Disposal}
 use Rattle.cf_calls.specs.declared.acts.Donation.{Donation}
-use Rattle.cf_calls.specs.declared.acts.FundMove.{FundMove}
-use Rattle.cf_calls.specs.declared.acts.LeaveAct.{LeaveAct}
-use Rattle.cf_calls.specs.declared.acts.LineTransfer.{LineTransfer}
-use Rattle.cf_calls.specs.declared.acts.NewBill.{NewBill}
 use Rattle.cf_calls.specs.declared.acts.NewLease.{NewLease}
-use Rattle.cf_calls.specs.declared.acts.NewOrder.{NewOrder}
-use Rattle.cf_calls.specs.declared.acts.NewRequisition.{NewRequisition}
 use Rattle.cf_calls.specs.declared.acts.NewVoucher.{NewVoucher}
-use Rattle.cf_calls.specs.declared.acts.OrderChange.{OrderChange}
-use Rattle.cf_calls.specs.declared.acts.Payment.{Payment}
 use Rattle.cf_calls.specs.declared.acts.Period.{Period}
 use Rattle.cf_calls.specs.declared.entry.Drawn.{Drawn}
-use Rattle.cf_calls.specs.declared.items.SourceAmount.{SourceAmount}
 use Rattle.cf_calls.specs.declared.items.VoucherItem.{VoucherItem}
 use Rattle.cf_calls.specs.declared.refusal.Refusal.{Refusal}
 use Rattle.cf_calls.specs.declared.refusal.Refusal.TheVariants as refusal
@@ -39,6 +25,7 @@ use Rattle.cf_model.specs.Documents.{is_number}
 use Rattle.cf_model.specs.RegisterRules.{voided_asset, disposed_asset, asset_refusal}
 use Rattle.cf_model.specs.Registers.{Registers, no_registers}
 use Rattle.cf_model.specs.Rules.{amount, bad_amount, first_refusal, refuse_if, or_else}
+use Rattle.cf_register_parts.proofs.Acts.{Is}
 use Rattle.cf_base.specs.Limits.{most_cents}
 
 -- registers with these assets
@@ -67,53 +54,20 @@ gift_step plan closed on a d assets is = ap (λ b. map (asset_step plan closed o
 pub lease_step : (plan : Plan) (closed : ℕ) (on : Day) (a : Act) (l : NewLease) (assets : List Asset) → a ≡ act.Lease l → map (asset_step plan closed on a) assets ≡ assets
 lease_step plan closed on a l assets is = ap (λ b. map (asset_step plan closed on b) assets) is ∙ map-id assets
 
--- the act is one of a kind
-abbrev pub Is : (X : Type 0) → (X → Act) → Act → Type 0
-Is X kind a = (x : X) × (a ≡ kind x)
-
--- .. or one of another register
+-- an act of another register
 abbrev pub IsOther : Act → Type 0
 IsOther a =
-    Is Adoption act.Adopt a
-    ⊎ (Is Amendment act.Amend a
-    ⊎ (Is LineTransfer act.Transfer a
-    ⊎ (Is NewRequisition act.Requisition a
-    ⊎ (Is ℕ act.Withdraw a
-    ⊎ (Is NewOrder act.Order a
-    ⊎ (Is OrderChange act.ChangeOrder a
-    ⊎ (Is ℕ act.CancelOrder a
-    ⊎ (Is Payment act.Pay a
-    ⊎ (Is NewBill act.Bill a
-    ⊎ (Is BillAmount act.Collect a
-    ⊎ (Is SourceAmount act.Receive a
-    ⊎ (Is BillAmount act.WriteOff a
-    ⊎ (Is BondIssue act.Issue a
-    ⊎ (Is DebtPayment act.PayDue a
-    ⊎ (Is LeaveAct act.Leave a
-    ⊎ (Is FundMove act.Interfund a))))))))))))))))
+    Is act.Adopt a ⊎ (Is act.Amend a ⊎ (Is act.Transfer a ⊎ (Is act.Requisition a ⊎ (Is act.Withdraw a ⊎ (Is act.Order a ⊎ (Is act.ChangeOrder a ⊎ (Is act.CancelOrder a ⊎ (Is act.Pay a
+    ⊎ (Is act.Bill a ⊎ (Is act.Collect a ⊎ (Is act.Receive a ⊎ (Is act.WriteOff a ⊎ (Is act.Issue a ⊎ (Is act.PayDue a ⊎ (Is act.Leave a ⊎ Is act.Interfund a)))))))))))))))
 
-still : (plan : Plan) (closed : ℕ) (on : Day) (a b : Act) (drawn : Drawn) (assets : List Asset) → a ≡ b → map (asset_step plan closed on b) assets ++ assets_by plan on b drawn ≡ map (λ x. x) assets ++ [] →
-    assets ≡ map (asset_step plan closed on a) assets ++ assets_by plan on a drawn
-still plan closed on a b drawn assets is none = sym (ap (λ x. map (asset_step plan closed on x) assets ++ assets_by plan on x drawn) is ∙ none ∙ append-nil (map (λ x. x) assets) ∙ map-id assets)
-
+-- it leaves assets as they are
 pub quiet : (plan : Plan) (closed : ℕ) (on : Day) (a : Act) (drawn : Drawn) (assets : List Asset) → IsOther a → assets ≡ map (asset_step plan closed on a) assets ++ assets_by plan on a drawn
-quiet plan closed on a drawn assets (inl h) = still plan closed on a (act.Adopt h.0) drawn assets h.1 refl
-quiet plan closed on a drawn assets (inr (inl h)) = still plan closed on a (act.Amend h.0) drawn assets h.1 refl
-quiet plan closed on a drawn assets (inr (inr (inl h))) = still plan closed on a (act.Transfer h.0) drawn assets h.1 refl
-quiet plan closed on a drawn assets (inr (inr (inr (inl h)))) = still plan closed on a (act.Requisition h.0) drawn assets h.1 refl
-quiet plan closed on a drawn assets (inr (inr (inr (inr (inl h))))) = still plan closed on a (act.Withdraw h.0) drawn assets h.1 refl
-quiet plan closed on a drawn assets (inr (inr (inr (inr (inr (inl h)))))) = still plan closed on a (act.Order h.0) drawn assets h.1 refl
-quiet plan closed on a drawn assets (inr (inr (inr (inr (inr (inr (inl h))))))) = still plan closed on a (act.ChangeOrder h.0) drawn assets h.1 refl
-quiet plan closed on a drawn assets (inr (inr (inr (inr (inr (inr (inr (inl h)))))))) = still plan closed on a (act.CancelOrder h.0) drawn assets h.1 refl
-quiet plan closed on a drawn assets (inr (inr (inr (inr (inr (inr (inr (inr (inl h))))))))) = still plan closed on a (act.Pay h.0) drawn assets h.1 refl
-quiet plan closed on a drawn assets (inr (inr (inr (inr (inr (inr (inr (inr (inr (inl h)))))))))) = still plan closed on a (act.Bill h.0) drawn assets h.1 refl
-quiet plan closed on a drawn assets (inr (inr (inr (inr (inr (inr (inr (inr (inr (inr (inl h))))))))))) = still plan closed on a (act.Collect h.0) drawn assets h.1 refl
-quiet plan closed on a drawn assets (inr (inr (inr (inr (inr (inr (inr (inr (inr (inr (inr (inl h)))))))))))) = still plan closed on a (act.Receive h.0) drawn assets h.1 refl
-quiet plan closed on a drawn assets (inr (inr (inr (inr (inr (inr (inr (inr (inr (inr (inr (inr (inl h))))))))))))) = still plan closed on a (act.WriteOff h.0) drawn assets h.1 refl
-quiet plan closed on a drawn assets (inr (inr (inr (inr (inr (inr (inr (inr (inr (inr (inr (inr (inr (inl h)))))))))))))) = still plan closed on a (act.Issue h.0) drawn assets h.1 refl
-quiet plan closed on a drawn assets (inr (inr (inr (inr (inr (inr (inr (inr (inr (inr (inr (inr (inr (inr (inl h))))))))))))))) = still plan closed on a (act.PayDue h.0) drawn assets h.1 refl
-quiet plan closed on a drawn assets (inr (inr (inr (inr (inr (inr (inr (inr (inr (inr (inr (inr (inr (inr (inr (inl h)))))))))))))))) = still plan closed on a (act.Leave h.0) drawn assets h.1 refl
-quiet plan closed on a drawn assets (inr (inr (inr (inr (inr (inr (inr (inr (inr (inr (inr (inr (inr (inr (inr (inr h)))))))))))))))) = still plan closed on a (act.Interfund h.0) drawn assets h.1 refl
+quiet plan closed on (act.Voucher v) drawn assets is = absurd (grind arith)
+quiet plan closed on (act.VoidVoucher n) drawn assets is = absurd (grind arith)
+quiet plan closed on (act.Asset what) drawn assets is = absurd (grind arith)
+quiet plan closed on (act.Close p) drawn assets is = absurd (grind arith)
+quiet plan closed on (act.Lease l) drawn assets is = absurd (grind arith)
+quiet plan closed on _ drawn assets is = sym (append-nil (map (λ x. x) assets) ∙ map-id assets)
 
 pub close_step : (plan : Plan) (closed : ℕ) (on : Day) (a : Act) (p : Period) (drawn : Drawn) (assets : List Asset) → a ≡ act.Close p → assets ≡ map (asset_step plan closed on a) assets ++ assets_by plan on a drawn
 close_step plan closed on a p drawn assets is = sym (ap (λ b. map (asset_step plan closed on b) assets ++ assets_by plan on b drawn) is ∙ append-nil (map (λ x. x) assets) ∙ map-id assets)

@@ -1,3 +1,4 @@
+pub mod Acts
 pub mod Cells
 pub mod PairFacts
 pub mod YearSums

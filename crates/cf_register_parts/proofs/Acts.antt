@@ -1,0 +1,7 @@
+-- Acts by their kind.
+use Rattle.std.proofs.Common.{◌≡◌}
+use Rattle.cf_calls.specs.declared.acts.Act.{Act}
+
+-- an act of one kind
+abbrev pub Is : {X : Type 0} → (X → Act) → Act → Type 0
+Is make a = (x : _) × (a ≡ make x)
