@@ -15,6 +15,7 @@ use Rattle.cf_assets.specs.Serving.{ServeFrom}
 use Rattle.cf_assets.proofs.InService.{not_charged, sum_serving}
 use Rattle.cf_assets.proofs.Leases.{part_sum}
 use Rattle.cf_model.specs.Assets.{Asset, charge}
+use Rattle.cf_register_parts.proofs.Lists.{less_or_not}
 
 -- what the asset at a place adds
 abbrev pub at_place : (AssetRow → ℕ) → List AssetRow → ℕ → ℕ
@@ -105,9 +106,6 @@ rising_at (f ∷ fs) zero (suc k) d e r l m =
     less a b e = grind (arith, nat_tests)
 rising_at (f ∷ fs) (suc j) zero d e r l m = absurd (omega arith)
 rising_at (f ∷ fs) (suc j) (suc k) d e r l m = rising_at fs j k d e ((both (list_all (λ (g : Function). nat_lt f.id g.id) fs) (is_rising (λ (g : Function). g.id) fs) r).1) (omega arith) (omega arith)
-
-less_or_not : (a b : ℕ) → (a < b) ⊎ (b ≤ a)
-less_or_not a b = grind arith
 
 -- halving: all up to a function that is too low are, and all from one on that is too high
 pub halve_up : (fs : List Function) (id m : ℕ) (f : Function) → is_rising (λ f. f.id) fs ≡ true → m < length fs → f ≡ get_or fs m f → f.id < id → (k : ℕ) (d : Function) → k < length fs → k < m + 1 → (get_or fs k d).id < id

@@ -1,9 +1,9 @@
 -- What the assets by number keep of their rows.
-use Rattle.std.proofs.Common.{◌≡◌, ◌≢◌, ◌⊎◌, inl, inr, ℕ, zero, suc, ◌+◌, ◌-◌, ◌<◌, ◌≤◌, min, Bool, true, false, not, if◌then◌else◌, ◌==◌, ◌&&◌, List, [], ◌∷◌, ◌++◌, length, map, set, get_or, sum_by, is_some, refl, sym, subst, ap, ◌∙◌, arith}
+use Rattle.std.proofs.Common.{◌≡◌, ◌⊎◌, inl, inr, ℕ, zero, suc, ◌+◌, ◌-◌, ◌<◌, ◌≤◌, min, Bool, true, false, not, if◌then◌else◌, ◌==◌, ◌&&◌, List, [], ◌∷◌, ◌++◌, length, map, set, get_or, sum_by, is_some, refl, sym, subst, ap, ◌∙◌, arith}
 use Rattle.cf_assets.specs.declared.rows.Acquired.TheVariants.{Given, Leased}
 use Rattle.cf_assets.specs.declared.rows.Acquired.{Acquired}
 use Rattle.std.proofs.lemmas.Grind.{common_steps}
-use Rattle.std.proofs.lemmas.List.{length-set, length-append, length-map, map-append, map-set, get_or_append_left, get_or_push, get_or-map, get_or-set_same, get_or-set_other}
+use Rattle.std.proofs.lemmas.List.{length-append, length-map, map-append, map-set, get_or_append_left, get_or_push, get_or-map}
 use Rattle.std.proofs.lemmas.List.Sums.{sum_by-cons}
 use Rattle.cf_assets.specs.declared.rows.AssetRow.{AssetRow}
 use Rattle.cf_assets.specs.declared.rows.StageNow.{StageNow}
@@ -12,6 +12,7 @@ use Rattle.cf_assets.specs.Inventory.{AreKept, accumulated_at}
 use Rattle.cf_assets.specs.InventoryView.{AreAccumulated}
 use Rattle.cf_assets.specs.Rows.{view_asset, view_stage, IsRow, IsStage, AreRows, no_row, view_origin}
 use Rattle.cf_assets.specs.Years.{bought_in, given_in, book_in}
+use Rattle.cf_register_parts.proofs.Lists.{each_push, each_set, less_or_not}
 use Rattle.cf_register_parts.specs.Years.{AreYears, cell_of, with_cell}
 use Rattle.cf_assets.proofs.Cells.{sum_push, sum_set, sum_small, push_adds, push_same, set_same, set_adds, set_takes, enough_there}
 use Rattle.cf_register_parts.proofs.Cells.{years_same}
@@ -21,29 +22,13 @@ use Rattle.cf_model.specs.Changes.{is_void, is_disposed_in}
 use Rattle.cf_base.specs.Limits.{most_cents}
 use Rattle.cf_register_parts.specs.Limits.{most_items, most_total}
 
-pub less_or_not : (a b : ℕ) → (a < b) ⊎ (b ≤ a)
-less_or_not a b = grind arith
-
-pub same_or_not : (a b : ℕ) → (a ≡ b) ⊎ (a ≢ b)
-same_or_not a b = grind arith
-
 -- ---- rows
 
 pub rows_push : (closed : ℕ) (rows : List AssetRow) (r : AssetRow) → AreRows closed rows → IsRow closed (length rows) r → AreRows closed (rows ++ r ∷ [])
-rows_push closed rows r all here k d l = by_place (less_or_not k (length rows))
-  where
-    by_place : (k < length rows) ⊎ (length rows ≤ k) → IsRow closed k (get_or (rows ++ r ∷ []) k d)
-    by_place (inl a) = subst (IsRow closed k) (sym (get_or_append_left rows (r ∷ []) d k a)) (all k d a)
-    by_place (inr a) =
-        let at : length rows ≡ k = omega (arith, a, l, length-append rows (r ∷ [])) in
-        subst (IsRow closed k) (sym (get_or_push rows r d k at)) (subst (λ n. IsRow closed n r) at here)
+rows_push closed rows r all here = each_push (IsRow closed) rows r all here
 
 pub rows_set : (closed : ℕ) (rows : List AssetRow) (k : ℕ) (r : AssetRow) → k < length rows → AreRows closed rows → IsRow closed k r → AreRows closed (set rows k r)
-rows_set closed rows k r l all here j d jl = by_place (same_or_not j k)
-  where
-    by_place : (j ≡ k) ⊎ (j ≢ k) → IsRow closed j (get_or (set rows k r) j d)
-    by_place (inl e) = subst (λ n. IsRow closed n (get_or (set rows k r) n d)) (sym e) (subst (IsRow closed k) (sym (get_or-set_same rows k r d l)) here)
-    by_place (inr n) = subst (IsRow closed j) (sym (get_or-set_other rows k j r d n)) (all j d (rw (← length-set rows k r) jl))
+rows_set closed rows k r l all here = each_set (IsRow closed) rows k r l here (λ j d m apart. all j d m)
 
 stage_later : (closed : ℕ) (s : StageNow) → IsStage closed s → IsStage (closed + 1) s
 stage_later closed Held ok = tt

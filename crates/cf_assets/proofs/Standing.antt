@@ -5,6 +5,7 @@ use Rattle.std.proofs.lemmas.Grind.{common_steps}
 use Rattle.std.proofs.lemmas.List.{length-append, length-map, get_or_append_left, get_or-append_right, get_or_past, get_or_push, get_or-map}
 use Rattle.std.specs.List.{filter}
 use Rattle.cf_assets.specs.Extents.{is_within, IsExtent, AreExtents}
+use Rattle.cf_register_parts.proofs.Lists.{less_or_not, same_or_not}
 use Rattle.cf_register_parts.specs.Extents.{no_extent, extent_at}
 use Rattle.cf_assets.specs.Inventory.{Inventory, AreNumbered, StagesOne, staged}
 use Rattle.cf_assets.specs.Rows.{view_asset, no_row}
@@ -23,12 +24,6 @@ use Rattle.cf_model.specs.Calendar.{is_before}
 use Rattle.cf_model.specs.RegisterRules.{voided_asset, not_held, disposed_asset}
 use Rattle.cf_model.specs.Documents.{is_number}
 use Rattle.cf_model.specs.Rules.{or_else, first_refusal, refuse_if}
-
-less_or_not : (a b : ℕ) → (a < b) ⊎ (b ≤ a)
-less_or_not a b = grind arith
-
-same_or_not : (a b : ℕ) → (a ≡ b) ⊎ (a ≢ b)
-same_or_not a b = grind arith
 
 in_it : (e : Extent) (k : ℕ) → e.first ≤ k → k < e.end → is_within e k ≡ true
 in_it e k a b = both (nat_le e.first k) (nat_lt k e.end) (low e.first k a) (high k e.end b)

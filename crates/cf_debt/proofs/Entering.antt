@@ -13,7 +13,7 @@ use Rattle.cf_debt.specs.RegisterView.{AreRows, HasBonds, HasSums, amount_of, is
 use Rattle.cf_debt.specs.Rows.{IsBond, IsRow, IsSmallDue, view_bond, view_bonds}
 use Rattle.cf_debt.specs.Steps.{bond_row}
 use Rattle.cf_debt.specs.Rows.{lease_part}
-use Rattle.cf_debt.proofs.Lists.{among_push, each_append, each_push, map_same, map-push}
+use Rattle.cf_debt.proofs.Lists.{among_push}
 use Rattle.cf_debt.proofs.Schedules.{bond_more, bond_paying, is_bond_more, length_dues, new_dues, new_view, small_dues}
 use Rattle.cf_debt.proofs.RunningSums.{Rise, charged_push, issued_push, paid_push}
 use Rattle.cf_model.specs.Bonds.{Bond, Due, coupon, dues, dues_from}
@@ -21,6 +21,7 @@ use Rattle.cf_model.specs.Calendar.{year_of_day}
 use Rattle.cf_model.specs.Months.{number_of_day}
 use Rattle.cf_model.proofs.Debt.{early_dues}
 use Rattle.cf_base.specs.Limits.{most_cents}
+use Rattle.cf_register_parts.proofs.Lists.{each_append, each_push, map-push, map_same}
 
 months_between : (n : ℕ) → is_period n ≡ true → IsCount 1 12 n
 months_between n e = record { from = grind (arith, common_steps); to = grind (arith, common_steps) }

@@ -8,10 +8,11 @@ use Rattle.cf_debt.specs.Register.{Debts}
 use Rattle.cf_debt.specs.RegisterView.{AreRows}
 use Rattle.cf_debt.specs.Rows.{IsBond, IsRow, IsSmallDue, view_bond, view_bonds, view_payment}
 use Rattle.cf_debt.specs.Steps.{CanPay, ShowsBond}
-use Rattle.cf_debt.proofs.Lists.{filter_one, find_none, find_one, less_or_not}
+use Rattle.cf_debt.proofs.Lists.{filter_one}
 use Rattle.cf_debt.proofs.Schedules.{next_none}
 use Rattle.cf_model.specs.Bonds.{Bond, Due, next_due}
 use Rattle.cf_model.specs.Results.{bond_at}
+use Rattle.cf_register_parts.proofs.Lists.{find_none, find_one, less_or_not}
 
 pub differ : (a b : ℕ) → a ≢ b → (a == b) ≡ false
 differ a b n = grind (arith, common_steps)

@@ -11,12 +11,13 @@ use Rattle.cf_debt.specs.Register.{unpaid_of}
 use Rattle.cf_debt.specs.RegisterView.{AreRows, is_live, live_of}
 use Rattle.cf_debt.specs.Rows.{IsRow, view_bond, view_bonds}
 use Rattle.cf_debt.specs.Steps.{AreNumbered}
-use Rattle.cf_debt.proofs.Lists.{all_among, all_each, each_all, filter_among, first_among, less_or_not, sum_among}
+use Rattle.cf_debt.proofs.Lists.{all_among, all_each, each_all, filter_among, first_among, sum_among}
 use Rattle.cf_debt.proofs.Running.{no_charge}
 use Rattle.cf_debt.proofs.Schedules.{next_none}
 use Rattle.cf_model.specs.Bonds.{Due, interest_charge}
 use Rattle.cf_model.specs.RegisterRules.{unpaid}
 use Rattle.cf_model.specs.Rules.{first_refusal, or_else}
+use Rattle.cf_register_parts.proofs.Lists.{less_or_not}
 
 abbrev pub no_bond : BondRow
 no_bond = record { number = 0; is_lease = false; fund = 0; amount = 0; year = 0; month = 0; terms = record { every = 0; day = 0; rate_bp = 0 }; start = 0; count = 0; last = 0; paid = 0 }

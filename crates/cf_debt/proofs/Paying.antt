@@ -12,13 +12,14 @@ use Rattle.cf_debt.specs.Rows.{IsRow, view_bond, view_bonds}
 use Rattle.cf_debt.specs.Steps.{paid_row}
 use Rattle.cf_debt.specs.Rows.{lease_part}
 use Rattle.cf_debt.proofs.Finding.{agree, differ}
-use Rattle.cf_debt.proofs.Lists.{among_set, each_set, map_set, sum_set}
+use Rattle.cf_debt.proofs.Lists.{among_set, sum_set}
 use Rattle.cf_debt.proofs.Refusing.{or_none}
 use Rattle.cf_debt.proofs.Schedules.{month_at_place, next_is, paid_step}
 use Rattle.cf_debt.proofs.RunningSums.{Rise}
 use Rattle.cf_model.specs.Bonds.{Bond, Due, bond_step, coupon, dues, earned}
 use Rattle.cf_model.specs.RegisterRules.{unpaid}
 use Rattle.cf_model.specs.Rules.{first_refusal, refuse_if}
+use Rattle.cf_register_parts.proofs.Lists.{each_set, map_set}
 
 pub rows_paid : (closed : ℕ) (all : List Due) (rows : List BondRow) (k : ℕ) (d : BondRow) → AreRows closed all rows → k < length rows → (get_or rows k d).paid < (get_or rows k d).count →
     AreRows closed all (set rows k (paid_row (get_or rows k d)))

@@ -6,8 +6,8 @@ use Rattle.std.proofs.lemmas.List.Sums.{sum_by-cons, sum_by_push}
 use Rattle.cf_chart.specs.Plan.{Plan}
 use Rattle.cf_debt.specs.RegisterView.{AreCharged, AreIssued, ArePaid, amount_of, lease_amount, lease_principal, paid_in, principal_of}
 use Rattle.cf_debt.specs.Rows.{lease_part}
+use Rattle.cf_register_parts.proofs.Lists.{sum_by-equal, sum_by-plus}
 use Rattle.cf_register_parts.specs.Years.{sum_of, sum_through}
-use Rattle.cf_debt.proofs.Lists.{sum_by-equal, sum_by-plus}
 use Rattle.cf_model.specs.Bonds.{Bond, Due, accrued_through, coupon, earned, interest_charge, issues, leases, owed_through, paid_dues, paid_to}
 use Rattle.cf_model.specs.Changes.{issued_in, principal_in}
 use Rattle.cf_model.specs.Months.{closed_to, year_at}

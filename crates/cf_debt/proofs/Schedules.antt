@@ -6,9 +6,9 @@ use Rattle.std.proofs.lemmas.Option.{slice_get-get_or, slice_get_past}
 use Rattle.cf_debt.specs.declared.rows.BondRow.{BondRow}
 use Rattle.cf_debt.specs.declared.rows.Payment.{Payment}
 use Rattle.cf_debt.specs.Rows.{IsBond, IsSmallDue, schedule, view_bond, view_payment, view_payments}
-use Rattle.cf_debt.proofs.Lists.{map-push}
 use Rattle.cf_model.specs.Bonds.{Bond, Due, dues, dues_from, next_due}
 use Rattle.cf_base.specs.Limits.{most_cents}
+use Rattle.cf_register_parts.proofs.Lists.{map-push}
 
 pub length_dues : (every from owed : ℕ) (principals : List ℕ) → length (dues_from every from owed principals) ≡ length principals
 length_dues every from owed [] = refl

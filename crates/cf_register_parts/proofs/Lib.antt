@@ -1,4 +1,5 @@
 pub mod Acts
 pub mod Cells
+pub mod Lists
 pub mod PairFacts
 pub mod YearSums

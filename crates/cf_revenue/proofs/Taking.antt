@@ -20,7 +20,7 @@ use Rattle.cf_revenue.specs.Register.{IsBillLevied}
 use Rattle.cf_revenue.specs.RegisterView.{AreRows}
 use Rattle.cf_revenue.specs.Rows.{view_bill, view_bills, IsRow}
 use Rattle.cf_revenue.specs.Steps.{CanSettle, ShowsBill}
-use Rattle.cf_revenue.proofs.Lists.{find_one, find_none, less_or_not}
+use Rattle.cf_register_parts.proofs.Lists.{find_none, find_one, less_or_not}
 
 differ : (a b : ℕ) → a ≢ b → (a == b) ≡ false
 differ a b n = grind (arith, common_steps)

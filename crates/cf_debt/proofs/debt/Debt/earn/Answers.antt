@@ -1,10 +1,10 @@
 use Rattle.std.proofs.Common.{◌<◌, ◌+◌, ◌*◌, map, ap, arith, sym, subst, ◌≡◌, ◌∙◌}
 use Rattle.cf_debt.specs.Rows.{view_leave}
+use Rattle.cf_register_parts.proofs.Lists.{map-push}
 use Rattle.cf_register_parts.specs.declared.pairs.NumberPair.{NumberPair}
 use Rattle.cf_register_parts.specs.Pairs.{PutsValue, amount_at}
 use Rattle.cf_register_parts.proofs.PairFacts.{puts_amount}
 use Rattle.cf_debt.proofs.Leaving.{earned_left, earned_row, left_kept, put_small, years_earned}
-use Rattle.cf_debt.proofs.Lists.{map-push}
 use Rattle.cf_debt.proofs.debt.Debt.earn.Goals as goal
 use Rattle.cf_base.specs.Limits.{most_entries, most_cents}
 
