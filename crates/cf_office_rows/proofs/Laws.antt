@@ -24,7 +24,9 @@ use Rattle.cf_model.specs.Results.{document_number, draws}
 use Rattle.cf_model.specs.Spendings.{bonds_spendings}
 use Rattle.cf_model.proofs.Changed.{nothing_rolled}
 use Rattle.cf_model.proofs.Moved.{at, moved_append, moved_map}
-use Rattle.cf_model.proofs.Sums.{total, total_same}
+use Rattle.cf_model.specs.Sums.{int_sum}
+use Rattle.cf_model.proofs.Totals.{sum_filter}
+use Rattle.cf_model.proofs.Totals as totals
 use Rattle.cf_registers.specs.Dues.{leased, paid_leave}
 use Rattle.cf_office_rows.specs.declared.rows.Amounts.{Amounts}
 use Rattle.cf_office_rows.specs.declared.rows.LedgerRow.{LedgerRow}
@@ -35,7 +37,7 @@ use Rattle.cf_office_rows.specs.Items.{item_rows}
 use Rattle.cf_office_rows.specs.Rolls.{carries_amount, lapse_move, order_rows, requisition_rows, roll_item, roll_items, roll_rows}
 use Rattle.cf_office_rows.specs.Rows.{amounts_of, appropriates, line_sum, on_account, on_line, on_line_if, origin}
 use Rattle.cf_office_rows.proofs.Orderly.{IsOrderly}
-use Rattle.cf_office_rows.proofs.Sums.{IsNumber, of_move, sum_append, sum_flat, sum_items, sum_numbered, sum_paired, sum_same, total_filter}
+use Rattle.cf_office_rows.proofs.Sums.{IsNumber, of_move, sum_append, sum_flat, sum_items, sum_numbered, sum_paired, sum_same}
 
 first : (z : ℤ) → pos 0 +ℤ z ≡ z
 first z = omega (arith, ints)
@@ -121,11 +123,11 @@ sum_lapsed : (f : Amounts → ℤ) (g : ℤ → ℤ) → IsNumber f g → (plan 
     line_sum f line z (flat_map (requisition_rows plan place year holds) (range_with_len 1 most)) ≡ moved_sum (of_move f) plan line z (lapses_of plan act holds)
 sum_lapsed f g number plan line z place year act holds most same drawn =
     sum_flat f line z (requisition_rows plan place year holds) (range_with_len 1 most)
-    ∙ total_same (λ n. line_sum f line z (requisition_rows plan place year holds n)) (λ n. total lapsed (filter (λ (h : Hold). n == h.requisition) holds))
+    ∙ totals.sum_same (λ n. line_sum f line z (requisition_rows plan place year holds n)) (λ n. int_sum lapsed (filter (λ (h : Hold). n == h.requisition) holds))
     (λ n. sum_items f plan line z place n 1 (map (lapse_move year) (filter (λ (h : Hold). n == h.requisition) holds)) ∙ moved_map (of_move f) plan line z (lapse_move year) (filter (λ (h : Hold). n == h.requisition) holds)) (range_with_len 1 most)
     ∙ sum_numbered (λ (h : Hold). h.requisition) lapsed most holds drawn
-    ∙ total_same lapsed (λ h. if rolls plan h.year act then released h else pos 0) each holds
-    ∙ sym (moved_map (of_move f) plan line z release_move (filter (λ (h : Hold). rolls plan h.year act) holds) ∙ total_filter released (λ (h : Hold). rolls plan h.year act) holds)
+    ∙ totals.sum_same lapsed (λ h. if rolls plan h.year act then released h else pos 0) each holds
+    ∙ sym (moved_map (of_move f) plan line z release_move (filter (λ (h : Hold). rolls plan h.year act) holds) ∙ sum_filter released (λ (h : Hold). rolls plan h.year act) holds)
   where
     lapsed : Hold → ℤ
     lapsed h = at (of_move f) plan line z (lapse_move year h)
@@ -158,7 +160,7 @@ any_origin f plan line z of other i n false c = refl
 abbrev item_total : (Amounts → ℤ) → Plan → ℕ → ℕ → ℕ → OrderItem → ℤ
 item_total f plan line z year i = line_sum f line z (roll_item plan year (origin 0 0 0) i)
 
-sum_rolled : (f : Amounts → ℤ) (plan : Plan) (line z place year n item : ℕ) (items : List OrderItem) → line_sum f line z (roll_items plan place year n item items) ≡ total (item_total f plan line z year) items
+sum_rolled : (f : Amounts → ℤ) (plan : Plan) (line z place year n item : ℕ) (items : List OrderItem) → line_sum f line z (roll_items plan place year n item items) ≡ int_sum (item_total f plan line z year) items
 sum_rolled f plan line z place year n item [] = refl
 sum_rolled f plan line z place year n item (i ∷ items) =
     sum_append f line z (roll_item plan year (origin place n item) i) (roll_items plan place year n (item + 1) items)
@@ -213,7 +215,7 @@ rolled_law f g number plan line z i n true true false true dead empty =
     by_count false x = keeps x ∙ ap (λ y. y +ℤ (x +ℤ (pos 0 +ℤ pos 0))) (sym number.zero)
 
 sum_carried : (f : Amounts → ℤ) (g : ℤ → ℤ) → IsNumber f g → (plan : Plan) (line z year : ℕ) (act : Act) → ((y : ℕ) → rolls plan y act ≡ (y == year)) → (items : List OrderItem) →
-    total (item_total f plan line z year) items ≡ g (pos (carried_sum plan line z (carried_of plan act items))) +ℤ moved_sum (of_move f) plan line z (roll_moves plan act items)
+    int_sum (item_total f plan line z year) items ≡ g (pos (carried_sum plan line z (carried_of plan act items))) +ℤ moved_sum (of_move f) plan line z (roll_moves plan act items)
 sum_carried f g number plan line z year act same [] = sym (ap (λ x. x +ℤ pos 0) number.zero)
 sum_carried f g number plan line z year act same (i ∷ items) =
     (λ j. one j +ℤ sum_carried f g number plan line z year act same items j)
@@ -261,9 +263,9 @@ sum_orders : (f : Amounts → ℤ) (g : ℤ → ℤ) → IsNumber f g → (plan 
     ≡ g (pos (carried_sum plan line z (carried_of plan act items))) +ℤ moved_sum (of_move f) plan line z (roll_moves plan act items)
 sum_orders f g number plan line z place year act items most same drawn =
     sum_flat f line z (order_rows plan place year items) (range_with_len 1 most)
-    ∙ total_same (λ n. line_sum f line z (order_rows plan place year items n)) (λ n. total (item_total f plan line z year) (filter (λ (i : OrderItem). n == i.order) items))
+    ∙ totals.sum_same (λ n. line_sum f line z (order_rows plan place year items n)) (λ n. int_sum (item_total f plan line z year) (filter (λ (i : OrderItem). n == i.order) items))
     (λ n. sum_rolled f plan line z place year n 1 (filter (λ (i : OrderItem). i.order == n) items)
-    ∙ ap (λ (t : OrderItem → Bool). total (item_total f plan line z year) (filter t items)) (λ j i. same_turned i.order n j)) (range_with_len 1 most)
+    ∙ ap (λ (t : OrderItem → Bool). int_sum (item_total f plan line z year) (filter t items)) (λ j i. same_turned i.order n j)) (range_with_len 1 most)
     ∙ sum_numbered (λ (i : OrderItem). i.order) (item_total f plan line z year) most items drawn
     ∙ sum_carried f g number plan line z year act same items
 

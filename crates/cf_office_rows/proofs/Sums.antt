@@ -6,7 +6,9 @@ use Rattle.std.proofs.lemmas.Int.{ints}
 use Rattle.cf_chart.specs.Plan.{Plan}
 use Rattle.cf_model.specs.LineNumbers.{counts, is_line}
 use Rattle.cf_model.specs.Moves.{Move, moved_sum}
-use Rattle.cf_model.proofs.Sums.{exchange, total, total_same}
+use Rattle.cf_model.specs.Sums.{int_sum}
+use Rattle.cf_model.proofs.Totals.{exchange, none_first, none_last, sum_filter}
+use Rattle.cf_model.proofs.Totals as totals
 use Rattle.cf_office_rows.specs.declared.rows.Amounts.{Amounts}
 use Rattle.cf_office_rows.specs.declared.rows.LedgerRow.{LedgerRow}
 use Rattle.cf_office_rows.specs.declared.rows.Origin.{Origin}
@@ -27,14 +29,11 @@ pub record IsNumber (f : Amounts → ℤ) (g : ℤ → ℤ) : Type 0 where
 abbrev pub of_move : (Amounts → ℤ) → Move → ℤ
 of_move f m = f (amounts_of m.held m.encumbered m.expended)
 
-nothing_more : (z : ℤ) → pos 0 +ℤ z ≡ z
-nothing_more z = omega (arith, ints)
-
 grouped : (x y z : ℤ) → (x +ℤ y) +ℤ z ≡ x +ℤ (y +ℤ z)
 grouped x y z = omega (arith, ints)
 
 pub sum_append : (f : Amounts → ℤ) (line year : ℕ) (xs ys : List LedgerRow) → line_sum f line year (xs ++ ys) ≡ line_sum f line year xs +ℤ line_sum f line year ys
-sum_append f line year [] ys = sym (nothing_more (line_sum f line year ys))
+sum_append f line year [] ys = sym (none_first (line_sum f line year ys))
 sum_append f line year (x ∷ xs) ys =
     ap (λ z. (if is_of line year x then f x.by else pos 0) +ℤ z) (sum_append f line year xs ys)
     ∙ sym (grouped (if is_of line year x then f x.by else pos 0) (line_sum f line year xs) (line_sum f line year ys))
@@ -51,7 +50,7 @@ sum_kept f none line year (r ∷ rows) = by_test (changes r.by) refl (sum_kept f
         line_sum f line year (if b then r ∷ kept rows else kept rows) ≡ (if is_of line year r then f r.by else pos 0) +ℤ line_sum f line year rows
     by_test true e more = ap (λ z. (if is_of line year r then f r.by else pos 0) +ℤ z) more
     by_test false e more =
-        more ∙ sym (nothing_more (line_sum f line year rows))
+        more ∙ sym (none_first (line_sum f line year rows))
         ∙ ap (λ z. z +ℤ line_sum f line year rows) (sym (zero_if (is_of line year r) (f r.by) (none r.by e)))
 
 pub sum_items : (f : Amounts → ℤ) (plan : Plan) (line year place document item : ℕ) (moves : List Move) → line_sum f line year (item_rows plan place document item moves) ≡ moved_sum (of_move f) plan line year moves
@@ -117,11 +116,11 @@ sum_paired f g number plan line year place document item m n (x ∷ xs) =
 
 -- ---- documents by their numbers
 
-pub sum_flat : {A : Type 0} (f : Amounts → ℤ) (line year : ℕ) (rows : A → List LedgerRow) (xs : List A) → line_sum f line year (flat_map rows xs) ≡ total (λ x. line_sum f line year (rows x)) xs
+pub sum_flat : {A : Type 0} (f : Amounts → ℤ) (line year : ℕ) (rows : A → List LedgerRow) (xs : List A) → line_sum f line year (flat_map rows xs) ≡ int_sum (λ x. line_sum f line year (rows x)) xs
 sum_flat f line year rows [] = refl
 sum_flat f line year rows (x ∷ xs) = sum_append f line year (rows x) (flat_map rows xs) ∙ ap (λ z. line_sum f line year (rows x) +ℤ z) (sum_flat f line year rows xs)
 
-none_number : (z : ℤ) (k a n : ℕ) → k < a → total (λ m. if m == k then z else pos 0) (range_with_len a n) ≡ pos 0
+none_number : (z : ℤ) (k a n : ℕ) → k < a → int_sum (λ m. if m == k then z else pos 0) (range_with_len a n) ≡ pos 0
 none_number z k a zero l = refl
 none_number z k a (suc n) l =
     (λ i. (if other a k l i then z else pos 0) +ℤ none_number z k (a + 1) n (omega (arith, l)) i)
@@ -129,38 +128,26 @@ none_number z k a (suc n) l =
     other : (a k : ℕ) → k < a → (a == k) ≡ false
     other a k l = grind (arith, common_steps)
 
-one_number : (z : ℤ) (k a n : ℕ) → a ≤ k → k < a + n → total (λ m. if m == k then z else pos 0) (range_with_len a n) ≡ z
+one_number : (z : ℤ) (k a n : ℕ) → a ≤ k → k < a + n → int_sum (λ m. if m == k then z else pos 0) (range_with_len a n) ≡ z
 one_number z k a zero l m = absurd (omega (arith, l, m))
 one_number z k a (suc n) l m = by_test (a == k) refl (λ over. one_number z k (a + 1) n over (omega (arith, m)))
   where
-    last : (z : ℤ) → z +ℤ pos 0 ≡ z
-    last z = omega (arith, ints)
-
     differs : (a == k) ≡ false → a ≤ k → a + 1 ≤ k
     differs e l = grind (arith, common_steps)
 
-    by_test : (b : Bool) → (a == k) ≡ b → (a + 1 ≤ k → total (λ m. if m == k then z else pos 0) (range_with_len (a + 1) n) ≡ z) →
-        (if b then z else pos 0) +ℤ total (λ m. if m == k then z else pos 0) (range_with_len (a + 1) n) ≡ z
-    by_test true e later = ap (λ y. z +ℤ y) (none_number z k (a + 1) n (let P : k < a + 1 = omega (arith, met a k e) in P)) ∙ last z
-    by_test false e later = nothing_more _ ∙ later (differs e l)
-
-pub total_filter : {A : Type 0} (h : A → ℤ) (p : A → Bool) (xs : List A) → total h (filter p xs) ≡ total (λ x. if p x then h x else pos 0) xs
-total_filter h p [] = refl
-total_filter h p (x ∷ xs) = by_test (p x) (total_filter h p xs)
-  where
-    by_test : (b : Bool) → total h (filter p xs) ≡ total (λ x. if p x then h x else pos 0) xs →
-        total h (if b then x ∷ filter p xs else filter p xs) ≡ (if b then h x else pos 0) +ℤ total (λ x. if p x then h x else pos 0) xs
-    by_test true e = ap (λ z. h x +ℤ z) e
-    by_test false e = e ∙ sym (nothing_more _)
+    by_test : (b : Bool) → (a == k) ≡ b → (a + 1 ≤ k → int_sum (λ m. if m == k then z else pos 0) (range_with_len (a + 1) n) ≡ z) →
+        (if b then z else pos 0) +ℤ int_sum (λ m. if m == k then z else pos 0) (range_with_len (a + 1) n) ≡ z
+    by_test true e later = ap (λ y. z +ℤ y) (none_number z k (a + 1) n (let P : k < a + 1 = omega (arith, met a k e) in P)) ∙ none_last z
+    by_test false e later = none_first _ ∙ later (differs e l)
 
 -- each element is in the part of its own number, and in no other
 pub sum_numbered : {A : Type 0} (key : A → ℕ) (h : A → ℤ) (most : ℕ) (xs : List A) → AllByRecursion (λ x. (1 ≤ key x) × (key x ≤ most)) xs →
-    total (λ n. total h (filter (λ x. n == key x) xs)) (range_with_len 1 most) ≡ total h xs
+    int_sum (λ n. int_sum h (filter (λ x. n == key x) xs)) (range_with_len 1 most) ≡ int_sum h xs
 sum_numbered {A = A} key h most xs drawn =
-    total_same (λ n. total h (filter (λ x. n == key x) xs)) (λ n. total (λ x. if n == key x then h x else pos 0) xs) (λ n. total_filter h (λ x. n == key x) xs) (range_with_len 1 most)
+    totals.sum_same (λ n. int_sum h (filter (λ x. n == key x) xs)) (λ n. int_sum (λ x. if n == key x then h x else pos 0) xs) (λ n. sum_filter h (λ x. n == key x) xs) (range_with_len 1 most)
     ∙ exchange (λ n x. if n == key x then h x else pos 0) (range_with_len 1 most) xs
     ∙ each xs drawn
   where
-    each : (ys : List A) → AllByRecursion (λ x. (1 ≤ key x) × (key x ≤ most)) ys → total (λ x. total (λ n. if n == key x then h x else pos 0) (range_with_len 1 most)) ys ≡ total h ys
+    each : (ys : List A) → AllByRecursion (λ x. (1 ≤ key x) × (key x ≤ most)) ys → int_sum (λ x. int_sum (λ n. if n == key x then h x else pos 0) (range_with_len 1 most)) ys ≡ int_sum h ys
     each [] all = refl
     each (y ∷ ys) all = λ i. one_number (h y) (key y) 1 most all.0.0 (let P : key y < 1 + most = omega (arith, all.0.1) in P) i +ℤ each ys all.1 i
