@@ -1,5 +1,5 @@
 -- What is due next of a bond or a lease, as `open` has it, is what its payment takes and makes.
-use Rattle.std.proofs.Common.{◌≡◌, ℕ, ◌+◌, true, if◌then◌else◌, ◌==◌, List, [], ◌∷◌, Option, Some, None, option_map, sum_by, refl, ap, ◌∙◌, arith}
+use Rattle.std.proofs.Common.{◌≡◌, ℕ, ◌+◌, true, if◌then◌else◌, ◌==◌, List, [], ◌∷◌, Option, Some, None, option_map, sum_by, refl, ap, ◌∙◌, arith, option_to_list}
 use Rattle.std.specs.List.{AllByRecursion}
 use Rattle.std.proofs.lemmas.Grind.{common_steps}
 use Rattle.cf_calls.specs.declared.acts.Act.{Act}
@@ -15,7 +15,7 @@ use Rattle.cf_model.specs.RegisterRules.{due_day}
 use Rattle.cf_model.specs.Registers.{Registers, registers_of}
 use Rattle.cf_model.specs.Results.{bond_at, made_paid, made_payment}
 use Rattle.cf_model.specs.Step.{IsLegal}
-use Rattle.cf_model.proofs.BondNumbers.{bonds_if, named_always}
+use Rattle.cf_model.proofs.BondNumbers.{bonds_named}
 use Rattle.cf_registers.specs.Dues.{due_amount}
 use Rattle.cf_books_lists.specs.declared.open.Section.TheVariants.{Debts}
 use Rattle.cf_books_lists.specs.Open.{look_by}
@@ -54,7 +54,7 @@ own fund n = ap (λ t. 0 + (if t then n else 0)) (itself fund) ∙ no_more n
     no_more : (n : ℕ) → 0 + n ≡ n
     no_more n = omega arith
 
-taken_is : (plan : Plan) (fund : ℕ) (o : Option Bond) → sum_by (λ b. if fund == fund then due_cash b (next_due b) else 0) (bonds_if o) ≡ due_amount (due_now plan o)
+taken_is : (plan : Plan) (fund : ℕ) (o : Option Bond) → sum_by (λ b. if fund == fund then due_cash b (next_due b) else 0) (option_to_list o) ≡ due_amount (due_now plan o)
 taken_is plan fund None = refl
 taken_is plan fund (Some b) = own fund (due_cash b (next_due b)) ∙ by_next (next_due b)
   where
@@ -76,7 +76,7 @@ dues_are_asked plan h legal =
     record {
       days = rows_are plan s h;
       cash = λ p.
-          ap (λ (bonds : List Bond). sum_by (λ b. if p.fund == p.fund then due_cash b (next_due b) else 0) bonds) (named_always plan h legal p.bond)
+          ap (λ (bonds : List Bond). sum_by (λ b. if p.fund == p.fund then due_cash b (next_due b) else 0) bonds) (bonds_named plan h legal p.bond)
           ∙ taken_is plan p.fund (bond_at p.bond s.bonds);
       reply = λ p on drawn. made_is plan (bond_at p.bond s.bonds);
     }

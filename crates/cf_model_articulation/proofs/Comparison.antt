@@ -1,7 +1,7 @@
 -- The budgetary comparison of each legal history articulates with its operating statement: what a
 -- fund's lines have expended in a year
 -- is the expenditures of the year.
-use Rattle.std.proofs.Common.{◌≡◌, ℕ, Bool, true, false, not, if◌then◌else◌, ◌==◌, ◌&&◌, List, [], ◌∷◌, ◌++◌, map, Option, Some, None, is_some, ℤ, pos, ◌+ℤ◌, ◌-ℤ◌, refl, sym, ap, subst, ◌∙◌, arith}
+use Rattle.std.proofs.Common.{◌≡◌, ℕ, Bool, true, false, not, if◌then◌else◌, ◌==◌, ◌&&◌, List, [], ◌∷◌, ◌++◌, map, Option, Some, None, is_some, ℤ, pos, ◌+ℤ◌, ◌-ℤ◌, refl, sym, ap, subst, ◌∙◌, arith, option_to_list}
 use Rattle.std.specs.List.{filter, list_any, AllByRecursion}
 use Rattle.std.proofs.lemmas.Int.{ints}
 use Rattle.cf_base.specs.declared.calendar.Day.{Day}
@@ -39,7 +39,7 @@ use Rattle.cf_model.specs.Spendings.{Spending, bonds_spendings, due_spendings, s
 use Rattle.cf_model.specs.Step.{Adds, IsLegal}
 use Rattle.cf_model.specs.Sums.{int_sum}
 use Rattle.cf_model.proofs.Accepted.{accepted}
-use Rattle.cf_model.proofs.BondNumbers.{bonds_if, named_always}
+use Rattle.cf_model.proofs.BondNumbers.{bonds_named}
 use Rattle.cf_model.proofs.First.{first_refusal-append, or_else_none}
 use Rattle.cf_model.proofs.Legal.{legal_induction, legal_push}
 use Rattle.cf_model.proofs.Pushes.{documents_are, registers_push}
@@ -105,7 +105,7 @@ due_lined plan d b (Some p) year none =
     let both = or_else_none (unknown_account plan is_principal (year_at plan p.month) d.fund d.dept d.principal) (unknown_account plan is_interest (year_at plan p.month) d.fund d.dept d.interest) none in
     (known_line plan is_principal (year_at plan p.month) d.fund d.dept d.principal both.0, (known_line plan is_interest (year_at plan p.month) d.fund d.dept d.interest both.1, tt))
 
-payment_lined : (plan : Plan) (d : DebtPayment) (o : Option Bond) (year : ℕ) → unknown_payment plan (payment_year plan year o) d ≡ None → AllByRecursion (IsLinedOther plan) (bonds_spendings plan d (bonds_if o))
+payment_lined : (plan : Plan) (d : DebtPayment) (o : Option Bond) (year : ℕ) → unknown_payment plan (payment_year plan year o) d ≡ None → AllByRecursion (IsLinedOther plan) (bonds_spendings plan d (option_to_list o))
 payment_lined plan d None year none = tt
 payment_lined plan d (Some b) year none = all_append (IsLinedOther plan) (due_spendings plan d b (next_due b)) [] (due_lined plan d b (next_due b) year none) tt
 
@@ -113,7 +113,7 @@ others_lined : (plan : Plan) (h : List Entry) (on : Day) (a : Act) → IsLegal p
     AllByRecursion (IsLinedOther plan) (spendings_by plan (registers_of plan h) on a)
 others_lined plan h on (act.PayDue d) legal names =
     let s = registers_of plan h in
-    subst (λ bonds. AllByRecursion (IsLinedOther plan) (bonds_spendings plan d bonds)) (sym (named_always plan h legal d.bond))
+    subst (λ bonds. AllByRecursion (IsLinedOther plan) (bonds_spendings plan d bonds)) (sym (bonds_named plan h legal d.bond))
     (payment_lined plan d (bond_at d.bond s.bonds) (year_of_day plan on) (or_else_none (unknown_bond s.bonds d.bond) (unknown_payment plan (payment_year plan (year_of_day plan on) (bond_at d.bond s.bonds)) d) names).1)
 others_lined plan h on (act.Leave (Mature l)) legal names = (known_line plan is_current (year_of_day plan on) l.fund l.dept l.object names, tt)
 others_lined plan h on (act.Leave (Earn l)) legal names = tt

@@ -1,5 +1,5 @@
 -- What the payment that is due of a bond makes, as the register of debt tells it.
-use Rattle.std.proofs.Common.{◌≡◌, ℕ, List, Option, Some, None, refl, sym, ap, ◌∙◌}
+use Rattle.std.proofs.Common.{◌≡◌, ℕ, List, Option, Some, None, refl, sym, ap, ◌∙◌, option_to_list}
 use Rattle.cf_calls.specs.declared.entry.Entry.{Entry}
 use Rattle.cf_calls.specs.declared.refusal.Refusal.{Refusal}
 use Rattle.cf_chart.specs.Plan.{Plan}
@@ -10,7 +10,6 @@ use Rattle.cf_model.specs.RegisterRules.{unadopted_due}
 use Rattle.cf_model.specs.Registers.{registers_of}
 use Rattle.cf_model.specs.Results.{bond_at}
 use Rattle.cf_model.specs.Rules.{adopted_at, first_refusal, or_else, unadopted_where}
-use Rattle.cf_model.proofs.BondNumbers.{bonds_if}
 
 some_is : {A : Type 0} {a b : A} → Some a ≡ Some b → a ≡ b
 some_is e = cc
@@ -31,7 +30,7 @@ alone None = refl
 alone (Some r) = refl
 
 pub paid_unadopted : (plan : Plan) (h : List Entry) (fund : ℕ) (o : Option Bond) (d : DueNow) → due_now plan o ≡ Some d →
-    first_refusal (λ b. unadopted_due plan h fund (next_due b)) (bonds_if o) ≡ unadopted_where fund d.year (adopted_at fund d.year h)
+    first_refusal (λ b. unadopted_due plan h fund (next_due b)) (option_to_list o) ≡ unadopted_where fund d.year (adopted_at fund d.year h)
 paid_unadopted plan h fund None d e = cc
 paid_unadopted plan h fund (Some b) d e = alone (unadopted_due plan h fund (next_due b)) ∙ by_next (next_due b) e
   where
@@ -39,7 +38,7 @@ paid_unadopted plan h fund (Some b) d e = alone (unadopted_due plan h fund (next
     by_next None e = cc
     by_next (Some p) e = ap (λ (x : DueNow). unadopted_where fund x.year (adopted_at fund x.year h)) (some_is e)
 
-pub no_unadopted : (plan : Plan) (h : List Entry) (fund : ℕ) (o : Option Bond) → due_now plan o ≡ None → first_refusal (λ b. unadopted_due plan h fund (next_due b)) (bonds_if o) ≡ None
+pub no_unadopted : (plan : Plan) (h : List Entry) (fund : ℕ) (o : Option Bond) → due_now plan o ≡ None → first_refusal (λ b. unadopted_due plan h fund (next_due b)) (option_to_list o) ≡ None
 no_unadopted plan h fund None e = refl
 no_unadopted plan h fund (Some b) e = alone (unadopted_due plan h fund (next_due b)) ∙ by_next (next_due b) e
   where

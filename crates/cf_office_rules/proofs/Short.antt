@@ -1,5 +1,5 @@
 -- The funds that are short of cash, where an act takes cash of at most one.
-use Rattle.std.proofs.Common.{◌≡◌, ℕ, ◌+◌, Bool, true, false, not, if◌then◌else◌, ◌==◌, List, [], ◌∷◌, Option, Some, None, is_some, find, sum_by, refl, sym, ap, subst, ◌∙◌, arith}
+use Rattle.std.proofs.Common.{◌≡◌, ℕ, ◌+◌, Bool, true, false, not, if◌then◌else◌, ◌==◌, List, [], ◌∷◌, Option, Some, None, is_some, find, sum_by, refl, sym, ap, subst, ◌∙◌, arith, option_to_list}
 use Rattle.std.proofs.lemmas.Grind.{common_steps}
 use Rattle.std.specs.List.{filter}
 use Rattle.cf_base.specs.declared.calendar.Day.{Day}
@@ -27,7 +27,6 @@ use Rattle.cf_model.specs.RegisterRules.{payment_year, register_name_refusal, un
 use Rattle.cf_model.specs.Registers.{registers_of}
 use Rattle.cf_model.specs.Results.{bond_at}
 use Rattle.cf_model.specs.Rules.{or_else, first_refusal, unknown, unknown_account, fund_name, name_refusal}
-use Rattle.cf_model.proofs.BondNumbers.{bonds_if}
 use Rattle.cf_model.proofs.First.{or_else_none, refuse_none}
 use Rattle.cf_registers.specs.Dues.{due_amount}
 
@@ -114,7 +113,7 @@ leave_short plan h on act l is named =
 
 -- a debt payment takes the cash of its principal and its interest of its fund, and none where
 -- nothing is left to pay
-due_taken : (plan : Plan) (fund from : ℕ) (o : Option Bond) → sum_by (λ b. if from == fund then due_cash b (next_due b) else 0) (bonds_if o) ≡ (if from == fund then due_amount (due_now plan o) else 0)
+due_taken : (plan : Plan) (fund from : ℕ) (o : Option Bond) → sum_by (λ b. if from == fund then due_cash b (next_due b) else 0) (option_to_list o) ≡ (if from == fund then due_amount (due_now plan o) else 0)
 due_taken plan fund from None = by_test (from == fund)
   where
     by_test : (b : Bool) → (let n : ℕ = 0 in n) ≡ (if b then 0 else 0)
@@ -133,7 +132,7 @@ due_taken plan fund from (Some b) = by_test (from == fund) ∙ ap (λ n. if from
     by_next None = refl
     by_next (Some p) = refl
 
-pub payment_short : (plan : Plan) (h : List Entry) (on : Day) (p : DebtPayment) → filter (λ b. b.number == p.bond) (registers_of plan h).bonds ≡ bonds_if (bond_at p.bond (registers_of plan h).bonds) →
+pub payment_short : (plan : Plan) (h : List Entry) (on : Day) (p : DebtPayment) → filter (λ b. b.number == p.bond) (registers_of plan h).bonds ≡ option_to_list (bond_at p.bond (registers_of plan h).bonds) →
     register_name_refusal plan (registers_of plan h) on (PayDue p) ≡ None →
     cash_short p.fund (cash_of plan p.fund h) (due_amount (due_now plan (bond_at p.bond (registers_of plan h).bonds))) ≡ cash_refusal plan h (PayDue p)
 payment_short plan h on p alone named =

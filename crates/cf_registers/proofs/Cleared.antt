@@ -21,7 +21,7 @@ use Rattle.cf_model.specs.Registers.{Registers, registers_of}
 use Rattle.cf_model.specs.Spendings.{Spending, spendings_by}
 use Rattle.cf_model.specs.Step.{IsLegal}
 use Rattle.cf_model.specs.Results.{document_number}
-use Rattle.cf_model.proofs.BondNumbers.{named_always}
+use Rattle.cf_model.proofs.BondNumbers.{bonds_named}
 use Rattle.cf_model.proofs.First.{AllNone, first_of_none}
 use Rattle.cf_model.proofs.Holdings.{are_timely}
 use Rattle.cf_model.proofs.MonthNumbers.{HasCalendar}
@@ -135,6 +135,6 @@ cleared plan h on desk act calendar legal day form none =
       on_order = all.1.1.0;
       opens = all.1.1.1.0;
       years = act_within plan h on act calendar legal day;
-      bonds = named_always plan h legal;
+      bonds = bonds_named plan h legal;
       touched = λ stripe out. act_out plan (registers_of plan h) on act stripe (subst (λ (d : Documents). is_distinct same_place d.items ≡ true) (sym (documents_are plan h)) (tidy_always plan h legal).places) all.1.1.0 out;
     }

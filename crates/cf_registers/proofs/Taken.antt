@@ -31,7 +31,7 @@ use Rattle.cf_assets.specs.Register as assets
 use Rattle.cf_model.specs.Assets.{Asset as CapitalAsset, voucher_of}
 use Rattle.cf_model.specs.Bonds.{Bond}
 use Rattle.cf_model.proofs.AssetNumbers.{assets_named}
-use Rattle.cf_model.proofs.BondNumbers.{named_always}
+use Rattle.cf_model.proofs.BondNumbers.{bonds_named}
 use Rattle.cf_model.proofs.OpenYears.{years_are}
 use Rattle.cf_model.proofs.Changed.{unrolled_moves}
 use Rattle.cf_model.proofs.First.{or_else_none, refuse_none}
@@ -63,7 +63,7 @@ debt_allowed plan h e adds =
     λ i. or_else (a.paid i) (or_else (a.due i) (or_else (a.leave i) (or_else (a.order i) (or_else (a.unpaid i) None))))
 
 pub numbered : (plan : Plan) (h : List Entry) → IsLegal plan h → AreNumbered (registers_of plan h)
-numbered plan h legal = record { assets = assets_named plan h legal; bonds = named_always plan h legal }
+numbered plan h legal = record { assets = assets_named plan h legal; bonds = bonds_named plan h legal }
 
 -- ---- the days and years of accepted entries
 

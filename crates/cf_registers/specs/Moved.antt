@@ -1,5 +1,5 @@
 -- What an entry changes of line numbers.
-use Rattle.std.specs.Prelude.{◌≡◌, ℕ, Bool, true, false, if◌then◌else◌, ◌==◌, ◌&&◌, nat_lt, ◌+◌, ◌<◌, List, [], ◌∷◌, length, map, Option, None, Some, ℤ, pos, ◌≤ℤ◌, ◌+ℤ◌, ◌-ℤ◌}
+use Rattle.std.specs.Prelude.{◌≡◌, ℕ, Bool, true, false, if◌then◌else◌, ◌==◌, ◌&&◌, nat_lt, ◌+◌, ◌<◌, List, [], ◌∷◌, length, map, Option, None, Some, ℤ, pos, ◌≤ℤ◌, ◌+ℤ◌, ◌-ℤ◌, option_to_list}
 use Rattle.std.specs.List.{filter, list_all, AllByRecursion}
 use Rattle.cf_base.specs.declared.calendar.Day.{Day}
 use Rattle.cf_base.specs.Calendar.{is_day}
@@ -22,7 +22,6 @@ use Rattle.cf_model.specs.Registers.{Registers}
 use Rattle.cf_model.specs.Spendings.{spendings_by}
 use Rattle.cf_model.specs.Stripes.{is_item_in, touches}
 use Rattle.cf_model.specs.Results.{bond_at, document_number, draws}
-use Rattle.cf_model.proofs.BondNumbers.{bonds_if}
 use Rattle.cf_orders.specs.declared.moves.LineMove.{LineMove}
 
 -- the row of a line and year of a history
@@ -63,7 +62,7 @@ pub record IsCleared (plan : Plan) (s : Registers) (on : Day) (act : Act) : Type
   pub years : AllByRecursion (λ m. m.year < 2201) (act_moves plan s on act)
   pub touched : AreTouched plan act (act_moves plan s on act)
   -- a number names at most one bond
-  pub bonds : (k : ℕ) → filter (λ b. b.number == k) s.bonds ≡ bonds_if (bond_at k s.bonds)
+  pub bonds : (k : ℕ) → filter (λ b. b.number == k) s.bonds ≡ option_to_list (bond_at k s.bonds)
 
 -- what a change asks of its line and year: by how much it narrows the room
 abbrev pub asks_of : Row → ℤ

@@ -1,20 +1,19 @@
 -- Numbers name at most one asset, and at most one bond.
-use Rattle.std.specs.Prelude.{◌≡◌, ℕ, ◌==◌, List}
+use Rattle.std.specs.Prelude.{◌≡◌, ℕ, ◌==◌, List, option_to_list}
 use Rattle.std.specs.List.{filter}
 use Rattle.cf_model.specs.Assets.{Asset}
 use Rattle.cf_model.specs.Bonds.{Bond}
 use Rattle.cf_model.specs.RegisterRules.{asset_at}
 use Rattle.cf_model.specs.Registers.{Registers}
 use Rattle.cf_model.specs.Results.{bond_at}
-use Rattle.cf_model.proofs.AssetNumbers.{assets_if}
-use Rattle.cf_model.proofs.BondNumbers.{bonds_if}
 
 abbrev pub AreNumberedAssets : List Asset → Type 0
 AreNumberedAssets assets = (k : ℕ)
-    → filter (λ a. a.number == k) assets ≡ assets_if (asset_at k assets)
+    → filter (λ a. a.number == k) assets ≡ option_to_list (asset_at k assets)
 
 abbrev pub AreNumberedBonds : List Bond → Type 0
-AreNumberedBonds bonds = (k : ℕ) → filter (λ b. b.number == k) bonds ≡ bonds_if (bond_at k bonds)
+AreNumberedBonds bonds = (k : ℕ)
+    → filter (λ b. b.number == k) bonds ≡ option_to_list (bond_at k bonds)
 
 pub record AreNumbered (s : Registers) : Type 0 where
   pub assets : AreNumberedAssets s.assets

@@ -5,7 +5,7 @@ use Rattle.cf_model.specs.RegisterRules.{payment_refusal, unadopted_due}
 use Rattle.cf_model.specs.Registers.{registers_of}
 use Rattle.cf_model.specs.Results.{bond_at}
 use Rattle.cf_model.specs.Rules.{first_refusal}
-use Rattle.cf_model.proofs.BondNumbers.{named_always}
+use Rattle.cf_model.proofs.BondNumbers.{bonds_named}
 use Rattle.cf_office_rules.proofs.Dues.{due_over, no_unadopted, paid_unadopted}
 use Rattle.cf_office_rules.proofs.budgets.payment_refusal.Goals as goal
 
@@ -17,7 +17,7 @@ returns-in-Some c =
     let p = c.in-PayDue.payment in
     let due : due_now plan (bond_at p.bond s.bonds) ≡ Some c.in-Some.due = due_over plan h _ _ p.bond _ c.chart.ensures.value c.debt.ensures c.due.ensures ∙ c.in-Some.is in
     c.unadopted_fund_refusal.ensures
-    ∙ sym (ap (first_refusal (λ (b : Bond). unadopted_due plan h p.fund (next_due b))) (named_always plan h c.chart.ensures.legal p.bond) ∙ paid_unadopted plan h p.fund (bond_at p.bond s.bonds) c.in-Some.due due)
+    ∙ sym (ap (first_refusal (λ (b : Bond). unadopted_due plan h p.fund (next_due b))) (bonds_named plan h c.chart.ensures.legal p.bond) ∙ paid_unadopted plan h p.fund (bond_at p.bond s.bonds) c.in-Some.due due)
     ∙ ap (payment_refusal plan h s) (sym c.in-PayDue.is)
 
 pub returns-in-None : goal.returns-in-None
@@ -27,5 +27,5 @@ returns-in-None c =
     let s = registers_of plan h in
     let p = c.in-PayDue.payment in
     let due : due_now plan (bond_at p.bond s.bonds) ≡ None = due_over plan h _ _ p.bond _ c.chart.ensures.value c.debt.ensures c.due.ensures ∙ c.in-None.is in
-    sym (ap (first_refusal (λ (b : Bond). unadopted_due plan h p.fund (next_due b))) (named_always plan h c.chart.ensures.legal p.bond) ∙ no_unadopted plan h p.fund (bond_at p.bond s.bonds) due)
+    sym (ap (first_refusal (λ (b : Bond). unadopted_due plan h p.fund (next_due b))) (bonds_named plan h c.chart.ensures.legal p.bond) ∙ no_unadopted plan h p.fund (bond_at p.bond s.bonds) due)
     ∙ ap (payment_refusal plan h s) (sym c.in-PayDue.is)

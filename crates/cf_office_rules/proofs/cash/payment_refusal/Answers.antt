@@ -5,7 +5,7 @@ use Rattle.cf_model.specs.Cash.{cash_short}
 use Rattle.cf_model.specs.Postings.{cash_of}
 use Rattle.cf_model.specs.Registers.{registers_of}
 use Rattle.cf_model.specs.Results.{bond_at}
-use Rattle.cf_model.proofs.BondNumbers.{named_always}
+use Rattle.cf_model.proofs.BondNumbers.{bonds_named}
 use Rattle.cf_registers.specs.Dues.{due_amount}
 use Rattle.cf_office_rules.proofs.Dues.{due_over}
 use Rattle.cf_office_rules.proofs.Short.{payment_short}
@@ -20,7 +20,7 @@ returns-in-Some c =
     let due : due_now plan (bond_at p.bond (registers_of plan h).bonds) ≡ Some d = due_over plan h _ _ p.bond _ c.chart.ensures.value c.debt.ensures c.due.ensures ∙ c.in-Some.is in
     let taken : c.from.result + c.from-in-Some.result ≡ d.principal + d.interest = omega (arith, c.from.ensures, c.from-in-Some.ensures) in
     c.fund_cash_refusal.ensures ∙ ap (cash_short p.fund (cash_of plan p.fund h)) (taken ∙ ap due_amount (sym due))
-    ∙ payment_short plan h c.args.on p (named_always plan h c.chart.ensures.legal p.bond) c.requires
+    ∙ payment_short plan h c.args.on p (bonds_named plan h c.chart.ensures.legal p.bond) c.requires
 
 pub returns-in-None : goal.returns-in-None
 returns-in-None c =
@@ -29,4 +29,4 @@ returns-in-None c =
     let p = c.args.payment.now in
     let due : due_now plan (bond_at p.bond (registers_of plan h).bonds) ≡ None = due_over plan h _ _ p.bond _ c.chart.ensures.value c.debt.ensures c.due.ensures ∙ c.in-None.is in
     ap (λ (o : Option Due). cash_short p.fund (cash_of plan p.fund h) (due_amount o)) (sym due)
-    ∙ payment_short plan h c.args.on p (named_always plan h c.chart.ensures.legal p.bond) c.requires
+    ∙ payment_short plan h c.args.on p (bonds_named plan h c.chart.ensures.legal p.bond) c.requires
