@@ -27,6 +27,7 @@ use Rattle.cf_calls.specs.declared.acts.LeaveAmount.{LeaveAmount}
 use Rattle.cf_calls.specs.declared.acts.FundMove.{FundMove}
 use Rattle.cf_calls.specs.declared.acts.FundMoveKind.{FundMoveKind}
 use Rattle.cf_calls.specs.declared.acts.FundMoveKind.TheVariants as move
+use Rattle.cf_calls.specs.declared.acts.Terms.{Terms}
 use Rattle.cf_calls.specs.declared.acts.Period.{Period}
 use Rattle.cf_calls.specs.declared.acts.Period.TheVariants as period
 use Rattle.cf_calls.specs.declared.call.Change.{Change}
@@ -38,7 +39,7 @@ use Rattle.cf_calls.specs.declared.items.Charge.{Charge}
 use Rattle.cf_calls.specs.declared.items.Charge.TheVariants.{Direct, OnOrder}
 use Rattle.cf_calls.specs.declared.items.Liquidation.{Liquidation}
 use Rattle.cf_calls.specs.declared.items.Liquidation.TheVariants.{Lesser, Recorded, Final}
-use Rattle.cf_calls.specs.Same.{is_line_amount, is_source_amount, is_account_item, is_liquidation, is_charge, is_voucher_item, same_option, same_flag, same_adoption, same_amendment, same_transfer, same_order, same_order_change, same_voucher, same_bill, same_bill_amount, same_asset_act, same_issue, same_debt_payment, same_leave_amount, same_leave_act, same_move_kind, same_fund_move, same_period, same_lease, same_act, same_day, same_call}
+use Rattle.cf_calls.specs.Same.{is_line_amount, is_source_amount, is_account_item, is_liquidation, is_charge, is_voucher_item, same_option, same_flag, same_adoption, same_amendment, same_transfer, same_order, same_order_change, same_voucher, same_bill, same_bill_amount, same_asset_act, same_terms, same_issue, same_debt_payment, same_leave_amount, same_leave_act, same_move_kind, same_fund_move, same_period, same_lease, same_act, same_day, same_call}
 
 -- ---- tests, one after another
 
@@ -252,13 +253,21 @@ asset_act-same : (a : AssetAct) → same_asset_act a a ≡ true
 asset_act-same (Donate a) = and_from _ _ (and_from _ _ (number-same a.dept) (number-same a.object)) (number-same a.amount)
 asset_act-same (Dispose a) = and_from _ _ (and_from _ _ (number-same a.asset) (number-same a.fund)) (number-same a.proceeds)
 
+terms_is : (a b : Terms) → same_terms a b ≡ true → a ≡ b
+terms_is a b e =
+    let p = all3 (a.rate_bp == b.rate_bp) (a.every == b.every) (pointwise nat_eq a.principals b.principals) e in
+    λ i. record { rate_bp = number a.rate_bp b.rate_bp p.0 i; every = number a.every b.every p.1 i; principals = numbers a.principals b.principals p.2 i }
+
+terms-same : (a : Terms) → same_terms a a ≡ true
+terms-same a = and_from _ _ (and_from _ _ (number-same a.rate_bp) (number-same a.every)) (numbers-same a.principals)
+
 issue_is : (a b : BondIssue) → same_issue a b ≡ true → a ≡ b
 issue_is a b e =
-    let p = all5 (a.fund == b.fund) (a.amount == b.amount) (a.rate_bp == b.rate_bp) (a.every == b.every) (pointwise nat_eq a.principals b.principals) e in
-    λ i. record { fund = number a.fund b.fund p.0 i; amount = number a.amount b.amount p.1 i; rate_bp = number a.rate_bp b.rate_bp p.2 i; every = number a.every b.every p.3 i; principals = numbers a.principals b.principals p.4 i }
+    let p = all3 (a.fund == b.fund) (a.amount == b.amount) (same_terms a.terms b.terms) e in
+    λ i. record { fund = number a.fund b.fund p.0 i; amount = number a.amount b.amount p.1 i; terms = terms_is a.terms b.terms p.2 i }
 
 issue-same : (a : BondIssue) → same_issue a a ≡ true
-issue-same a = and_from _ _ (and_from _ _ (and_from _ _ (and_from _ _ (number-same a.fund) (number-same a.amount)) (number-same a.rate_bp)) (number-same a.every)) (numbers-same a.principals)
+issue-same a = and_from _ _ (and_from _ _ (number-same a.fund) (number-same a.amount)) (terms-same a.terms)
 
 debt_payment_is : (a b : DebtPayment) → same_debt_payment a b ≡ true → a ≡ b
 debt_payment_is a b e =
@@ -321,11 +330,11 @@ period-same (period.Year a) = number-same a
 
 lease_is : (a b : NewLease) → same_lease a b ≡ true → a ≡ b
 lease_is a b e =
-    let p = all5 (a.vendor == b.vendor) (is_account_item a.account b.account) (a.rate_bp == b.rate_bp) (a.every == b.every) (pointwise nat_eq a.principals b.principals) e in
-    λ i. record { vendor = number a.vendor b.vendor p.0 i; account = account_item_is a.account b.account p.1 i; rate_bp = number a.rate_bp b.rate_bp p.2 i; every = number a.every b.every p.3 i; principals = numbers a.principals b.principals p.4 i }
+    let p = all3 (a.vendor == b.vendor) (is_account_item a.account b.account) (same_terms a.terms b.terms) e in
+    λ i. record { vendor = number a.vendor b.vendor p.0 i; account = account_item_is a.account b.account p.1 i; terms = terms_is a.terms b.terms p.2 i }
 
 lease-same : (a : NewLease) → same_lease a a ≡ true
-lease-same a = and_from _ _ (and_from _ _ (and_from _ _ (and_from _ _ (number-same a.vendor) (account_item-same a.account)) (number-same a.rate_bp)) (number-same a.every)) (numbers-same a.principals)
+lease-same a = and_from _ _ (and_from _ _ (number-same a.vendor) (account_item-same a.account)) (terms-same a.terms)
 
 act_is : (a b : Act) → same_act a b ≡ true → a ≡ b
 act_is (Adopt a) (Adopt b) e = ap Adopt (adoption_is a b e)

@@ -66,14 +66,8 @@ closes_year y _ = false
 -- a lease's amount, rate and schedule, as those of a bond (GASB Statement 87: a lease is a
 -- financing)
 abbrev pub schedule_of : NewLease → BondIssue
-schedule_of l = record {
-  fund = l.account.fund;
-  amount = l.account.amount;
-  rate_bp = l.rate_bp;
-  every = l.every;
-  principals = l.principals;
-}
+schedule_of l = record { fund = l.account.fund; amount = l.account.amount; terms = l.terms }
 
 -- the months that a lease is for
 abbrev pub term_of : NewLease → ℕ
-term_of l = l.every * length l.principals
+term_of l = l.terms.every * length l.terms.principals

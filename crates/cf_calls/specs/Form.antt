@@ -10,9 +10,9 @@ use Rattle.cf_base.specs.Limits.{last_year, most_cents}
 use Rattle.cf_calls.specs.declared.acts.Act.{Act}
 use Rattle.cf_calls.specs.declared.acts.Act.TheVariants.{Adopt, Amend, Transfer, Requisition, Order, ChangeOrder, Voucher, Pay, Bill, Collect, Receive, WriteOff, Asset, Issue, PayDue, Leave, Interfund, Close, Lease}
 use Rattle.cf_calls.specs.declared.acts.Adoption.{Adoption}
-use Rattle.cf_calls.specs.declared.acts.BondIssue.{BondIssue}
 use Rattle.cf_calls.specs.declared.acts.NewLease.{NewLease}
-use Rattle.cf_calls.specs.Acts.{schedule_of, term_of}
+use Rattle.cf_calls.specs.declared.acts.Terms.{Terms}
+use Rattle.cf_calls.specs.Acts.{term_of}
 use Rattle.cf_calls.specs.declared.acts.Period.{Period}
 use Rattle.cf_calls.specs.declared.acts.Period.TheVariants as period
 use Rattle.cf_calls.specs.declared.items.LineAmount.{LineAmount}
@@ -95,7 +95,7 @@ pub record IsAdoptionForm (a : Adoption) : Type 0 where
   pub few_estimates : length a.estimates ≤ 256
   pub estimates : is_distinct same_source a.estimates ≡ true
 
--- the months between a bond's payments
+-- the months between the payments of a debt
 abbrev pub is_period : ℕ → Bool
 is_period n = (n == 1) || (n == 2) || (n == 3) || (n == 4) || (n == 6) || (n == 12)
 
@@ -103,20 +103,20 @@ is_period n = (n == 1) || (n == 2) || (n == 3) || (n == 4) || (n == 6) || (n == 
 abbrev pub month_number : ℕ → ℕ → ℕ
 month_number year month = 12 * year + month
 
--- the last payment's month is at most December 2199
-pub record IsIssueForm (on : Day) (i : BondIssue) : Type 0 where
+-- the terms of a debt of this amount, owed from a day on: the principals come to the amount, and the
+-- last payment's month is at most December 2199
+pub record IsTermsForm (on : Day) (amount : ℕ) (t : Terms) : Type 0 where
   pub day : on.day ≤ 28
-  pub rate : i.rate_bp ≤ 10000
-  pub every : is_period i.every ≡ true
-  pub principals : IsCount 1 120 (length i.principals)
-  pub total : sum i.principals ≡ i.amount
-  pub last_due : month_number on.year on.month + i.every * length i.principals
+  pub rate : t.rate_bp ≤ 10000
+  pub every : is_period t.every ≡ true
+  pub principals : IsCount 1 120 (length t.principals)
+  pub total : sum t.principals ≡ amount
+  pub last_due : month_number on.year on.month + t.every * length t.principals
       ≤ month_number last_year 12
 
--- a lease's schedule is that of an issue, and its term is above 12 months (GASB Statement 87: a
--- shorter lease is no lease liability)
+-- a lease's term is above 12 months (GASB Statement 87: a shorter lease is no lease liability)
 pub record IsLeaseForm (on : Day) (l : NewLease) : Type 0 where
-  pub schedule : IsIssueForm on (schedule_of l)
+  pub terms : IsTermsForm on l.account.amount l.terms
   pub term : 12 < term_of l
 
 pub record IsVoucherForm (items : List VoucherItem) : Type 0 where
@@ -139,7 +139,7 @@ IsActInForm on (Voucher v) = IsVoucherForm v.items
 IsActInForm on (Pay p) = IsCount 1 64 (length p.vouchers)
     × (is_distinct same_number p.vouchers ≡ true)
 IsActInForm on (Bill b) = IsYear b.levy_year
-IsActInForm on (Issue i) = IsIssueForm on i
+IsActInForm on (Issue i) = IsTermsForm on i.amount i.terms
 IsActInForm on (Interfund m) = m.from ≢ m.to
 IsActInForm on (Close p) = IsPeriodForm p
 IsActInForm on (Lease l) = IsLeaseForm on l
@@ -191,13 +191,14 @@ IsWithinLimits (Receive a) = is_amount a.amount ≡ true
 IsWithinLimits (WriteOff a) = is_amount a.amount ≡ true
 IsWithinLimits (Asset (Donate d)) = is_amount d.amount ≡ true
 IsWithinLimits (Asset (Dispose d)) = is_most d.proceeds ≡ true
-IsWithinLimits (Issue i) = (is_amount i.amount ≡ true) × (list_all is_most i.principals ≡ true)
+IsWithinLimits (Issue i) = (is_amount i.amount ≡ true)
+    × (list_all is_most i.terms.principals ≡ true)
 IsWithinLimits (Leave (Earn a)) = is_amount a.amount ≡ true
 IsWithinLimits (Leave (Use a)) = is_amount a.amount ≡ true
 IsWithinLimits (Leave (Mature m)) = is_amount m.amount ≡ true
 IsWithinLimits (Interfund m) = is_amount m.amount ≡ true
 IsWithinLimits (Lease l) = (is_amount l.account.amount ≡ true)
-    × (list_all is_most l.principals ≡ true)
+    × (list_all is_most l.terms.principals ≡ true)
 IsWithinLimits _ = Unit {0}
 
 -- a debt payment's number is at most 65,535

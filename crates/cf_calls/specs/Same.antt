@@ -26,6 +26,7 @@ use Rattle.cf_calls.specs.declared.acts.LeaveAmount.{LeaveAmount}
 use Rattle.cf_calls.specs.declared.acts.FundMove.{FundMove}
 use Rattle.cf_calls.specs.declared.acts.FundMoveKind.{FundMoveKind}
 use Rattle.cf_calls.specs.declared.acts.FundMoveKind.TheVariants as move
+use Rattle.cf_calls.specs.declared.acts.Terms.{Terms}
 use Rattle.cf_calls.specs.declared.acts.Period.{Period}
 use Rattle.cf_calls.specs.declared.acts.Period.TheVariants as period
 use Rattle.cf_calls.specs.declared.call.Change.{Change}
@@ -115,9 +116,12 @@ same_asset_act (Dispose a) (Dispose b) = (a.asset == b.asset) && (a.fund == b.fu
     && (a.proceeds == b.proceeds)
 same_asset_act _ _ = false
 
+abbrev pub same_terms : Terms → Terms → Bool
+same_terms a b = (a.rate_bp == b.rate_bp) && (a.every == b.every)
+    && pointwise nat_eq a.principals b.principals
+
 abbrev pub same_issue : BondIssue → BondIssue → Bool
-same_issue a b = (a.fund == b.fund) && (a.amount == b.amount) && (a.rate_bp == b.rate_bp)
-    && (a.every == b.every) && pointwise nat_eq a.principals b.principals
+same_issue a b = (a.fund == b.fund) && (a.amount == b.amount) && same_terms a.terms b.terms
 
 abbrev pub same_debt_payment : DebtPayment → DebtPayment → Bool
 same_debt_payment a b = (a.bond == b.bond) && (a.fund == b.fund) && (a.dept == b.dept)
@@ -150,8 +154,7 @@ same_period _ _ = false
 
 abbrev pub same_lease : NewLease → NewLease → Bool
 same_lease a b = (a.vendor == b.vendor) && is_account_item a.account b.account
-    && (a.rate_bp == b.rate_bp) && (a.every == b.every)
-    && pointwise nat_eq a.principals b.principals
+    && same_terms a.terms b.terms
 
 abbrev pub same_act : Act → Act → Bool
 same_act (Adopt a) (Adopt b) = same_adoption a b

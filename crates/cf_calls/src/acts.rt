@@ -122,17 +122,23 @@ pub enum AssetAct {
     Dispose(Disposal),
 }
 
+/// The terms of a debt, a bond's or a lease's: its rate, and the schedule of its payments.
+#[derive(Drop)]
+pub struct Terms {
+    /// The yearly rate, in basis points, at most 10,000.
+    pub rate_bp: u16,
+    /// The months between payments: 1, 2, 3, 4, 6 or 12.
+    pub every: u16,
+    /// The principal of each payment, in order and in cents. Each may be 0.
+    pub principals: Principals,
+}
+
 /// The issue of a bond.
 #[derive(Drop)]
 pub struct BondIssue {
     pub fund: u16,
     pub amount: u64,
-    /// The yearly rate, in basis points, at most 10,000.
-    pub rate_bp: u16,
-    /// The months between payments: 1, 2, 3, 4, 6 or 12.
-    pub every: u16,
-    /// The principal of each payment, in order. Each may be 0.
-    pub principals: Principals,
+    pub terms: Terms,
 }
 
 /// The payment of a bond's next due payment. The last two are objects of expenditure.
@@ -194,13 +200,8 @@ pub struct NewLease {
     pub vendor: u32,
     /// The account that the lease is an expenditure of, with the amount of the lease, in cents.
     pub account: AccountItem,
-    /// The yearly rate, in basis points, at most 10,000.
-    pub rate_bp: u16,
-    /// The months between payments: 1, 2, 3, 4, 6 or 12.
-    pub every: u16,
-    /// The principal of each payment, in order. Each may be 0. The term, which they are for, is
-    /// above 12 months.
-    pub principals: Principals,
+    /// The months that the payments are for are more than 12.
+    pub terms: Terms,
 }
 
 /// What is closed.

@@ -3,7 +3,7 @@
 ghost use Rattle.std.specs.Prelude.{◌≡◌, ◌↔◌, IsTrue, None};
 ghost use Rattle.cf_calls.specs.Same as spec;
 
-use crate::acts::{Act, Adoption, BondIssue, NewLease, NewOrder, NewVoucher};
+use crate::acts::{Act, Adoption, BondIssue, NewLease, NewOrder, NewVoucher, Terms};
 use crate::call::Change;
 
 /// Whether two changes are equal but for `after`. Such a change is a repeat of the other.
@@ -101,22 +101,22 @@ fn same_voucher(a: &NewVoucher, b: &NewVoucher) -> bool
     a.vendor == b.vendor && a.back == b.back && a.items.as_slice() == b.items.as_slice()
 }
 
+fn same_terms(a: &Terms, b: &Terms) -> bool
+    ensures { result ≡ spec.same_terms a.now b.now }
+{
+    a.rate_bp == b.rate_bp
+        && a.every == b.every
+        && a.principals.as_slice() == b.principals.as_slice()
+}
+
 fn same_issue(a: &BondIssue, b: &BondIssue) -> bool
     ensures { result ≡ spec.same_issue a.now b.now }
 {
-    a.fund == b.fund
-        && a.amount == b.amount
-        && a.rate_bp == b.rate_bp
-        && a.every == b.every
-        && a.principals.as_slice() == b.principals.as_slice()
+    a.fund == b.fund && a.amount == b.amount && same_terms(&a.terms, &b.terms)
 }
 
 fn same_lease(a: &NewLease, b: &NewLease) -> bool
     ensures { result ≡ spec.same_lease a.now b.now }
 {
-    a.vendor == b.vendor
-        && a.account == b.account
-        && a.rate_bp == b.rate_bp
-        && a.every == b.every
-        && a.principals.as_slice() == b.principals.as_slice()
+    a.vendor == b.vendor && a.account == b.account && same_terms(&a.terms, &b.terms)
 }
