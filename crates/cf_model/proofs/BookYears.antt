@@ -60,9 +60,9 @@ timely_step (act.PayDue p) plan b timely = by_test (b.number == p.bond)
 timely_step _ plan b timely = timely
 
 pub timely_new : (plan : Plan) (on : Day) (a : Act) (drawn : Drawn) → HasCalendar plan → start_month plan ≤ month_number on.year on.month → IsActInForm on a → AllByRecursion (IsTimely plan) (bonds_by plan on a drawn)
-timely_new plan on (act.Issue i) drawn c from form = (timely_from plan i.every (number_of_day plan on) i.amount i.principals c (omega (arith, from, form.last_due)), tt)
+timely_new plan on (act.Issue i) drawn c from form = (timely_from plan i.terms.every (number_of_day plan on) i.amount i.terms.principals c (omega (arith, from, form.last_due)), tt)
 timely_new plan on (act.Lease l) drawn c from form =
-    (timely_from plan l.every (number_of_day plan on) l.account.amount l.principals c (omega (arith, from, form.schedule.last_due)), tt)
+    (timely_from plan l.terms.every (number_of_day plan on) l.account.amount l.terms.principals c (omega (arith, from, form.terms.last_due)), tt)
 timely_new plan on _ drawn c from form = tt
 
 -- ---- the years of each act

@@ -78,7 +78,7 @@ new_low : (plan : Plan) (on : Day) (a : Act) (drawn : Drawn) → amount_refusal 
 new_low plan on (act.Voucher v) drawn none = bought_low plan drawn.number on (document_year plan on (act.Voucher v)) drawn.second v.items none
 new_low plan on (act.Asset (Donate d)) drawn none = (small d.amount (or_else_none (bad_amount (amount d.amount)) None none).0, tt)
 new_low plan on (act.Asset (Dispose d)) drawn none = tt
-new_low plan on (act.Lease l) drawn none = (small l.account.amount (or_else_none (bad_amount (amount l.account.amount)) (first_refusal bad_amount (map amount_or_none l.principals)) none).0, tt)
+new_low plan on (act.Lease l) drawn none = (small l.account.amount (or_else_none (bad_amount (amount l.account.amount)) (first_refusal bad_amount (map amount_or_none l.terms.principals)) none).0, tt)
 new_low plan on _ drawn none = tt
 
 new_few : (plan : Plan) (on : Day) (a : Act) (drawn : Drawn) → IsActInForm on a → length (assets_by plan on a drawn) ≤ 32
@@ -118,18 +118,18 @@ period_most n e = grind (arith, common_steps)
 
 new_bonds : (plan : Plan) (on : Day) (a : Act) (drawn : Drawn) → IsActInForm on a → amount_refusal a ≡ None → AllByRecursion IsLowBond (bonds_by plan on a drawn)
 new_bonds plan on (act.Issue i) drawn form none =
-    let both = or_else_none (bad_amount (amount i.amount)) (first_refusal bad_amount (map amount_or_none i.principals)) none in (
+    let both = or_else_none (bad_amount (amount i.amount)) (first_refusal bad_amount (map amount_or_none i.terms.principals)) none in (
       record {
-        terms = record { amount = small i.amount both.0; rate = form.rate; every = period_most i.every form.every; count = form.principals.to };
-        principals = principals_low i.principals both.1;
+        terms = record { amount = small i.amount both.0; rate = form.rate; every = period_most i.terms.every form.every; count = form.principals.to };
+        principals = principals_low i.terms.principals both.1;
       },
       tt,
     )
 new_bonds plan on (act.Lease l) drawn form none =
-    let both = or_else_none (bad_amount (amount l.account.amount)) (first_refusal bad_amount (map amount_or_none l.principals)) none in (
+    let both = or_else_none (bad_amount (amount l.account.amount)) (first_refusal bad_amount (map amount_or_none l.terms.principals)) none in (
       record {
-        terms = record { amount = small l.account.amount both.0; rate = form.schedule.rate; every = period_most l.every form.schedule.every; count = form.schedule.principals.to };
-        principals = principals_low l.principals both.1;
+        terms = record { amount = small l.account.amount both.0; rate = form.terms.rate; every = period_most l.terms.every form.terms.every; count = form.terms.principals.to };
+        principals = principals_low l.terms.principals both.1;
       },
       tt,
     )

@@ -109,7 +109,7 @@ gifts = (refl, refl)
 
 -- a bond of two payments half a year apart, in January and July 2026
 abbrev issued : Entry
-issued = entry 1 0 (day 2025 7 2) (act.Issue (record { fund = 2; amount = 100000000; rate_bp = 425; every = 6; principals = 50000000 ∷ 50000000 ∷ [] }))
+issued = entry 1 0 (day 2025 7 2) (act.Issue (record { fund = 2; amount = 100000000; terms = record { rate_bp = 425; every = 6; principals = 50000000 ∷ 50000000 ∷ [] } }))
 
 abbrev pays : ℕ → ℕ → ℕ → ℕ → Act
 pays bond fund principal interest = act.PayDue (record { bond = bond; fund = fund; dept = 10; principal = principal; interest = interest })
@@ -160,7 +160,7 @@ leaves = (refl, refl, refl, refl, refl, refl, refl)
 
 abbrev leases : ℕ → ℕ → ℕ → Act
 leases fund dept object =
-    act.Lease (record { vendor = 7; account = record { fund = fund; dept = dept; object = object; amount = 36000 }; rate_bp = 0; every = 12; principals = 18000 ∷ 18000 ∷ [] })
+    act.Lease (record { vendor = 7; account = record { fund = fund; dept = dept; object = object; amount = 36000 }; terms = record { rate_bp = 0; every = 12; principals = 18000 ∷ 18000 ∷ [] } })
 
 -- a lease names its account, whose object is capital, and needs the budget of its fund
 lease_names : (says [] (day 2025 7 6) (leases 9 10 710) ≡ Refuse (refusal.UnknownName kind.Fund 9))

@@ -38,7 +38,7 @@ expended_of h year = expended city 0 year h ∷ expended city 1 year h ∷ expen
 -- a bond of 100000000 at 4.25 per cent, of two payments half a year apart: the second is due on the
 -- first day of the next fiscal year
 abbrev issued : Entry
-issued = entry 1 2025 7 1 (act.Issue (record { fund = 3; amount = 100000000; rate_bp = 425; every = 6; principals = 50000000 ∷ 50000000 ∷ [] }))
+issued = entry 1 2025 7 1 (act.Issue (record { fund = 3; amount = 100000000; terms = record { rate_bp = 425; every = 6; principals = 50000000 ∷ 50000000 ∷ [] } }))
 
 abbrev pays : ℕ → ℕ → ℕ → ℕ → Entry
 pays number year month day = entry number year month day (act.PayDue (record { bond = 1; fund = 1; dept = 10; principal = 810; interest = 820 }))
@@ -74,7 +74,7 @@ leave_spent = (refl, refl)
 -- due
 abbrev leases : Entry
 leases =
-    entry 1 2026 6 1 (act.Lease (record { vendor = 7; account = record { fund = 1; dept = 10; object = 520; amount = 36000 }; rate_bp = 1000; every = 12; principals = 18000 ∷ 18000 ∷ [] }))
+    entry 1 2026 6 1 (act.Lease (record { vendor = 7; account = record { fund = 1; dept = 10; object = 520; amount = 36000 }; terms = record { rate_bp = 1000; every = 12; principals = 18000 ∷ 18000 ∷ [] } }))
 
 lease_spent : (expended_of (leases ∷ []) 2026 ≡ 36000 ∷ 0 ∷ 0 ∷ [])
     × (expended_of (leases ∷ []) 2027 ≡ 0 ∷ 0 ∷ 0 ∷ [])

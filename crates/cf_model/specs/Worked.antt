@@ -328,9 +328,7 @@ issued = drew 1 0 (on 2025 7 1)
     (act.Issue (record {
       fund = 2;
       amount = 100000000;
-      rate_bp = 425;
-      every = 6;
-      principals = 50000000 ∷ 50000000 ∷ [];
+      terms = record { rate_bp = 425; every = 6; principals = 50000000 ∷ 50000000 ∷ [] };
     }))
 
 abbrev pub EarnsInterest : Type 0
@@ -384,9 +382,7 @@ leased =
     (act.Lease (record {
       vendor = 7;
       account = record { fund = 1; dept = 10; object = 710; amount = 36000 };
-      rate_bp = 0;
-      every = 12;
-      principals = 18000 ∷ 18000 ∷ [];
+      terms = record { rate_bp = 0; every = 12; principals = 18000 ∷ 18000 ∷ [] };
     }))
 
 -- 5000 are received, of which 2000 go to the other fund
