@@ -208,7 +208,7 @@ fn life_of_lease(chart: &Chart, lease: &NewLease) -> u16
     requires { (on : Day) × IsLeaseForm on lease.now }
     ensures { result ≡ leased_life chart.now lease.now }
 {
-    let term = lease.every * lease.principals.as_slice().len() as u16;
+    let term = lease.terms.every * lease.terms.principals.as_slice().len() as u16;
     let life = life_of(chart, lease.account.object);
     if life == 0 { term } else { term.min(life) }
 }

@@ -6,7 +6,7 @@ use Rattle.cf_base.specs.declared.calendar.Day.{Day}
 use Rattle.cf_base.specs.Calendar.{is_day}
 use Rattle.cf_base.proofs.DayNumbers.{parts}
 use Rattle.cf_calls.specs.declared.acts.BondIssue.{BondIssue}
-use Rattle.cf_calls.specs.Form.{IsCount, IsIssueForm, is_period}
+use Rattle.cf_calls.specs.Form.{IsCount, IsTermsForm, is_period}
 use Rattle.cf_chart.specs.Plan.{Plan}
 use Rattle.cf_debt.specs.declared.rows.BondRow.{BondRow}
 use Rattle.cf_debt.specs.RegisterView.{AreRows, HasBonds, HasSums, amount_of, is_live, lease_amount, lease_principal, principal_of}
@@ -47,15 +47,15 @@ pub record IsNew (closed : ℕ) (all : List Due) (count : ℕ) (r : BondRow) (pr
   pub within : r.last ≤ 2759
   pub early : closed ≤ r.month
 
-pub new_row : (plan : Plan) (on : Day) (number : ℕ) (is_lease : Bool) (i : BondIssue) (closed : ℕ) (all : List Due) (count : ℕ) → is_day on ≡ true → IsIssueForm on i → number ≡ count + 1 → i.amount ≤ most_cents →
-    1970 ≤ (bond_row plan on number is_lease i (length all)).year → (bond_row plan on number is_lease i (length all)).last ≤ 2759 → closed ≤ number_of_day plan on → IsNew closed all count (bond_row plan on number is_lease i (length all)) i.principals
+pub new_row : (plan : Plan) (on : Day) (number : ℕ) (is_lease : Bool) (i : BondIssue) (closed : ℕ) (all : List Due) (count : ℕ) → is_day on ≡ true → IsTermsForm on i.amount i.terms → number ≡ count + 1 → i.amount ≤ most_cents →
+    1970 ≤ (bond_row plan on number is_lease i (length all)).year → (bond_row plan on number is_lease i (length all)).last ≤ 2759 → closed ≤ number_of_day plan on → IsNew closed all count (bond_row plan on number is_lease i (length all)) i.terms.principals
 new_row plan on number is_lease i closed all count day form is amount year within early =
     record {
       number = is;
       year = year;
       amount = amount;
       rate = form.rate;
-      every = months_between i.every form.every;
+      every = months_between i.terms.every form.every;
       day = record { from = (parts on day).first_day; to = form.day };
       payments = form.principals;
       paid = refl;

@@ -4,7 +4,7 @@ use Rattle.std.proofs.lemmas.List.{length-map, length-take, length-drop, get_or-
 use Rattle.std.proofs.lemmas.List.Sums.{sum_by_more}
 use Rattle.cf_debt.specs.declared.rows.BondRow.{BondRow}
 use Rattle.cf_debt.specs.declared.rows.Payment.{Payment}
-use Rattle.cf_debt.specs.declared.rows.Terms.{Terms}
+use Rattle.cf_debt.specs.declared.rows.RowTerms.{RowTerms}
 use Rattle.cf_debt.specs.Charges.{bond_of, running_charge}
 use Rattle.cf_debt.specs.Rows.{AreSmallDues, IsBond, IsSmallDue, schedule, view_bond, view_payment, view_payments}
 use Rattle.cf_debt.proofs.Running.{charge_at, due_before}
@@ -47,8 +47,8 @@ small_part payments from count small =
         subst IsSmallDue (sym (get_or-take count (drop from (view_payments payments)) k d (omega (arith, short)) ∙ get_or-drop from (view_payments payments) k d))
         (small (from + k) d (omega (arith, short)))
 
-same_charge : (t : Terms) (all : List Due) (r : BondRow) (month : ℕ) (ps : List Due) → t ≡ r.terms → running_charge (bond_of t) month ps ≡ model.running_charge (view_bond all r) month ps
-same_charge t all r month ps e = ap (λ (u : Terms). running_charge (bond_of u) month ps) e ∙ by_list ps
+same_charge : (t : RowTerms) (all : List Due) (r : BondRow) (month : ℕ) (ps : List Due) → t ≡ r.terms → running_charge (bond_of t) month ps ≡ model.running_charge (view_bond all r) month ps
+same_charge t all r month ps e = ap (λ (u : RowTerms). running_charge (bond_of u) month ps) e ∙ by_list ps
   where
     by_list : (ps : List Due) → running_charge (bond_of r.terms) month ps ≡ model.running_charge (view_bond all r) month ps
     by_list [] = refl

@@ -1,10 +1,10 @@
 -- What a month charges of a bond's payments, of which at most two earn in a month.
 use Rattle.std.specs.Prelude.{ℕ, ◌+◌, ◌-◌, false, if◌then◌else◌, ◌==◌, List, [], ◌∷◌}
-use Rattle.cf_debt.specs.declared.rows.Terms.{Terms}
+use Rattle.cf_debt.specs.declared.rows.RowTerms.{RowTerms}
 use Rattle.cf_model.specs.Bonds.{Bond, Due, interest_for, days_by}
 
 -- a bond of these terms
-abbrev pub bond_of : Terms → Bond
+abbrev pub bond_of : RowTerms → Bond
 bond_of t = record {
   number = 0;
   is_lease = false;

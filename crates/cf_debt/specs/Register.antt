@@ -66,8 +66,8 @@ HasRoomToChange (Mature l) r = HasRoomForLeave l.fund l.dept r
 
 -- there is memory for what an act adds
 abbrev pub HasRoomFor : Act → Register → Type 0
-HasRoomFor (act.Issue i) r = HasRoomToIssue (length i.principals) r
-HasRoomFor (act.Lease l) r = HasRoomToIssue (length l.principals) r
+HasRoomFor (act.Issue i) r = HasRoomToIssue (length i.terms.principals) r
+HasRoomFor (act.Lease l) r = HasRoomToIssue (length l.terms.principals) r
 HasRoomFor (act.Leave l) r = HasRoomToChange l r
 HasRoomFor _ r = Unit {0}
 

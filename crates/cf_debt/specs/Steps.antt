@@ -3,6 +3,7 @@ use Rattle.std.specs.Prelude.{◌≡◌, ℕ, ◌+◌, ◌*◌, ◌<◌, ◌==�
 use Rattle.std.specs.List.{filter}
 use Rattle.cf_base.specs.declared.calendar.Day.{Day}
 use Rattle.cf_calls.specs.declared.acts.BondIssue.{BondIssue}
+use Rattle.cf_calls.specs.declared.acts.Terms.{Terms}
 use Rattle.cf_chart.specs.Plan.{Plan}
 use Rattle.cf_debt.specs.declared.debt.BondNow.{BondNow}
 use Rattle.cf_debt.specs.declared.rows.BondRow.{BondRow}
@@ -29,16 +30,9 @@ pub record CanPay (n : ℕ) (d : Debts) : Type 0 where
   pub is : bond_at n d.bonds ≡ Some bond
   pub left : is_some (next_due bond) ≡ true
 
--- new debt with its principals
-abbrev pub issue_of : NewDebt → List ℕ → BondIssue
-issue_of d principals =
-    record {
-      fund = d.fund;
-      amount = d.amount;
-      rate_bp = d.rate_bp;
-      every = d.every;
-      principals = principals;
-    }
+-- new debt of these terms
+abbrev pub issue_of : NewDebt → Terms → BondIssue
+issue_of d terms = record { fund = d.fund; amount = d.amount; terms = terms }
 
 -- a new bond or lease, whose payments begin at a place
 abbrev pub bond_row : Plan → Day → ℕ → Bool → BondIssue → ℕ → BondRow
@@ -49,10 +43,10 @@ bond_row plan on number is_lease i start = record {
   amount = i.amount;
   year = year_of_day plan on;
   month = number_of_day plan on;
-  terms = record { every = i.every; day = on.day; rate_bp = i.rate_bp };
+  terms = record { every = i.terms.every; day = on.day; rate_bp = i.terms.rate_bp };
   start = start;
-  count = length i.principals;
-  last = number_of_day plan on + i.every * length i.principals;
+  count = length i.terms.principals;
+  last = number_of_day plan on + i.terms.every * length i.terms.principals;
   paid = 0;
 }
 

@@ -29,8 +29,8 @@ impl Debt {
         ensures acts { self.new.acts ≡ self.old.acts }
     {
         match act {
-            Act::Issue(issue) => self.reserve_bond(issue.principals.as_slice().len()),
-            Act::Lease(lease) => self.reserve_bond(lease.principals.as_slice().len()),
+            Act::Issue(issue) => self.reserve_bond(issue.terms.principals.as_slice().len()),
+            Act::Lease(lease) => self.reserve_bond(lease.terms.principals.as_slice().len()),
             Act::Leave(leave) => match leave {
                 LeaveAct::Earn(part) => self.reserve_leave(part.fund, part.dept),
                 LeaveAct::Use(part) => self.reserve_leave(part.fund, part.dept),

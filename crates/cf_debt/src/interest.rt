@@ -6,7 +6,7 @@ ghost use Rattle.cf_debt.specs.Rows.{AreSmallDues, IsBond, view_bond, view_payme
 ghost use Rattle.cf_model.specs.Bonds as spec;
 ghost use Rattle.cf_base.specs.Limits.{most_cents};
 
-use crate::rows::{BondRow, Payment, Terms};
+use crate::rows::{BondRow, Payment, RowTerms};
 
 /// The interest of a principal for so many days, at a rate in basis points a year of 360 days, in
 /// cents.
@@ -22,7 +22,7 @@ pub fn interest_for(owed: u64, rate_bp: u16, days: u64) -> u64
 }
 
 /// The days of a period by the end of the first so many months.
-pub fn days_by(terms: Terms, from: u16, months: u16) -> u64
+pub fn days_by(terms: RowTerms, from: u16, months: u16) -> u64
     requires { terms.every ≤ 12 }
     ensures value { result ≡ min (30 * terms.every) (30 * (months - from) + 1 - terms.day) }
     ensures small { result ≤ 360 }
@@ -33,7 +33,7 @@ pub fn days_by(terms: Terms, from: u16, months: u16) -> u64
 }
 
 /// The interest of a payment's period by the end of the first so many months.
-pub fn earned_by(terms: Terms, payment: &Payment, months: u16) -> u64
+pub fn earned_by(terms: RowTerms, payment: &Payment, months: u16) -> u64
     requires every { terms.every ≤ 12 }
     requires rate { terms.rate_bp ≤ 10000 }
     requires owed { payment.now.owed ≤ most_cents }
@@ -50,7 +50,7 @@ pub fn earned_by(terms: Terms, payment: &Payment, months: u16) -> u64
 }
 
 /// The interest of a payment's whole period.
-pub fn coupon(terms: Terms, payment: &Payment) -> u64
+pub fn coupon(terms: RowTerms, payment: &Payment) -> u64
     requires every { terms.every ≤ 12 }
     requires rate { terms.rate_bp ≤ 10000 }
     requires owed { payment.now.owed ≤ most_cents }
@@ -62,7 +62,7 @@ pub fn coupon(terms: Terms, payment: &Payment) -> u64
 
 /// What the close of the next month charges of a bond, given its payments from the first on that
 /// isn't due before that month.
-fn charge_of(terms: Terms, running: &[Payment], closed: u16) -> u64
+fn charge_of(terms: RowTerms, running: &[Payment], closed: u16) -> u64
     requires every { terms.every ≤ 12 }
     requires rate { terms.rate_bp ≤ 10000 }
     requires small { AreSmallDues (view_payments running.now) }

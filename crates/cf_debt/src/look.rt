@@ -10,7 +10,7 @@ ghost use Rattle.cf_base.specs.Limits.{most_cents};
 
 use crate::debt::{Debt, due_day};
 use crate::interest::{coupon, earned_by};
-use crate::rows::{BondRow, Payment, Terms};
+use crate::rows::{BondRow, Payment, RowTerms};
 use crate::schedule::next_of;
 use cf_calls::{Read, Shown};
 use cf_chart::Chart;
@@ -80,7 +80,7 @@ fn shown_of(chart: &Chart, payments: &[Payment], bond: &BondRow, closed: u16) ->
 }
 
 /// The interest that payments have earned by the end of the first so many months.
-fn earned_of(terms: Terms, payments: &[Payment], closed: u16) -> u128
+fn earned_of(terms: RowTerms, payments: &[Payment], closed: u16) -> u128
     requires every { terms.every ≤ 12 }
     requires rate { terms.rate_bp ≤ 10000 }
     requires small { AreSmallDues (view_payments payments.now) }
@@ -98,7 +98,7 @@ fn earned_of(terms: Terms, payments: &[Payment], closed: u16) -> u128
 }
 
 /// The coupons of payments.
-fn coupons_of(terms: Terms, payments: &[Payment]) -> u128
+fn coupons_of(terms: RowTerms, payments: &[Payment]) -> u128
     requires every { terms.every ≤ 12 }
     requires rate { terms.rate_bp ≤ 10000 }
     requires small { AreSmallDues (view_payments payments.now) }

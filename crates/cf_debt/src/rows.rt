@@ -1,8 +1,8 @@
 //! What the register keeps of bonds, of their payments, and of leave.
 
-/// The terms of a bond.
+/// Of the terms of a bond or a lease, what its interest is reckoned from.
 #[derive(Clone, Copy)]
-pub struct Terms {
+pub struct RowTerms {
     /// The months between payments.
     pub every: u16,
     /// The day of the month on which the bond was issued and its payments are due.
@@ -11,17 +11,13 @@ pub struct Terms {
     pub rate_bp: u16,
 }
 
-/// Debt that is entered: bonds that are issued, or a lease.
+/// Debt that is entered, its terms aside: bonds that are issued, or a lease.
 #[derive(Clone, Copy)]
 pub struct NewDebt {
     pub is_lease: bool,
     pub fund: u16,
     /// In cents.
     pub amount: u64,
-    /// The yearly rate, in basis points.
-    pub rate_bp: u16,
-    /// The months between payments.
-    pub every: u16,
 }
 
 /// A bond, or a lease. They stand by number, from 1.
@@ -35,7 +31,7 @@ pub struct BondRow {
     pub year: u16,
     /// The month of its issue, from the chart's first.
     pub month: u16,
-    pub terms: Terms,
+    pub terms: RowTerms,
     /// Where its payments begin among those of all bonds.
     pub start: usize,
     /// How many payments it has.

@@ -4,7 +4,7 @@ ghost use Rattle.std.specs.Prelude.{◌≡◌, ◌≤◌, ◌<◌, ◌+◌, ◌�
 ghost use Rattle.std.specs.Vec.{vec_capacity};
 ghost use Rattle.cf_base.specs.Calendar.{is_day};
 ghost use Rattle.cf_base.specs.Limits.{last_fiscal_year, most_entries, most_cents};
-ghost use Rattle.cf_calls.specs.Form.{IsCallMonth, IsIssueForm};
+ghost use Rattle.cf_calls.specs.Form.{IsCallMonth, IsTermsForm};
 ghost use Rattle.cf_calls.specs.declared.acts.Act.TheVariants as act;
 ghost use Rattle.cf_debt.specs.Register.{HasRoomToIssue, HasRoomForLeave, unpaid_of};
 ghost use Rattle.cf_debt.specs.RegisterView.{live_of};
@@ -12,7 +12,6 @@ ghost use Rattle.cf_debt.specs.Rows.{view_leave};
 ghost use Rattle.cf_debt.specs.Rows.{lease_part as spec_lease_part};
 ghost use Rattle.cf_debt.specs.Steps.{AreNumbered, CanPay, bond_row, issue_of, paid_row};
 ghost use Rattle.cf_debt.specs.declared.rows.BondRow.{BondRow as Row};
-ghost use Rattle.cf_calls.specs.Acts.{schedule_of};
 ghost use Rattle.cf_model.specs.Bonds.{bond_step, bonds_by};
 ghost use Rattle.cf_model.specs.Bonds.{new_bond as spec_new_bond};
 ghost use Rattle.cf_model.specs.Leave.{leave_of};
@@ -22,10 +21,10 @@ ghost use Rattle.cf_model.specs.Rules.{first_refusal};
 
 use crate::debt::{Debt, interest_of, leave_key};
 use crate::interest::coupon;
-use crate::rows::{BondRow, LeaveRow, NewDebt, Terms};
+use crate::rows::{BondRow, LeaveRow, NewDebt, RowTerms};
 use crate::schedule::add_schedule;
 use cf_base::{Day, Month};
-use cf_calls::acts::{BondIssue, DebtPayment, NewLease};
+use cf_calls::acts::{BondIssue, DebtPayment, NewLease, Terms};
 use cf_chart::Chart;
 use cf_register_parts::{
     add_at, amount_at, number_of_day, number_of_month, put_in, raise, year_of_day,
@@ -44,11 +43,11 @@ impl Debt {
     /// Enters bonds that are issued.
     pub(crate) fn enter_issue(&mut self, chart: &Chart, on: Day, number: u32, issue: &BondIssue)
         requires day { is_day on ≡ true }
-        requires form { IsIssueForm on issue.now }
+        requires form { IsTermsForm on issue.now.amount issue.now.terms }
         requires number { number ≡ length self.old.debts.bonds + 1 }
         requires amount { issue.now.amount ≤ most_cents }
         requires early { self.old.debts.closed ≤ number_of_day chart.now on }
-        requires room { HasRoomToIssue (length issue.now.principals) self.old }
+        requires room { HasRoomToIssue (length issue.now.terms.principals) self.old }
         requires few { self.old.acts < most_entries }
         ensures debts { self.new.debts ≡ record self.old.debts {
           bonds = self.old.debts.bonds
@@ -60,20 +59,18 @@ impl Debt {
             is_lease: false,
             fund: issue.fund,
             amount: issue.amount,
-            rate_bp: issue.rate_bp,
-            every: issue.every,
         };
-        self.enter_debt(chart, on, number, debt, issue.principals.as_slice());
+        self.enter_debt(chart, on, number, debt, &issue.terms);
     }
 
     /// Enters what is owed for a lease (GASB Statement 87).
     pub(crate) fn enter_lease(&mut self, chart: &Chart, on: Day, number: u32, lease: &NewLease)
         requires day { is_day on ≡ true }
-        requires form { IsIssueForm on (schedule_of lease.now) }
+        requires form { IsTermsForm on lease.now.account.amount lease.now.terms }
         requires number { number ≡ length self.old.debts.bonds + 1 }
         requires amount { lease.now.account.amount ≤ most_cents }
         requires early { self.old.debts.closed ≤ number_of_day chart.now on }
-        requires room { HasRoomToIssue (length lease.now.principals) self.old }
+        requires room { HasRoomToIssue (length lease.now.terms.principals) self.old }
         requires few { self.old.acts < most_entries }
         ensures debts { self.new.debts ≡ record self.old.debts {
           bonds = self.old.debts.bonds
@@ -85,34 +82,32 @@ impl Debt {
             is_lease: true,
             fund: lease.account.fund,
             amount: lease.account.amount,
-            rate_bp: lease.rate_bp,
-            every: lease.every,
         };
-        self.enter_debt(chart, on, number, debt, lease.principals.as_slice());
+        self.enter_debt(chart, on, number, debt, &lease.terms);
     }
 
     /// Enters a bond or a lease with its payments.
-    fn enter_debt(&mut self, chart: &Chart, on: Day, number: u32, debt: NewDebt, principals: &[u64])
+    fn enter_debt(&mut self, chart: &Chart, on: Day, number: u32, debt: NewDebt, terms: &Terms)
         requires day { is_day on ≡ true }
-        requires form { IsIssueForm on (issue_of debt principals.now) }
+        requires form { IsTermsForm on debt.amount terms.now }
         requires number { number ≡ length self.old.debts.bonds + 1 }
         requires amount { debt.amount ≤ most_cents }
         requires early { self.old.debts.closed ≤ number_of_day chart.now on }
-        requires room { HasRoomToIssue (length principals.now) self.old }
+        requires room { HasRoomToIssue (length terms.now.principals) self.old }
         requires few { self.old.acts < most_entries }
         ensures debts { self.new.debts ≡ record self.old.debts {
           bonds = self.old.debts.bonds
-              ++ spec_new_bond chart.now on number debt.is_lease (issue_of debt principals.now) ∷ [];
+              ++ spec_new_bond chart.now on number debt.is_lease (issue_of debt terms.now) ∷ [];
         } }
         ensures acts { self.new.acts ≡ self.old.acts + 1 }
     {
-        let row = new_bond(chart, on, number, debt, principals, self.payments.len());
+        let row = new_bond(chart, on, number, debt, terms, self.payments.len());
         add_schedule(
             &mut self.payments,
-            debt.every,
+            terms.every,
             row.month,
             row.amount,
-            principals,
+            terms.principals.as_slice(),
         );
         self.bonds.push_reserved(row);
         self.live.push_reserved(number);
@@ -213,17 +208,17 @@ fn new_bond(
     on: Day,
     number: u32,
     debt: NewDebt,
-    principals: &[u64],
+    terms: &Terms,
     start: usize,
 ) -> BondRow
     requires day { is_day on ≡ true }
-    requires form { IsIssueForm on (issue_of debt principals.now) }
+    requires form { IsTermsForm on debt.amount terms.now }
     ensures row { result
-        ≡ bond_row chart.now on number debt.is_lease (issue_of debt principals.now) start }
+        ≡ bond_row chart.now on number debt.is_lease (issue_of debt terms.now) start }
     ensures last { result.last ≤ 2759 }
 {
     let month = number_of_day(chart, on);
-    let count = principals.len() as u16;
+    let count = terms.principals.as_slice().len() as u16;
     BondRow {
         number,
         is_lease: debt.is_lease,
@@ -231,14 +226,14 @@ fn new_bond(
         amount: debt.amount,
         year: year_of_day(chart, on),
         month,
-        terms: Terms {
-            every: debt.every,
+        terms: RowTerms {
+            every: terms.every,
             day: on.day,
-            rate_bp: debt.rate_bp,
+            rate_bp: terms.rate_bp,
         },
         start,
         count,
-        last: month + debt.every * count,
+        last: month + terms.every * count,
         paid: 0,
     }
 }
