@@ -15,7 +15,7 @@ ghost use Rattle.cf_office_rules.specs.Least.{closed_where};
 ghost use Rattle.cf_chart.specs.Plan.{desk_at};
 
 use cf_base::{Day, LAST_YEAR, MOST_CENTS, MOST_ENTRIES, Month, fiscal_year, month_of};
-use cf_calls::acts::{AssetAct, LeaveAct, Period};
+use cf_calls::acts::{AssetAct, LeaveAct, Period, Terms};
 use cf_calls::items::{AccountItem, LineAmount, SourceAmount, VoucherItem};
 use cf_calls::{Act, Refusal, Role, has_role, role_of};
 use cf_chart::Chart;
@@ -174,6 +174,13 @@ fn principals_amount_refusal(principals: &[u64]) -> Option<Refusal>
 }
 
 #[tactic(auto, using(cf_model::proofs::First::firsts))]
+fn debt_amount_refusal(amount: u64, terms: &Terms) -> Option<Refusal>
+    ensures { result ≡ first_refusal spec.bad_amount (spec.debt_amounts amount terms.now) }
+{
+    one_amount_refusal(amount).or_else(|| principals_amount_refusal(terms.principals.as_slice()))
+}
+
+#[tactic(auto, using(cf_model::proofs::First::firsts))]
 fn asset_amount_refusal(act: &AssetAct) -> Option<Refusal>
     ensures { result ≡ first_refusal spec.bad_amount (spec.asset_amounts act.now) }
 {
@@ -216,18 +223,10 @@ pub fn amount_refusal(act: &Act) -> Option<Refusal>
         Act::Receive(r) => one_amount_refusal(r.amount),
         Act::WriteOff(part) => one_amount_refusal(part.amount),
         Act::Asset(asset) => asset_amount_refusal(asset),
-        Act::Issue(bond) => {
-            one_amount_refusal(bond.amount).or_else(|| principals_amount_refusal(
-                bond.principals.as_slice(),
-            ))
-        }
+        Act::Issue(bond) => debt_amount_refusal(bond.amount, &bond.terms),
         Act::Leave(leave) => leave_amount_refusal(leave),
         Act::Interfund(m) => one_amount_refusal(m.amount),
-        Act::Lease(lease) => {
-            one_amount_refusal(lease.account.amount).or_else(|| principals_amount_refusal(
-                lease.principals.as_slice(),
-            ))
-        }
+        Act::Lease(lease) => debt_amount_refusal(lease.account.amount, &lease.terms),
         Act::Withdraw(_)
         | Act::CancelOrder(_)
         | Act::VoidVoucher(_)
