@@ -1,20 +1,15 @@
 -- A row an entry: its place, day, desk, key and call, its amount, and the numbers that it drew.
-use Rattle.std.specs.Prelude.{ℕ, ◌+◌, ℤ, Bool, List, [], ◌∷◌, ◌++◌, Option, Some, None, codes, decimal}
-use Rattle.cf_base.specs.Amounts.{money_of}
+use Rattle.std.specs.Prelude.{ℕ, ◌+◌, ℤ, Bool, List, [], ◌∷◌, ◌++◌, Option, codes, decimal}
 use Rattle.cf_base.specs.Calendar.{day_text}
 use Rattle.cf_calls.specs.declared.entry.Entry.{Entry}
 use Rattle.cf_json_calls.specs.CallText.{call_word}
 use Rattle.cf_books_payments.specs.Payments.{Payable, amount_after, none_payable, payable_after}
-use Rattle.cf_books_lists.specs.Records.{drawn_text, head_text, rows_text}
-
-abbrev pub amount_text : Option ℤ → List ℕ
-amount_text None = []
-amount_text (Some z) = money_of z
+use Rattle.cf_books_lists.specs.Records.{drawn_text, head_text, money_if, rows_text}
 
 abbrev pub entry_row : ℕ → Option ℤ → Entry → List (List ℕ)
 entry_row place amount e =
     decimal place ∷ day_text e.change.on ∷ decimal e.change.desk ∷ e.change.key
-    ∷ call_word e.change.act ∷ amount_text amount ∷ drawn_text e.drawn.number
+    ∷ call_word e.change.act ∷ money_if amount ∷ drawn_text e.drawn.number
     ∷ drawn_text e.drawn.second ∷ []
 
 -- places are counted from 1; the amount of a payment is by the entries before it

@@ -1,28 +1,18 @@
 //! A row an entry.
 
-ghost use Rattle.std.specs.Prelude.{◌≡◌, string_bytes, IfOk, OnOk};
+ghost use Rattle.std.specs.Prelude.{◌≡◌, IfOk, OnOk};
 ghost use Rattle.std.specs.List.{All};
 ghost use Rattle.cf_journal.specs.Records.{HasRecord};
 ghost use Rattle.cf_books.specs.Listing as spec;
 ghost use Rattle.cf_books_lists.specs.Records.{head_text, record_text};
 ghost use Rattle.cf_books_lists.specs.Rows.{added};
 
-use cf_base::{day_text, money_text};
-use cf_books_lists::{Layout, Rows, decimal_text, drawn_text};
+use cf_base::day_text;
+use cf_books_lists::{Layout, Rows, decimal_text, drawn_text, money_if};
 use cf_books_payments::Tables;
 use cf_calls::Entry;
 use cf_json_calls::call_word;
 use std::alloc::{AllocError, Global};
-
-/// The text of an amount in units of money, empty where there is none.
-fn amount_text(alloc: Global, amount: Option<i128>) -> Result<String, AllocError>
-    ensures { IfOk result (λ t. string_bytes t ≡ spec.amount_text amount) }
-{
-    match amount {
-        Some(amount) => money_text(alloc, amount),
-        None => Ok(String::new(alloc)),
-    }
-}
 
 /// Writes the row of an entry.
 fn put_entry(
@@ -40,7 +30,7 @@ fn put_entry(
     let day = day_text(change.on);
     let desk = decimal_text(alloc, change.desk as u64)?;
     let call = Vec::from_slice(alloc, call_word(&change.act).as_bytes())?;
-    let amount = amount_text(alloc, amount)?;
+    let amount = money_if(alloc, amount)?;
     let number = drawn_text(alloc, entry.drawn.number as u64)?;
     let second = drawn_text(alloc, entry.drawn.second as u64)?;
     let fields = [

@@ -9,8 +9,8 @@ use Rattle.cf_model.specs.Registers.{Registers, registers_of}
 use Rattle.cf_books_documents.specs.Documents.{documents_by}
 use Rattle.cf_books_documents.specs.Facts.{kind_word, state_word}
 use Rattle.cf_books_documents.specs.Indexed.{Known}
-use Rattle.cf_books_lists.specs.Records.{drawn_text, head_text, record_text}
-use Rattle.cf_books_documents.specs.Texts.{events_text, option_text, paid_text, run_text}
+use Rattle.cf_books_lists.specs.Records.{drawn_text, head_text, number_text, record_text}
+use Rattle.cf_books_documents.specs.Texts.{events_text, paid_text, run_text}
 use Rattle.cf_books_documents.specs.Told.{document_events, told_of}
 use Rattle.cf_books_documents.specs.Wanted.{is_wanted, payment_of}
 use Rattle.cf_books_documents.specs.declared.event.Event.{Event}
@@ -42,9 +42,9 @@ abbrev pub row : Plan → Entry → Option Entry → Facts → List Event → Li
 row chart e payment f events =
     kind_word f.kind ∷ drawn_text f.number ∷ drawn_text f.item ∷ day_text e.change.on
     ∷ decimal e.change.desk ∷ e.change.key
-    ∷ drawn_text f.party ∷ option_text f.account.fund ∷ option_text f.account.dept
-    ∷ option_text f.account.object
-    ∷ option_text (line_by chart f.account f.year) ∷ option_text f.source ∷ option_text f.year
+    ∷ drawn_text f.party ∷ number_text f.account.fund ∷ number_text f.account.dept
+    ∷ number_text f.account.object
+    ∷ number_text (line_by chart f.account f.year) ∷ number_text f.source ∷ number_text f.year
     ∷ money_of f.amount ∷ money_of f.left
     ∷ state_word f.state ∷ paid_text payment ∷ run_text payment ∷ events_text 0 events ∷ []
 

@@ -5,10 +5,6 @@ use Rattle.cf_calls.specs.declared.entry.Entry.{Entry}
 use Rattle.cf_books_documents.specs.Events.{deed_word}
 use Rattle.cf_books_documents.specs.declared.event.Event.{Event}
 
-abbrev pub option_text : Option ℕ → List ℕ
-option_text None = []
-option_text (Some n) = decimal n
-
 -- the day and the key of a payment
 abbrev pub paid_text : Option Entry → List ℕ
 paid_text None = []

@@ -6,20 +6,10 @@ ghost use Rattle.cf_books_documents.specs.Texts as spec;
 
 use crate::event::{Event, deed_word};
 use cf_base::day_text;
-use cf_books_lists::{decimal_text, put_text};
+use cf_books_lists::put_text;
 use cf_calls::Entry;
 use cf_json_members::parts::put_number;
 use std::alloc::{AllocError, Global};
-
-/// The digits of a number, none where there is none.
-pub fn option_text(alloc: Global, number: Option<u16>) -> Result<Vec<u8>, AllocError>
-    ensures { IfOk result (λ t. t.items ≡ spec.option_text number) }
-{
-    match number {
-        Some(number) => decimal_text(alloc, u64::from(number)),
-        None => Ok(Vec::new(alloc)),
-    }
-}
 
 /// The day of a payment.
 pub fn paid_text(alloc: Global, payment: Option<&Entry>) -> Result<Vec<u8>, AllocError>

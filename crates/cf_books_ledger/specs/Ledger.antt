@@ -4,7 +4,7 @@ use Rattle.std.specs.Prelude.{ℕ, ◌+◌, ◌-◌, Bool, true, false, not, if�
 use Rattle.cf_base.specs.declared.calendar.Day.{Day}
 use Rattle.cf_base.specs.Amounts.{money_of}
 use Rattle.cf_base.specs.Calendar.{day_text}
-use Rattle.cf_books_lists.specs.Records.{drawn_text, head_text, record_text}
+use Rattle.cf_books_lists.specs.Records.{drawn_text, head_text, money_if, number_text, record_text}
 use Rattle.cf_json_calls.specs.CallText.{call_word}
 use Rattle.cf_calls.specs.declared.entry.Entry.{Entry}
 use Rattle.cf_model.specs.Calendar.{is_before}
@@ -93,14 +93,6 @@ head =
     ∷ codes "object" ∷ codes "line" ∷ codes "source" ∷ codes "year" ∷ codes "appropriated"
     ∷ codes "ordered" ∷ codes "held" ∷ codes "spent" ∷ codes "received"
     ∷ codes "running" ∷ []
-
-abbrev pub number_text : Option ℕ → List ℕ
-number_text None = []
-number_text (Some n) = decimal n
-
-abbrev pub money_if : Option ℤ → List ℕ
-money_if None = []
-money_if (Some z) = money_of z
 
 -- a row of an entry, with the totals through it
 abbrev pub row_fields : PartyLists → Totals → Entry → LedgerRow → List (List ℕ)

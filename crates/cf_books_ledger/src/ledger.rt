@@ -3,14 +3,14 @@
 ghost use Rattle.std.specs.Prelude.{◌≡◌, ◌<◌, ◌^◌, ◌+ℤ◌, true, decimal, string_bytes, unsigned_abs, IfOk, OnOk};
 ghost use Rattle.cf_base.specs.Amounts.{money_of};
 ghost use Rattle.std.specs.Option.{option_copied};
-ghost use Rattle.cf_books_lists.specs.Records.{drawn_text as drawn, head_text, record_text};
+ghost use Rattle.cf_books_lists.specs.Records.{drawn_text as drawn, head_text, money_if, number_text, record_text};
 ghost use Rattle.cf_books_lists.specs.Rows.{added};
 ghost use Rattle.cf_books_ledger.specs.Ledger as spec;
 
 use crate::filter::wanted;
 use crate::parties::{Parties, all_parties, party_of};
 use cf_base::{day_text, money_text};
-use cf_books_lists::{Layout, Rows, decimal_text, drawn_text};
+use cf_books_lists::{Layout, Rows, decimal_text, drawn_text, money_if, number_text};
 use cf_books_words::LedgerFilter;
 use cf_calls::Entry;
 use cf_json_calls::call_word;
@@ -77,26 +77,6 @@ fn running(source: Option<u16>, totals: Totals) -> Option<i128>
     }
 }
 
-/// An amount in units of money, if there is one.
-fn money_if(alloc: Global, amount: Option<i128>) -> Result<String, AllocError>
-    ensures { IfOk result (λ t. string_bytes t ≡ spec.money_if amount) }
-{
-    match amount {
-        Some(amount) => money_text(alloc, amount),
-        None => Ok(String::new(alloc)),
-    }
-}
-
-/// The digits of a number, if there is one.
-fn number_text(alloc: Global, number: Option<u16>) -> Result<Vec<u8>, AllocError>
-    ensures { IfOk result (λ t. t.items ≡ spec.number_text number) }
-{
-    match number {
-        Some(number) => decimal_text(alloc, number as u64),
-        None => Ok(Vec::new(alloc)),
-    }
-}
-
 /// The texts of what a row is of.
 #[derive(Drop)]
 struct Names {
@@ -118,8 +98,8 @@ fn names_of(alloc: Global, row: &LedgerRow, party: u32) -> Result<Names, AllocEr
     ensures fund { IfOk result (λ n. n.fund.items ≡ drawn row.now.fund) }
     ensures dept { IfOk result (λ n. n.dept.items ≡ drawn row.now.dept) }
     ensures object { IfOk result (λ n. n.object.items ≡ drawn row.now.object) }
-    ensures line { IfOk result (λ n. n.line.items ≡ spec.number_text row.now.line) }
-    ensures source { IfOk result (λ n. n.source.items ≡ spec.number_text row.now.source) }
+    ensures line { IfOk result (λ n. n.line.items ≡ number_text row.now.line) }
+    ensures source { IfOk result (λ n. n.source.items ≡ number_text row.now.source) }
     ensures year { IfOk result (λ n. n.year.items ≡ decimal row.now.year) }
 {
     let document = drawn_text(alloc, row.of.document as u64)?;
@@ -162,7 +142,7 @@ fn moneys_of(alloc: Global, by: &Amounts, running: Option<i128>) -> Result<Money
     ensures held { IfOk result (λ m. string_bytes m.held ≡ money_of by.now.held) }
     ensures spent { IfOk result (λ m. string_bytes m.spent ≡ money_of by.now.spent) }
     ensures received { IfOk result (λ m. string_bytes m.received ≡ money_of by.now.received) }
-    ensures running { IfOk result (λ m. string_bytes m.running ≡ spec.money_if running) }
+    ensures running { IfOk result (λ m. string_bytes m.running ≡ money_if running) }
 {
     let appropriated = money_text(alloc, by.appropriated)?;
     let ordered = money_text(alloc, by.ordered)?;

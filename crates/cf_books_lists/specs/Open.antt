@@ -33,7 +33,7 @@ use Rattle.cf_books_lists.specs.declared.open.Part.{Part}
 use Rattle.cf_books_lists.specs.declared.open.Section.{Section}
 use Rattle.cf_books_lists.specs.declared.open.Section.TheVariants.{Requisitions, Orders, Bills, Vouchers, Debts}
 use Rattle.cf_books_lists.specs.Names.{department_name, fund_name}
-use Rattle.cf_books_lists.specs.Records.{drawn_text, head_text, record_text}
+use Rattle.cf_books_lists.specs.Records.{drawn_text, head_text, number_text, record_text}
 
 -- ---- the fields of a row
 
@@ -60,10 +60,6 @@ number_by _ e = e.drawn.number
 
 abbrev pub number_of : Entry → ℕ
 number_of e = number_by e.change.act e
-
-abbrev pub number_text : Option ℕ → List ℕ
-number_text None = []
-number_text (Some n) = decimal n
 
 abbrev pub next_text : Option Day → List ℕ
 next_text None = []

@@ -1,7 +1,8 @@
 -- Rows of fields as text: records of comma-separated values for a spreadsheet, as `csv` writes them
 -- by default, or fields with tabs between them.
-use Rattle.std.specs.Prelude.{ℕ, ◌==◌, ◌&&◌, ◌||◌, Bool, false, not, if◌then◌else◌, List, [], ◌∷◌, decimal, flat_map, map}
+use Rattle.std.specs.Prelude.{ℕ, ℤ, ◌==◌, ◌&&◌, ◌||◌, Bool, false, not, if◌then◌else◌, List, [], ◌∷◌, Option, Some, None, decimal, flat_map, map}
 use Rattle.std.specs.List.{list_all}
+use Rattle.cf_base.specs.Amounts.{money_of}
 use Rattle.cf_base.specs.Calendar.{is_digit}
 use Rattle.csv.specs.Writing.{default_writer, row_text, with_delimiter}
 use Rattle.csv.specs.declared.WriterBuilder.{WriterBuilder}
@@ -48,3 +49,12 @@ head_text csv names = if csv then record_text csv names else []
 -- no text where nothing was drawn
 abbrev pub drawn_text : ℕ → List ℕ
 drawn_text n = if n == 0 then [] else decimal n
+
+-- nor where there is no number, or no amount
+abbrev pub number_text : Option ℕ → List ℕ
+number_text None = []
+number_text (Some n) = decimal n
+
+abbrev pub money_if : Option ℤ → List ℕ
+money_if None = []
+money_if (Some z) = money_of z

@@ -18,8 +18,8 @@ use Rattle.cf_run_words.specs.declared.words.ReportKind.{ReportKind}
 use Rattle.cf_run_words.specs.declared.words.ReportKind.TheVariants.{Look, Classes, Components, Major}
 use Rattle.cf_books_lists.specs.LineNames.{later_of, part_and_years, part_name}
 use Rattle.cf_books_lists.specs.Names.{department_name}
-use Rattle.cf_books_lists.specs.Open.{line_of, number_text}
-use Rattle.cf_books_lists.specs.Records.{head_text, record_text}
+use Rattle.cf_books_lists.specs.Open.{line_of}
+use Rattle.cf_books_lists.specs.Records.{head_text, number_text, record_text}
 
 -- the rows of each of the ten statements, as `report` has them
 abbrev pub rows_of : Plan → List Entry → ℕ → ReportKind → List Row

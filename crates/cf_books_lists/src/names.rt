@@ -38,7 +38,8 @@ pub fn department_name(department: Option<&Department>) -> &str
     }
 }
 
-fn source_name(source: Option<&RevenueSource>) -> &str
+/// The name of a revenue source.
+pub fn source_name(source: Option<&RevenueSource>) -> &str
     ensures { result.now ≡ spec.source_name (option_copied source.entry) }
 {
     match source {

@@ -13,10 +13,9 @@ ghost use Rattle.cf_model.specs.Registers.{registers_of};
 
 use crate::open_fields::{
     amount_text, due_text, interest_text, line_department, line_fund, line_of, next_text,
-    number_text,
 };
 use crate::rows::{Layout, Rows};
-use crate::texts::{decimal_text, drawn_text};
+use crate::texts::{decimal_text, drawn_text, number_text};
 use cf_base::{Day, day_text, month_text};
 use cf_calls::acts::Period;
 use cf_calls::items::LineAmount;

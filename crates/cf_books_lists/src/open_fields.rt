@@ -6,20 +6,10 @@ ghost use Rattle.std.specs.Option.{option_copied};
 ghost use Rattle.cf_books_lists.specs.Open as spec;
 
 use crate::names::{department_name, fund_name};
-use crate::texts::decimal_text;
 use cf_base::{Day, day_text, money_text};
 use cf_chart::{Chart, Line};
 use cf_debt::Due;
 use std::alloc::{AllocError, Global};
-
-pub(crate) fn number_text(alloc: Global, number: Option<u16>) -> Result<Vec<u8>, AllocError>
-    ensures { IfOk result (λ t. t.items ≡ spec.number_text number) }
-{
-    match number {
-        Some(number) => decimal_text(alloc, number as u64),
-        None => Ok(Vec::new(alloc)),
-    }
-}
 
 pub(crate) fn next_text(alloc: Global, next: Option<Day>) -> Result<Vec<u8>, AllocError>
     ensures { IfOk result (λ t. t.items ≡ spec.next_text next) }
@@ -52,8 +42,8 @@ pub(crate) fn interest_text(alloc: Global, due: Option<Due>) -> Result<Vec<u8>, 
     }
 }
 
-/// The control line of this number.
-pub(crate) fn line_of(chart: &Chart, line: Option<u16>) -> Option<&Line>
+/// The control line of a number, if there is one.
+pub fn line_of(chart: &Chart, line: Option<u16>) -> Option<&Line>
     ensures { option_copied result ≡ spec.line_of chart.now line }
 {
     chart.line(line?)

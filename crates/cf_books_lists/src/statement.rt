@@ -13,8 +13,9 @@ ghost use Rattle.cf_model.specs.Report.{report_rows, sums_of};
 
 use crate::lines::{later_of, part_and_years, part_name};
 use crate::names::department_name;
-use crate::open_fields::{line_of, number_text};
+use crate::open_fields::line_of;
 use crate::rows::{Layout, Rows};
+use crate::texts::number_text;
 use cf_base::{Kind, money_text};
 use cf_calls::Row;
 use cf_chart::{Chart, Fund, Line, RevenueSource};
@@ -240,8 +241,8 @@ fn row_name(
     }
 }
 
-/// Which part of its department's objects a row's line has.
-fn row_part(alloc: Global, chart: &Chart, line: Option<&Line>) -> Result<Vec<u8>, AllocError>
+/// Which part of its department's objects a line has.
+pub fn row_part(alloc: Global, chart: &Chart, line: Option<&Line>) -> Result<Vec<u8>, AllocError>
     ensures { IfOk result (λ t. t.items ≡ spec.row_part chart.now (option_copied line.entry)) }
 {
     match line {
@@ -251,7 +252,7 @@ fn row_part(alloc: Global, chart: &Chart, line: Option<&Line>) -> Result<Vec<u8>
 }
 
 /// The name of that part.
-fn row_part_name<'a>(chart: &'a Chart, line: Option<&Line>) -> &'a str
+pub fn row_part_name<'a>(chart: &'a Chart, line: Option<&Line>) -> &'a str
     ensures { result.now ≡ spec.row_part_name chart.now (option_copied line.entry) }
 {
     match line {

@@ -1,9 +1,10 @@
 //! Texts of numbers and amounts.
 
-ghost use Rattle.std.specs.Prelude.{◌≡◌, ◌++◌, decimal, IfOk, OnOk};
+ghost use Rattle.std.specs.Prelude.{◌≡◌, ◌++◌, decimal, string_bytes, IfOk, OnOk};
 ghost use Rattle.cf_base.specs.Amounts.{money_of, sign_text};
 ghost use Rattle.cf_books_lists.specs.Records as spec;
 
+use cf_base::money_text;
 use cf_json_members::parts::put_number;
 use itoa::Buffer;
 use std::alloc::{AllocError, Global};
@@ -64,6 +65,26 @@ pub fn drawn_text(alloc: Global, n: u64) -> Result<Vec<u8>, AllocError>
         return Ok(Vec::new(alloc));
     }
     decimal_text(alloc, n)
+}
+
+/// The digits of a number, none where there is none.
+pub fn number_text(alloc: Global, number: Option<u16>) -> Result<Vec<u8>, AllocError>
+    ensures { IfOk result (λ t. t.items ≡ spec.number_text number) }
+{
+    match number {
+        Some(number) => decimal_text(alloc, u64::from(number)),
+        None => Ok(Vec::new(alloc)),
+    }
+}
+
+/// An amount in units of money, none where there is none.
+pub fn money_if(alloc: Global, amount: Option<i128>) -> Result<String, AllocError>
+    ensures { IfOk result (λ t. string_bytes t ≡ spec.money_if amount) }
+{
+    match amount {
+        Some(amount) => money_text(alloc, amount),
+        None => Ok(String::new(alloc)),
+    }
 }
 
 /// Appends a text.

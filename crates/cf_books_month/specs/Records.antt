@@ -1,11 +1,11 @@
 -- The records of a month's rows.
 use Rattle.std.specs.Prelude.{ℕ, ℤ, pos, ◌*ℤ◌, Bool, ◌&&◌, if◌then◌else◌, nat_lt, int_lt, int_div, unsigned_abs, List, [], ◌∷◌, Option, Some, None, codes, decimal, flat_map}
 use Rattle.cf_base.specs.Amounts.{money_of}
-use Rattle.cf_chart.specs.declared.rows.Line.{Line}
-use Rattle.cf_chart.specs.Plan.{Plan, department_at, fund_at, line_at, source_at}
-use Rattle.cf_books_lists.specs.LineNames.{later_of, part_and_years, part_name}
+use Rattle.cf_chart.specs.Plan.{Plan, department_at, fund_at, source_at}
 use Rattle.cf_books_lists.specs.Names.{department_name, fund_name, source_name}
-use Rattle.cf_books_lists.specs.Records.{record_text}
+use Rattle.cf_books_lists.specs.Open.{line_of}
+use Rattle.cf_books_lists.specs.Records.{number_text, record_text}
+use Rattle.cf_books_lists.specs.Statement.{row_part, row_part_name}
 use Rattle.cf_books_month.specs.declared.rows.MonthRow.{MonthRow}
 use Rattle.cf_books_month.specs.declared.rows.Part.{Part}
 use Rattle.cf_books_month.specs.declared.rows.Part.TheVariants as part
@@ -33,25 +33,9 @@ part_word part.Fund = codes "fund"
 part_word part.Source = codes "source"
 part_word part.Sources = codes "sources"
 
-abbrev pub number_text : Option ℕ → List ℕ
-number_text None = []
-number_text (Some n) = decimal n
-
 abbrev pub dept_text : Plan → Option ℕ → List ℕ
 dept_text plan None = []
 dept_text plan (Some n) = department_name (department_at plan n)
-
-abbrev pub line_of : Plan → Option ℕ → Option Line
-line_of plan None = None
-line_of plan (Some n) = line_at plan n
-
-abbrev pub row_part : Plan → Option Line → List ℕ
-row_part plan None = []
-row_part plan (Some l) = part_and_years l (later_of (fund_at plan l.fund))
-
-abbrev pub row_part_name : Plan → Option Line → List ℕ
-row_part_name plan None = []
-row_part_name plan (Some l) = part_name plan l.part
 
 abbrev pub source_text : Plan → Option ℕ → List ℕ
 source_text plan None = []

@@ -1,20 +1,21 @@
 //! The records of a month's rows.
 
 ghost use Rattle.std.specs.Prelude.{◌≡◌, ◌<◌, ◌^◌, ◌<ℤ◌, int_lt, pos, decimal, string_bytes, unsigned_abs, true, IfOk, OnOk};
-ghost use Rattle.std.specs.Option.{option_copied};
 ghost use Rattle.cf_base.specs.Amounts.{money_of};
-ghost use Rattle.cf_books_lists.specs.Names as listed;
-ghost use Rattle.cf_books_lists.specs.Records.{record_text};
+ghost use Rattle.cf_books_lists.specs.Open.{line_of};
+ghost use Rattle.cf_books_lists.specs.Records.{number_text, record_text};
 ghost use Rattle.cf_books_lists.specs.Rows.{added};
+ghost use Rattle.cf_books_lists.specs.Statement.{row_part};
 ghost use Rattle.cf_books_month.specs.Records as spec;
 
 use crate::amounts::Amounts;
 use crate::rows::{MonthRow, Part};
 use cf_base::money_text;
 use cf_books_lists::{
-    Rows, decimal_text, department_name, fund_name, later_of, part_and_years, part_name,
+    Rows, decimal_text, department_name, fund_name, line_of, number_text, row_part, row_part_name,
+    source_name,
 };
-use cf_chart::{Chart, Line, RevenueSource};
+use cf_chart::Chart;
 use std::alloc::{AllocError, Global};
 
 // ---- per cent
@@ -72,59 +73,12 @@ fn part_word(part: Part) -> &'static str
     }
 }
 
-/// The digits of a number, if there is one.
-fn number_text(alloc: Global, number: Option<u16>) -> Result<Vec<u8>, AllocError>
-    ensures { IfOk result (λ t. t.items ≡ spec.number_text number) }
-{
-    match number {
-        Some(number) => decimal_text(alloc, number as u64),
-        None => Ok(Vec::new(alloc)),
-    }
-}
-
 /// The name of a department, if there is one.
 fn dept_text(chart: &Chart, dept: Option<u16>) -> &str
     ensures { result.now ≡ spec.dept_text chart.now dept }
 {
     match dept {
         Some(dept) => department_name(chart.dept(dept)),
-        None => "",
-    }
-}
-
-/// The control line of a number, if there is one.
-fn line_of(chart: &Chart, line: Option<u16>) -> Option<&Line>
-    ensures { option_copied result ≡ spec.line_of chart.now line }
-{
-    chart.line(line?)
-}
-
-/// Which part of its department's objects a line has.
-fn line_part(alloc: Global, chart: &Chart, line: Option<&Line>) -> Result<Vec<u8>, AllocError>
-    ensures { IfOk result (λ t. t.items ≡ spec.row_part chart.now (option_copied line.entry)) }
-{
-    match line {
-        Some(line) => part_and_years(alloc, line, later_of(chart.fund(line.fund))),
-        None => Ok(Vec::new(alloc)),
-    }
-}
-
-/// The name of that part.
-fn line_part_name<'a>(chart: &'a Chart, line: Option<&Line>) -> &'a str
-    ensures { result.now ≡ spec.row_part_name chart.now (option_copied line.entry) }
-{
-    match line {
-        Some(line) => part_name(chart, line.part),
-        None => "",
-    }
-}
-
-/// The name of a revenue source.
-fn source_name(source: Option<&RevenueSource>) -> &str
-    ensures { result.now ≡ listed.source_name (option_copied source.entry) }
-{
-    match source {
-        Some(source) => source.name.as_str(),
         None => "",
     }
 }
@@ -155,17 +109,17 @@ struct Names {
 fn names_of(alloc: Global, chart: &Chart, row: &MonthRow) -> Result<Names, AllocError>
     ensures part { IfOk result (λ n. n.part.items ≡ spec.part_word row.now.part) }
     ensures fund { IfOk result (λ n. n.fund.items ≡ decimal row.now.fund) }
-    ensures dept { IfOk result (λ n. n.dept.items ≡ spec.number_text row.now.dept) }
-    ensures line { IfOk result (λ n. n.line.items ≡ spec.number_text row.now.line) }
+    ensures dept { IfOk result (λ n. n.dept.items ≡ number_text row.now.dept) }
+    ensures line { IfOk result (λ n. n.line.items ≡ number_text row.now.line) }
     ensures line_part { IfOk result (λ n. n.line_part.items
-        ≡ spec.row_part chart.now (spec.line_of chart.now row.now.line)) }
-    ensures source { IfOk result (λ n. n.source.items ≡ spec.number_text row.now.source) }
+        ≡ row_part chart.now (line_of chart.now row.now.line)) }
+    ensures source { IfOk result (λ n. n.source.items ≡ number_text row.now.source) }
 {
     let part = Vec::from_slice(alloc, part_word(row.part).as_bytes())?;
     let fund = decimal_text(alloc, row.fund as u64)?;
     let dept = number_text(alloc, row.dept)?;
     let line = number_text(alloc, row.line)?;
-    let line_part = line_part(alloc, chart, line_of(chart, row.line))?;
+    let line_part = row_part(alloc, chart, line_of(chart, row.line))?;
     let source = number_text(alloc, row.source)?;
     Ok(Names {
         part,
@@ -241,7 +195,7 @@ fn put_row(alloc: Global, out: &mut Rows, chart: &Chart, row: &MonthRow) -> Resu
         dept_text(chart, row.dept).as_bytes(),
         names.line.as_slice(),
         names.line_part.as_slice(),
-        line_part_name(chart, line_of(chart, row.line)).as_bytes(),
+        row_part_name(chart, line_of(chart, row.line)).as_bytes(),
         names.source.as_slice(),
         source_text(chart, row.source).as_bytes(),
         moneys.budget.as_str().as_bytes(),

@@ -3,9 +3,9 @@ use Rattle.std.specs.Option.{option_copied}
 use Rattle.cf_base.specs.Amounts.{money_of}
 use Rattle.cf_base.specs.Calendar.{day_text}
 use Rattle.cf_books_documents.specs.Facts.{kind_word, state_word}
-use Rattle.cf_books_lists.specs.Records.{drawn_text}
+use Rattle.cf_books_lists.specs.Records.{drawn_text, number_text}
 use Rattle.cf_books_documents.specs.Text.{line_by}
-use Rattle.cf_books_documents.specs.Texts.{events_text, option_text, paid_text, run_text}
+use Rattle.cf_books_documents.specs.Texts.{events_text, paid_text, run_text}
 use Rattle.cf_books_documents.proofs.text.put_row.Goals as goal
 
 pub returns : goal.returns
@@ -21,12 +21,12 @@ returns c =
     let desk : c.as_slice-5.result.now ≡ decimal e.change.desk = c.as_slice-5.ensures.value ∙ c.in_ok-desk.ensures ∙ ap decimal c.from.ensures in
     let key : c.as_bytes-4.result.now ≡ e.change.key = c.as_bytes-4.ensures.value ∙ c.as_str.ensures in
     let party : c.as_slice-6.result.now ≡ drawn_text f.party = c.as_slice-6.ensures.value ∙ c.in_ok-party.ensures ∙ ap drawn_text c.from-2.ensures in
-    let fund : c.as_slice-7.result.now ≡ option_text f.account.fund = c.as_slice-7.ensures.value ∙ c.in_ok-fund.ensures in
-    let dept : c.as_slice-8.result.now ≡ option_text f.account.dept = c.as_slice-8.ensures.value ∙ c.in_ok-dept.ensures in
-    let object : c.as_slice-9.result.now ≡ option_text f.account.object = c.as_slice-9.ensures.value ∙ c.in_ok-object.ensures in
-    let line : c.as_slice-10.result.now ≡ option_text (line_by plan f.account f.year) = c.as_slice-10.ensures.value ∙ c.in_ok-line.ensures ∙ ap option_text c.line_of.ensures in
-    let source : c.as_slice-11.result.now ≡ option_text f.source = c.as_slice-11.ensures.value ∙ c.in_ok-source.ensures in
-    let year : c.as_slice-12.result.now ≡ option_text f.year = c.as_slice-12.ensures.value ∙ c.in_ok-year.ensures in
+    let fund : c.as_slice-7.result.now ≡ number_text f.account.fund = c.as_slice-7.ensures.value ∙ c.in_ok-fund.ensures in
+    let dept : c.as_slice-8.result.now ≡ number_text f.account.dept = c.as_slice-8.ensures.value ∙ c.in_ok-dept.ensures in
+    let object : c.as_slice-9.result.now ≡ number_text f.account.object = c.as_slice-9.ensures.value ∙ c.in_ok-object.ensures in
+    let line : c.as_slice-10.result.now ≡ number_text (line_by plan f.account f.year) = c.as_slice-10.ensures.value ∙ c.in_ok-line.ensures ∙ ap number_text c.line_of.ensures in
+    let source : c.as_slice-11.result.now ≡ number_text f.source = c.as_slice-11.ensures.value ∙ c.in_ok-source.ensures in
+    let year : c.as_slice-12.result.now ≡ number_text f.year = c.as_slice-12.ensures.value ∙ c.in_ok-year.ensures in
     let amount : c.as_bytes-5.result.now ≡ money_of f.amount = c.as_bytes-5.ensures.value ∙ c.as_str-2.ensures.value ∙ c.in_ok-amount.ensures in
     let left : c.as_bytes-6.result.now ≡ money_of f.left = c.as_bytes-6.ensures.value ∙ c.as_str-3.ensures.value ∙ c.in_ok-left.ensures in
     let state : c.as_slice-13.result.now ≡ state_word f.state = c.as_slice-13.ensures.value ∙ c.in_ok-state.ensures.items ∙ c.as_bytes-2.ensures.value ∙ c.state_word.ensures in

@@ -2,8 +2,8 @@ use Rattle.std.proofs.Common.{◌≡◌, ◌∙◌, ap, decimal}
 use Rattle.cf_base.specs.Amounts.{money_of}
 use Rattle.cf_base.specs.Calendar.{day_text}
 use Rattle.cf_json_calls.specs.CallText.{call_word}
-use Rattle.cf_books_lists.specs.Records.{drawn_text}
-use Rattle.cf_books_ledger.specs.Ledger.{money_if, number_text, running}
+use Rattle.cf_books_lists.specs.Records.{drawn_text, money_if, number_text}
+use Rattle.cf_books_ledger.specs.Ledger.{running}
 use Rattle.cf_books_ledger.specs.Parties.{party_by}
 use Rattle.cf_books_ledger.proofs.ledger.put_row.Goals as goal
 

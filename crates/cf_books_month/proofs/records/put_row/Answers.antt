@@ -2,7 +2,10 @@ use Rattle.std.proofs.Common.{◌≡◌, ◌∙◌, ap, decimal}
 use Rattle.cf_base.specs.Amounts.{money_of}
 use Rattle.cf_chart.specs.Plan.{fund_at}
 use Rattle.cf_books_lists.specs.Names.{fund_name}
-use Rattle.cf_books_month.specs.Records.{dept_text, line_of, number_text, part_word, percent_text, row_fields, row_part, row_part_name, source_text}
+use Rattle.cf_books_lists.specs.Open.{line_of}
+use Rattle.cf_books_lists.specs.Records.{number_text}
+use Rattle.cf_books_lists.specs.Statement.{row_part, row_part_name}
+use Rattle.cf_books_month.specs.Records.{dept_text, part_word, percent_text, row_fields, source_text}
 use Rattle.cf_books_month.proofs.records.put_row.Goals as goal
 
 pub returns : goal.returns
@@ -19,7 +22,7 @@ returns c =
     let dept_named : c.as_bytes-2.result.now ≡ dept_text plan r.dept = c.as_bytes-2.ensures.value ∙ c.dept_text.ensures in
     let line : c.as_slice-4.result.now ≡ number_text r.line = c.as_slice-4.ensures.value ∙ n.line in
     let line_part : c.as_slice-5.result.now ≡ row_part plan (line_of plan r.line) = c.as_slice-5.ensures.value ∙ n.line_part in
-    let line_named : c.as_bytes-3.result.now ≡ row_part_name plan (line_of plan r.line) = c.as_bytes-3.ensures.value ∙ c.line_part_name.ensures ∙ ap (row_part_name plan) c.line_of.ensures in
+    let line_named : c.as_bytes-3.result.now ≡ row_part_name plan (line_of plan r.line) = c.as_bytes-3.ensures.value ∙ c.row_part_name.ensures ∙ ap (row_part_name plan) c.line_of.ensures in
     let source : c.as_slice-6.result.now ≡ number_text r.source = c.as_slice-6.ensures.value ∙ n.source in
     let source_named : c.as_bytes-4.result.now ≡ source_text plan r.source = c.as_bytes-4.ensures.value ∙ c.source_text.ensures in
     let budget : c.as_bytes-5.result.now ≡ money_of r.amounts.budget = c.as_bytes-5.ensures.value ∙ c.as_str.ensures.value ∙ m.budget in
