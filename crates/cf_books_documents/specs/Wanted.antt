@@ -6,6 +6,7 @@ use Rattle.cf_calls.specs.declared.entry.Entry.{Entry}
 use Rattle.cf_books_documents.specs.Events.{is_payment}
 use Rattle.cf_books_documents.specs.Facts.{is_kind}
 use Rattle.cf_books_documents.specs.Texts.{run_text}
+use Rattle.cf_books_lists.specs.Posts.{is_asked}
 use Rattle.cf_books_documents.specs.declared.event.Event.{Event}
 use Rattle.cf_books_documents.specs.declared.facts.Facts.{Facts}
 use Rattle.cf_books_words.specs.declared.words.DocumentFilter.{DocumentFilter}
@@ -30,10 +31,6 @@ has_within part (b ∷ text) = starts_with ◌==◌ (b ∷ text) part || has_wit
 abbrev pub is_kind_asked : Option DocumentKind → DocumentKind → Bool
 is_kind_asked None kind = true
 is_kind_asked (Some asked) kind = is_kind asked kind
-
-abbrev pub is_asked : Option ℕ → ℕ → Bool
-is_asked None n = true
-is_asked (Some asked) n = asked == n
 
 abbrev pub is_amount_asked : Option ℕ → ℤ → Bool
 is_amount_asked None amount = true

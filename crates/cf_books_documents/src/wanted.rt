@@ -7,6 +7,7 @@ ghost use Rattle.cf_books_documents.specs.Wanted as spec;
 use crate::event::{Event, is_payment};
 use crate::facts::{Facts, is_kind};
 use crate::texts::run_text;
+use cf_books_lists::is_asked;
 use cf_books_words::{DocumentFilter, DocumentKind};
 use cf_calls::Entry;
 
@@ -56,16 +57,6 @@ fn is_kind_asked(asked: Option<DocumentKind>, kind: DocumentKind) -> bool
     }
 }
 
-/// Whether a party is the one that is asked for, or none is.
-fn is_party_asked(asked: Option<u32>, party: u32) -> bool
-    ensures { result ≡ spec.is_asked asked party }
-{
-    match asked {
-        Some(asked) => asked == party,
-        None => true,
-    }
-}
-
 /// Whether an amount is the one that is asked for, or none is.
 fn is_amount_asked(asked: Option<u64>, amount: i128) -> bool
     ensures { result ≡ spec.is_amount_asked asked amount }
@@ -104,7 +95,7 @@ pub fn is_wanted(
         (option_copied payment.entry) }
 {
     is_kind_asked(filter.kind, facts.kind)
-        && is_party_asked(filter.party, facts.party)
+        && is_asked(filter.party, facts.party)
         && is_amount_asked(filter.amount, facts.amount)
         && is_key_asked(key, entry, payment)
 }

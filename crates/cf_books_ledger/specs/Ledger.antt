@@ -4,6 +4,7 @@ use Rattle.std.specs.Prelude.{ℕ, ◌+◌, ◌-◌, Bool, true, false, not, if�
 use Rattle.cf_base.specs.declared.calendar.Day.{Day}
 use Rattle.cf_base.specs.Amounts.{money_of}
 use Rattle.cf_base.specs.Calendar.{day_text}
+use Rattle.cf_books_lists.specs.Posts.{is_asked}
 use Rattle.cf_books_lists.specs.Records.{drawn_text, head_text, money_if, number_text, record_text}
 use Rattle.cf_json_calls.specs.CallText.{call_word}
 use Rattle.cf_calls.specs.declared.entry.Entry.{Entry}
@@ -15,12 +16,7 @@ use Rattle.cf_books_ledger.specs.Parties.{PartyLists, parties_of, party_by}
 
 -- ---- which rows are asked for
 
--- whether a number is the one that is asked for, or none is
-abbrev pub is_asked : Option ℕ → ℕ → Bool
-is_asked None n = true
-is_asked (Some m) n = m == n
-
--- the same of a number that may be wanting
+-- whether a number that may be wanting is the one that is asked for, or none is
 abbrev pub is_named : Option ℕ → Option ℕ → Bool
 is_named None n = true
 is_named (Some m) None = false

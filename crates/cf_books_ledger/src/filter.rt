@@ -6,30 +6,11 @@ ghost use Rattle.cf_books_ledger.specs.Ledger as spec;
 
 use crate::parties::{Parties, party_of};
 use cf_base::Day;
+use cf_books_lists::{is_asked, is_id_asked};
 use cf_books_words::LedgerFilter;
 use cf_calls::Entry;
 use cf_office_rows::LedgerRow;
 use cf_register_parts::is_before;
-
-/// Whether this id or year is asked for: each is, where none is named.
-fn is_asked(asked: Option<u16>, id: u16) -> bool
-    ensures { result ≡ spec.is_asked asked id }
-{
-    match asked {
-        Some(asked) => asked == id,
-        None => true,
-    }
-}
-
-/// Whether this party is asked for.
-fn is_party_asked(asked: Option<u32>, party: u32) -> bool
-    ensures { result ≡ spec.is_asked asked party }
-{
-    match asked {
-        Some(asked) => asked == party,
-        None => true,
-    }
-}
 
 /// Whether a line or a source is asked for: where one is named, no row that has none is.
 fn is_named(asked: Option<u16>, number: Option<u16>) -> bool
@@ -66,9 +47,9 @@ fn is_through(asked: Option<Day>, on: Day) -> bool
 fn is_there(filter: &LedgerFilter, row: &LedgerRow) -> bool
     ensures { result ≡ spec.is_there filter.now row.now }
 {
-    is_asked(filter.fund, row.fund)
-        && is_asked(filter.dept, row.dept)
-        && is_asked(filter.object, row.object)
+    is_id_asked(filter.fund, row.fund)
+        && is_id_asked(filter.dept, row.dept)
+        && is_id_asked(filter.object, row.object)
         && is_named(filter.line, row.line)
         && is_named(filter.source, row.source)
 }
@@ -85,8 +66,8 @@ fn is_wanted(filter: &LedgerFilter, parties: &Parties, entry: &Entry, row: &Ledg
     ensures { result ≡ spec.is_wanted filter.now parties.now entry.now row.now }
 {
     is_there(filter, row)
-        && is_party_asked(filter.vendor, party_of(parties, &entry.change.act, row))
-        && is_asked(filter.year, row.year)
+        && is_asked(filter.vendor, party_of(parties, &entry.change.act, row))
+        && is_id_asked(filter.year, row.year)
         && is_within(filter, entry.change.on)
 }
 

@@ -20,7 +20,7 @@ pub use lines::{later_of, part_and_years, part_name};
 pub use names::{basis_word, department_name, fund_name, source_name};
 pub use open::open_text;
 pub use open_fields::line_of;
-pub use posts::{PlacedPost, open_with_posts, posts_text};
+pub use posts::{PlacedPost, is_asked, is_id_asked, open_with_posts, posts_text};
 pub use rows::{Layout, Rows};
 pub use statement::{row_part, row_part_name, statement_text, text_of_rows};
 pub use texts::{decimal_text, drawn_text, money_if, number_text, put_between, put_text};

@@ -27,7 +27,7 @@ use itoa::Buffer;
 use std::alloc::{AllocError, Global};
 
 /// Whether this number is asked for: each is, where none is named.
-fn is_asked(asked: Option<u32>, number: u32) -> bool
+pub fn is_asked(asked: Option<u32>, number: u32) -> bool
     ensures { result ≡ spec.is_asked asked number }
 {
     match asked {
@@ -36,8 +36,8 @@ fn is_asked(asked: Option<u32>, number: u32) -> bool
     }
 }
 
-/// Whether this id or year is asked for.
-fn is_id_asked(asked: Option<u16>, id: u16) -> bool
+/// Whether this id or year is asked for: each is, where none is named.
+pub fn is_id_asked(asked: Option<u16>, id: u16) -> bool
     ensures { result ≡ spec.is_asked asked id }
 {
     match asked {
