@@ -1,8 +1,7 @@
 -- The numbers of bills, orders and vouchers: each is drawn by one entry. The items of a voucher
 -- have one state, and those of an order have lines.
-use Rattle.std.proofs.Common.{◌≡◌, ℕ, zero, ◌+◌, ◌≤◌, Bool, true, false, not, if◌then◌else◌, ◌==◌, ◌&&◌, ◌||◌, List, [], ◌∷◌, ◌++◌, map, length, None, is_some, ◌⊎◌, inl, inr, refl, sym, ap, subst, ◌∙◌, arith}
+use Rattle.std.proofs.Common.{◌≡◌, ℕ, zero, ◌+◌, ◌≤◌, Bool, true, false, eq-eqb, ne_eqb, not, if◌then◌else◌, ◌==◌, ◌&&◌, ◌||◌, List, [], ◌∷◌, ◌++◌, map, length, None, is_some, refl, sym, ap, subst, ◌∙◌, arith}
 use Rattle.std.specs.List.{list_any, AllByRecursion}
-use Rattle.std.proofs.lemmas.Bool.Decides.{eqb_tells}
 use Rattle.std.proofs.lemmas.Grind.{common_steps}
 use Rattle.std.proofs.lemmas.List.{length-append}
 use Rattle.std.proofs.lemmas.List.Sums.{sum_by_push}
@@ -30,30 +29,6 @@ use Rattle.cf_model.proofs.Legal.{legal_induction}
 use Rattle.cf_model.proofs.Pushes.{documents_are, registers_push}
 use Rattle.cf_model.proofs.Tidy.{all_append, all_map, all_new, IsSameItem, step_place, step_same}
 use Rattle.cf_model.proofs.Totals.{passing}
-
--- ---- numbers
-
-pub number_is : (a b : ℕ) → (a == b) ≡ true → a ≡ b
-number_is a b e = by_test (a == b) (eqb_tells a b) e
-  where
-    by_test : (t : Bool) → ((t ≡ true) × (a ≡ b)) ⊎ ((t ≡ false) × (a ≡ b → ⊥)) → t ≡ true → a ≡ b
-    by_test t (inl h) e = h.1
-    by_test true (inr h) e = cc
-    by_test false (inr h) e = cc
-
-is_itself : (a : ℕ) → (a == a) ≡ true
-is_itself a = by_test (a == a) (eqb_tells a a)
-  where
-    by_test : (t : Bool) → ((t ≡ true) × (a ≡ a)) ⊎ ((t ≡ false) × (a ≡ a → ⊥)) → t ≡ true
-    by_test t (inl h) = h.0
-    by_test t (inr h) = absurd (h.1 refl)
-
-is_other : (a b : ℕ) → (a ≡ b → ⊥) → (a == b) ≡ false
-is_other a b e = by_test (a == b) (eqb_tells a b)
-  where
-    by_test : (t : Bool) → ((t ≡ true) × (a ≡ b)) ⊎ ((t ≡ false) × (a ≡ b → ⊥)) → t ≡ false
-    by_test t (inl h) = absurd (e h.1)
-    by_test t (inr h) = h.0
 
 -- ---- each number is drawn by one entry
 
@@ -285,9 +260,9 @@ states_step xs count number desk on year is (act.Voucher v) next = record {
   each =
       all_append (HasState (opened number is.of) (count + 1)) (map (λ x. x) xs) (map (expenditure_of number desk on year) v.items)
       (all_map (HasState is.of count) (HasState (opened number is.of) (count + 1)) (λ x. x)
-      (λ x h. (still_within count 1 x.voucher h.0, h.1 ∙ ap (λ t. if t then voucher.Open else is.of x.voucher) (sym (is_other x.voucher number (λ e. omega (arith, e, h.0.1, next refl)))))) xs is.each)
+      (λ x h. (still_within count 1 x.voucher h.0, h.1 ∙ ap (λ t. if t then voucher.Open else is.of x.voucher) (sym (ne_eqb x.voucher number (λ e. omega (arith, e, h.0.1, next refl)))))) xs is.each)
       (all_new (HasState (opened number is.of) (count + 1)) (expenditure_of number desk on year)
-      (λ i. (next_within count number (next refl), ap (λ t. if t then voucher.Open else is.of number) (sym (is_itself number)))) v.items);
+      (λ i. (next_within count number (next refl), ap (λ t. if t then voucher.Open else is.of number) (sym (eq-eqb number number refl)))) v.items);
 }
 states_step xs count number desk on year is _ next = record {
   of = is.of;

@@ -1,7 +1,6 @@
 -- What is due next of a bond or a lease, as `open` has it, is what its payment takes and makes.
-use Rattle.std.proofs.Common.{◌≡◌, ℕ, ◌+◌, true, if◌then◌else◌, ◌==◌, List, [], ◌∷◌, Option, Some, None, option_map, sum_by, refl, ap, ◌∙◌, arith, option_to_list}
+use Rattle.std.proofs.Common.{◌≡◌, ℕ, ◌+◌, eq-eqb, if◌then◌else◌, ◌==◌, List, [], ◌∷◌, Option, Some, None, option_map, sum_by, refl, ap, ◌∙◌, arith, true, option_to_list}
 use Rattle.std.specs.List.{AllByRecursion}
-use Rattle.std.proofs.lemmas.Grind.{common_steps}
 use Rattle.cf_calls.specs.declared.acts.Act.{Act}
 use Rattle.cf_calls.specs.declared.acts.Act.TheVariants as act
 use Rattle.cf_calls.specs.declared.entry.Entry.{Entry}
@@ -45,11 +44,8 @@ rows_are plan s (e ∷ entries) = (row_is plan s e e.change.act, rows_are plan s
 
 -- ---- the payment
 
-itself : (n : ℕ) → (n == n) ≡ true
-itself n = grind (arith, common_steps)
-
 own : (fund n : ℕ) → 0 + (if fund == fund then n else 0) ≡ n
-own fund n = ap (λ t. 0 + (if t then n else 0)) (itself fund) ∙ no_more n
+own fund n = ap (λ t. 0 + (if t then n else 0)) (eq-eqb fund fund refl) ∙ no_more n
   where
     no_more : (n : ℕ) → 0 + n ≡ n
     no_more n = omega arith

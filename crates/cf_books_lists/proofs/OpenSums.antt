@@ -1,6 +1,6 @@
 -- What `open` lists of bills, vouchers and order items comes to the balances that have it, and to
 -- what is encumbered.
-use Rattle.std.proofs.Common.{◌≡◌, ℕ, ◌+◌, ◌-◌, ◌≤◌, Bool, true, false, if◌then◌else◌, ◌==◌, ◌&&◌, List, [], ◌∷◌, ◌++◌, flat_map, map, find, length, sum_by, Option, Some, None, option_map, is_some, ℤ, pos, ◌+ℤ◌, ◌-ℤ◌, refl, sym, ap, subst, ◌∙◌, arith, append-nil, append_assoc}
+use Rattle.std.proofs.Common.{◌≡◌, eqb-true, ℕ, ◌+◌, ◌-◌, ◌≤◌, Bool, true, false, if◌then◌else◌, ◌==◌, ◌&&◌, List, [], ◌∷◌, ◌++◌, flat_map, map, find, length, sum_by, Option, Some, None, option_map, is_some, ℤ, pos, ◌+ℤ◌, ◌-ℤ◌, refl, sym, ap, subst, ◌∙◌, arith, append-nil, append_assoc}
 use Rattle.std.specs.List.{filter, AllByRecursion}
 use Rattle.cf_base.specs.declared.calendar.Day.{Day}
 use Rattle.cf_calls.specs.declared.acts.Act.{Act}
@@ -38,7 +38,7 @@ use Rattle.cf_books_lists.specs.declared.open.Section.{Section}
 use Rattle.cf_books_lists.specs.declared.open.Section.TheVariants.{Orders, Bills, Vouchers}
 use Rattle.cf_books_lists.specs.Open.{bill_text, debt_text, due_at, held_text, item_text, items_text, look_by, look_of, looked_text, part_text, requisition_text, section_text, shown_text, voucher_text, whole_part}
 use Rattle.cf_books_lists.specs.OpenSums.{IsVoucherRow, OpenAddsUp, bill_is_of, bill_parts, debt_parts, held_parts, item_parts, of_bill, of_voucher, on_line, order_parts, parts_looked, parts_of, parts_shown, requisition_parts, rows_text, voucher_parts, voucher_rows}
-use Rattle.cf_books_lists.proofs.OpenDrawn.{AreStates, HasState, IsBilled, IsOrdered, all_drawn, drawn_one, drew, is_bill, is_order, is_voucher, number_is}
+use Rattle.cf_books_lists.proofs.OpenDrawn.{AreStates, HasState, IsBilled, IsOrdered, all_drawn, drawn_one, drew, is_bill, is_order, is_voucher}
 
 -- ---- the text is a row for each part
 
@@ -151,7 +151,7 @@ one_bill n count bills b found e = by (is_drawn count n) e (found_passes (λ (y 
 
 left_row : (t : Bool) (left year : ℕ) (z : Bool) → (left == 0) ≡ z →
     int_sum (λ (p : Part). if t then pos p.amount else pos 0) (if z then [] else whole_part (Some year) left None None ∷ []) ≡ (if t then pos left else pos 0)
-left_row true left year true e = ap pos (sym (number_is left 0 e))
+left_row true left year true e = ap pos (sym (eqb-true left 0 e))
 left_row false left year true e = refl
 left_row t left year false e = none_last (if t then pos left else pos 0)
 
@@ -178,9 +178,9 @@ IsAt n state x = (x.voucher == n) ≡ true → x.state ≡ state
 states_at : (xs : List Expenditure) (count n : ℕ) (y : Expenditure) → AreStates xs count → voucher_at n xs ≡ Some y → AllByRecursion (IsAt n y.state) xs
 states_at xs count n y is found =
     let has = found_has (HasState is.of count) (λ (x : Expenditure). x.voucher == n) y xs found is.each in
-    let at : y.voucher ≡ n = number_is y.voucher n has.1 in
+    let at : y.voucher ≡ n = eqb-true y.voucher n has.1 in
     let now : is.of n ≡ y.state = ap is.of (sym at) ∙ sym has.0.1 in
-    all_so (HasState is.of count) (IsAt n y.state) (λ x h k. h.1 ∙ ap is.of (number_is x.voucher n k) ∙ now) xs is.each
+    all_so (HasState is.of count) (IsAt n y.state) (λ x h k. h.1 ∙ ap is.of (eqb-true x.voucher n k) ∙ now) xs is.each
 
 abbrev fund_amount : ℕ → Expenditure → ℤ
 fund_amount fund x = if x.account.fund == fund then pos x.account.amount else pos 0

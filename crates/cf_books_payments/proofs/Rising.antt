@@ -4,7 +4,7 @@ use Rattle.std.specs.Prelude.{◌==◌, ◌&&◌, nat_le, not, pos}
 use Rattle.std.specs.List.{filter}
 use Rattle.std.specs.List.Sorted.{IsNonDecreasingBy, IsStableByKey, ties}
 use Rattle.std.specs.Ordering.{is_lt, nat_cmp}
-use Rattle.std.proofs.lemmas.Bool.{cases_lt}
+use Rattle.std.proofs.lemmas.Bool.{cases_lt, eq-eqb, eqb-true, leb-false, leb-true}
 use Rattle.std.proofs.lemmas.Bool.Decides.{nat_tests}
 use Rattle.cf_books_payments.specs.Paid.{by_vendor, placed}
 use Rattle.cf_books_payments.specs.declared.entered.Paid.{Paid}
@@ -23,18 +23,6 @@ Rises [] = Unit {0}
 Rises (p ∷ rest) = IsLow p.vendor rest × Rises rest
 
 -- ---- numbers
-
-le_of : (a b : ℕ) → nat_le a b ≡ true → a ≤ b
-le_of a b h = grind (arith, nat_tests)
-
-gt_of : (a b : ℕ) → nat_le a b ≡ false → b < a
-gt_of a b h = grind (arith, nat_tests)
-
-eq_of : (a b : ℕ) → (a == b) ≡ true → a ≡ b
-eq_of a b h = grind (arith, nat_tests)
-
-self : (a : ℕ) → (a == a) ≡ true
-self a = grind (arith, nat_tests)
 
 apart_up : (a b : ℕ) → a < b → (b == a) ≡ false
 apart_up a b h = grind (arith, nat_tests)
@@ -65,8 +53,8 @@ placed_low v p [] le low = (le, tt)
 placed_low v p (q ∷ rest) le low = low_if v p q rest (nat_le p.vendor q.vendor) le low (placed_low v p rest le low.1)
 
 rises_if : (p q : Paid) (rest : List Paid) (b : Bool) → nat_le p.vendor q.vendor ≡ b → Rises (q ∷ rest) → Rises (placed p rest) → Rises (if b then p ∷ (q ∷ rest) else q ∷ placed p rest)
-rises_if p q rest true is up later = let le = le_of p.vendor q.vendor is in ((le, low_le p.vendor q.vendor rest le up.0), up)
-rises_if p q rest false is up later = let gt = gt_of p.vendor q.vendor is in (placed_low q.vendor p rest (omega (arith, gt)) up.0, later)
+rises_if p q rest true is up later = let le = leb-true p.vendor q.vendor is in ((le, low_le p.vendor q.vendor rest le up.0), up)
+rises_if p q rest false is up later = let gt = leb-false p.vendor q.vendor is in (placed_low q.vendor p rest (omega (arith, gt)) up.0, later)
 
 placed_rises : (p : Paid) (ps : List Paid) → Rises ps → Rises (placed p ps)
 placed_rises p [] up = (tt, tt)
@@ -91,7 +79,7 @@ filter_if v p q rest true is later = refl
 filter_if v p q rest false is later =
     ap (λ t. if is_of v q then q ∷ t else t) later
     ∙ swapped (is_of v p) (is_of v q) p q (filter (is_of v) rest)
-    (λ a b. let gt = gt_of p.vendor q.vendor is in omega (arith, gt, eq_of p.vendor v a, eq_of q.vendor v b))
+    (λ a b. let gt = leb-false p.vendor q.vendor is in omega (arith, gt, eqb-true p.vendor v a, eqb-true q.vendor v b))
 
 placed_filter : (v : ℕ) (p : Paid) (ps : List Paid) → filter (is_of v) (placed p ps) ≡ filter (is_of v) (p ∷ ps)
 placed_filter v p [] = refl
@@ -108,7 +96,7 @@ none_of v [] low = refl
 none_of v (p ∷ rest) low = ap (λ (b : Bool). if b then p ∷ filter (is_of v) rest else filter (is_of v) rest) (apart_up v p.vendor (omega (arith, low.0))) ∙ none_of v rest low.1
 
 first_of : (p : Paid) (rest : List Paid) → filter (is_of p.vendor) (p ∷ rest) ≡ p ∷ filter (is_of p.vendor) rest
-first_of p rest = ap (λ (b : Bool). if b then p ∷ filter (is_of p.vendor) rest else filter (is_of p.vendor) rest) (self p.vendor)
+first_of p rest = ap (λ (b : Bool). if b then p ∷ filter (is_of p.vendor) rest else filter (is_of p.vendor) rest) (eq-eqb p.vendor p.vendor refl)
 
 no_less : (x y : Paid) (xs ys : List Paid) → Rises (y ∷ ys) → x.vendor < y.vendor → filter (is_of x.vendor) (x ∷ xs) ≡ filter (is_of x.vendor) (y ∷ ys) → ⊥
 no_less x y xs ys up less same =

@@ -1,6 +1,6 @@
 -- Where passes of different numbers have as many calls that failed as there are, each such call is
 -- one of theirs.
-use Rattle.std.proofs.Common.{◌≡◌, ⊎_elim, ℕ, ◌+◌, ◌<◌, ◌≤◌, All, Bool, true, false, if◌then◌else◌, ◌==◌, List, [], ◌∷◌, ◌++◌, length, map, refl, sym, ap, subst, ◌∙◌, arith, length-append}
+use Rattle.std.proofs.Common.{◌≡◌, ⊎_elim, ℕ, ◌+◌, ◌<◌, ◌≤◌, All, Bool, true, false, eq-eqb, if◌then◌else◌, ◌==◌, List, [], ◌∷◌, ◌++◌, length, map, refl, sym, ap, subst, ◌∙◌, arith, length-append}
 use Rattle.std.specs.List.{Contains}
 use Rattle.std.proofs.lemmas.Bool.Decides.{nat_tests}
 use Rattle.std.proofs.lemmas.List.Elements.{All-cons, All-head, All-tail, Contains-append_cases, Contains-append_left, Contains-append_right, Contains-push, Contains-push_cases}
@@ -74,9 +74,6 @@ record IsFound (list : List TaggedCall) (ns : List ℕ) (c : Call) : Type 0 wher
   is_there : 0 < count_of number ns
   stands : Contains (calls_of number list) c
 
-same_number : (n : ℕ) → (n == n) ≡ true
-same_number n = grind (arith, nat_tests)
-
 found : (list : List TaggedCall) (ns : List ℕ) (c : Call) → ((n : ℕ) → count_of n ns ≤ 1) → calls_many ns list ≡ length list → Contains (calls_in list) c → IsFound list ns c
 found [] ns c apart many stands = let low = stands.1 in absurd (omega (arith, low))
 found (x ∷ xs) ns c apart many stands =
@@ -90,7 +87,7 @@ found (x ∷ xs) ns c apart many stands =
       number = x.1;
       is_there = omega (arith, calls_cons ns x xs, calls_most ns xs apart, many);
       stands = Contains-append_left (if x.1 == x.1 then x.0 ∷ [] else []) (calls_of x.1 xs) c
-          (subst (λ (b : Bool). Contains (if b then x.0 ∷ [] else []) c) (sym (same_number x.1)) (subst (Contains (x.0 ∷ [])) same (Contains-push [] x.0)));
+          (subst (λ (b : Bool). Contains (if b then x.0 ∷ [] else []) c) (sym (eq-eqb x.1 x.1 refl)) (subst (Contains (x.0 ∷ [])) same (Contains-push [] x.0)));
     }
 
     on : IsFound xs ns c → IsFound (x ∷ xs) ns c

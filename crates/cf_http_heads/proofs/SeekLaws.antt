@@ -1,7 +1,7 @@
 -- What the router finds.
 use Rattle.std.proofs.Common.{◌≡◌, ℕ, zero, suc, ◌-◌, ◌<◌, List, [], ◌∷◌, ◌++◌, Bool, true, false, cond, eqb, Option, Some, None, length, drop, ltb, ◌&&◌, length-append, arith, refl, sym, ap, ◌∙◌, subst}
 use Rattle.std.specs.List.{list_all}
-use Rattle.std.proofs.lemmas.Bool.{ne_eqb, eqb-true, eqb-false, leb-true, le-leb, false≢true}
+use Rattle.std.proofs.lemmas.Bool.{and_right, ne_eqb, eqb-true, eqb-false, leb-true, le-leb, false≢true}
 use Rattle.std.specs.Cmp.Lexicographic.{pointwise}
 use Rattle.std.specs.Prelude.{nat_eq, codes}
 use Rattle.matchit.specs.Seek.{segment, has_slash, cuts, own, step, or_else, longest_suffix, param_step, seek, first}
@@ -127,12 +127,8 @@ drop_front (b ∷ bs) = drop_front bs
 
 -- ---- a parameter before a slash
 
-and_false : (x : Bool) → (x && false) ≡ false
-and_false true = refl
-and_false false = refl
-
 ends_no : (p : List ℕ) → has_slash p ≡ false → cuts p (47 ∷ []) ≡ false
-ends_no p h = ap (λ e. ltb 1 (length p) && e) (no_end (length p - 1) p h) ∙ and_false (ltb 1 (length p))
+ends_no p h = ap (λ e. ltb 1 (length p) && e) (no_end (length p - 1) p h) ∙ and_right (ltb 1 (length p)) false refl
 
 ends_yes : (b : ℕ) (a : List ℕ) → cuts ((b ∷ a) ++ 47 ∷ []) (47 ∷ []) ≡ true
 ends_yes b a =

@@ -1,5 +1,5 @@
 -- A legal history is taken again whole, and what is taken again whole is legal.
-use Rattle.std.proofs.Common.{◌≡◌, ℕ, ◌+◌, ◌==◌, Bool, true, false, if◌then◌else◌, List, [], ◌∷◌, ◌++◌, length, Option, Some, None, IfSome, Ok, refl, ap, subst, inl, inr, IsTrue, arith}
+use Rattle.std.proofs.Common.{◌≡◌, ℕ, ◌+◌, Bool, true, false, if◌then◌else◌, List, [], ◌∷◌, ◌++◌, length, Option, Some, None, IfSome, Ok, refl, ap, subst, inl, inr, IsTrue, arith, eq-eqb}
 use Rattle.cf_calls.specs.declared.entry.Drawn.{Drawn}
 use Rattle.cf_calls.specs.declared.entry.Entry.{Entry}
 use Rattle.cf_calls.specs.declared.reply.Verdict.{Verdict}
@@ -20,11 +20,8 @@ use Rattle.cf_disk.specs.Moments.{AtEachMoment}
 use Rattle.cf_journal_book.specs.Books.{Keeps, IsKept, FramesNear, RecoversNear}
 use Rattle.cf_journal_book.specs.Recovery.{is_same_drawn, refusal_by, entry_refusal, first_refused, RecoversTo}
 
-same_number : (n : ℕ) → (n == n) ≡ true
-same_number n = grind arith
-
 same_drawn : (d : Drawn) → is_same_drawn d d ≡ true
-same_drawn d = rw (same_number d.number, same_number d.second) refl
+same_drawn d = rw (eq-eqb d.number d.number refl, eq-eqb d.second d.second refl) refl
 
 pub added_again : (plan : Plan) (before : List Entry) (e : Entry) → Adds plan before e → entry_refusal plan before e ≡ None
 added_again plan before e adds = rw (adds.accepts, same_drawn e.drawn) refl

@@ -1,5 +1,6 @@
 -- The commands of the program, as a parse reads them.
 use Rattle.std.proofs.Common.{◌≡◌, ◌||◌, ℕ, Bool, true≢false, if◌then◌else◌, true, false, refl, sym, subst, List, [], ◌∷◌, Some, codes}
+use Rattle.std.proofs.lemmas.Bool.{or_parts}
 use Rattle.std.proofs.lemmas.Slice.Eq.{bytes_eq-Decides}
 use Rattle.std.specs.Str.{bytes_eq}
 use Rattle.clap.specs.Walk.{Row, Rule, arg_by_id, arg_by_long, has_row}
@@ -27,10 +28,6 @@ among P (m ∷ ms) n all e = go (bytes_eq m n) refl e (among P ms n all.1)
     go : (b : Bool) → bytes_eq m n ≡ b → (b || is_among n ms) ≡ true → (is_among n ms ≡ true → P n) → P n
     go true is h later = subst P ((bytes_eq-Decides m n).0 is) all.0
     go false is h later = later h
-
-no_or : (a b : Bool) → (a || b) ≡ false → (a ≡ false) × (b ≡ false)
-no_or true b e = absurd (true≢false e)
-no_or false b e = (refl, e)
 
 -- ---- an option and a place, whatever its name
 
@@ -136,9 +133,9 @@ serve_fits = record {
       (option_of serve (codes "port") refl refl, (option_of serve (codes "doors") refl refl, (option_of serve (codes "links") refl refl, tt))) e;
   is_flag = λ n e f. absurd (true≢false (sym f));
   is_unknown = λ n e f.
-      let port = no_or (bytes_eq (codes "port") n) _ e in
-      let doors = no_or (bytes_eq (codes "doors") n) _ port.1 in
-      let links = no_or (bytes_eq (codes "links") n) _ doors.1 in
+      let port = or_parts (bytes_eq (codes "port") n) _ e in
+      let doors = or_parts (bytes_eq (codes "doors") n) _ port.1 in
+      let links = or_parts (bytes_eq (codes "links") n) _ doors.1 in
       rw (port.0, doors.0, links.0) refl;
   from_first = refl;
 }
@@ -158,7 +155,7 @@ report_fits = record {
   no_short = λ x. refl;
   is_option = λ n e. absurd (true≢false (sym e));
   is_flag = λ n e f. among (IsFlagOf report) report_form.flags n (flag_of report (codes "csv") refl, tt) f;
-  is_unknown = λ n e f. let csv = no_or (bytes_eq (codes "csv") n) _ f in rw csv.0 refl;
+  is_unknown = λ n e f. let csv = or_parts (bytes_eq (codes "csv") n) _ f in rw csv.0 refl;
   from_first = (
     place_filled 1 (codes "year"),
     refl,

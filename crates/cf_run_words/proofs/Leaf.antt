@@ -1,12 +1,13 @@
 -- What a parse makes of the words after a command's name, where its arguments are plain: options
 -- with one value, flags, places.
-use Rattle.std.proofs.Common.{◌≡◌, ◌∙◌, ◌+◌, ◌&&◌, ◌||◌, ℕ, Bool, true≢false, if◌then◌else◌, true, false, refl, sym, ap, ap₂, rules, List, [], ◌∷◌, ◌++◌, Option, Some, None, option_and_then, is_some, fold, codes, length}
+use Rattle.std.proofs.Common.{◌≡◌, ◌∙◌, ◌+◌, ◌||◌, ℕ, Bool, true≢false, if◌then◌else◌, true, false, refl, sym, ap, ap₂, rules, List, [], ◌∷◌, ◌++◌, Option, Some, None, option_and_then, is_some, fold, codes, length}
 use Rattle.std.specs.Str.{bytes_eq}
 use Rattle.clap.specs.Lexer.{long_of, short_of}
 use Rattle.std.specs.Prelude.{slice_get, min, chars}
 use Rattle.clap.specs.Lexer.{usize_max}
 use Rattle.clap.specs.Walk.{Held, Row, Rule, Waiting, Walk, idle, option, arg_by_id, arg_by_index, arg_by_long, arg_by_short, has_row, is_multiple, most_values, settled, takes_several, takes_values, used, walked}
 use Rattle.clap.specs.Simple.{Shape, new_shape}
+use Rattle.std.proofs.lemmas.Bool.{and_right}
 use Rattle.std.proofs.lemmas.Slice.Eq.{bytes_eq-Decides}
 use Rattle.std.proofs.lemmas.Str.{chars-nil}
 use Rattle.clap.specs.Faults.{flags_fault, long_fault, option_fault, react_fault, settle_fault, turn_fault, use_fault, walk_fault}
@@ -172,10 +173,6 @@ puts : (g : List Use → Option (List Row)) (u : Use) (x : Option (List Use)) �
 puts g u None = refl
 puts g u (Some us) = refl
 
-and_false : (b : Bool) → (b && false) ≡ false
-and_false true = refl
-and_false false = refl
-
 pub some≢none : {X : Type 0} (x : X) → Some x ≡ None → ⊥
 some≢none x e = true≢false (ap (λ o. is_some o) e)
 
@@ -263,13 +260,13 @@ module _ (name : Text) (c : List Rule) (form : Form) (fits : Fits c form) where
 
   place_turn : (n word : Text) (rows : List Row) (pend : Option Use) (p : ℕ) (a : Rule) → IsWord word → long_of word ≡ None → short_of word ≡ None → arg_by_index c p ≡ Some a → IsValued c n a
       → Known c pend → turn_fault s [] (at rows (held pend) idle p) word ≡ twice rows pend
-  place_turn n word rows pend p a w e f here is k = rw (w.dashes, e, f, here, is.several, and_false _, settles c rows pend k) refl
+  place_turn n word rows pend p a w e f here is k = rw (w.dashes, e, f, here, is.several, and_right _ false refl, settles c rows pend k) refl
 
   place_walked : (n word : Text) (rows : List Row) (pend : Option Use) (p : ℕ) (a : Rule) → IsWord word → long_of word ≡ None → short_of word ≡ None → arg_by_index c p ≡ Some a → IsValued c n a
       → Known c pend → twice rows pend ≡ [] → walked c [] (at rows (held pend) idle p) word ≡ at (after rows pend) (Some (n, word ∷ [])) idle (min (p + 1) usize_max)
   unfolding walked
   place_walked n word rows pend p a w e f here is k once =
-      rw (w.dashes, e, f, here, is.multiple, is.several, and_false _, is.trailing)
+      rw (w.dashes, e, f, here, is.multiple, is.several, and_right _ false refl, is.trailing)
       (ap₂ (λ (id : Text) (g : Held). at g.rows (Some (id, word ∷ [])) idle (min (p + 1) usize_max)) is.id (settled_is c rows pend k once))
 
   -- a word while an option waits for its value

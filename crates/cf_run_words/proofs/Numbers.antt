@@ -1,6 +1,6 @@
 -- A parse as a number, against the digits.
 use Rattle.std.proofs.Common.{◌≡◌, ◌<◌, ◌≤◌, ◌&&◌, ◌||◌, ◌^◌, ◌==◌, ℕ, Bool, true≢false, true, false, refl, sym, ap, subst, arith, [], ◌∷◌, length, nat_le, nat_lt, Some, None, Result, Ok, Err, codes}
-use Rattle.std.proofs.lemmas.Bool.{eqb-true, leb-true, lt-ltb, ltb-true}
+use Rattle.std.proofs.lemmas.Bool.{and_parts, eqb-true, leb-true, lt-ltb, ltb-true}
 use Rattle.std.proofs.lemmas.Slice.Eq.{bytes_eq-Decides}
 use Rattle.std.specs.Result.{result_ok}
 use Rattle.std.specs.Str.{bytes_eq}
@@ -9,14 +9,10 @@ use Rattle.std.specs.Str.Parse.{AllDigits, ParsesUnsigned, digits_value, without
 use Rattle.cf_run_words.specs.Forms.{Text}
 use Rattle.cf_run_words.specs.Words.{are_digits, begins_number, has_lead, number_of}
 
-both : (a b : Bool) → (a && b) ≡ true → (a ≡ true) × (b ≡ true)
-both true b e = (refl, e)
-both false b e = absurd (true≢false (sym e))
-
 digits_from : (ds : Text) → are_digits ds ≡ true → AllDigits 10 ds
 digits_from [] e = tt
 digits_from (d ∷ ds) e =
-    let parts = both _ _ e in
+    let parts = and_parts _ _ e in
     (ltb-true _ _ parts.0, digits_from ds parts.1)
 
 digits_pass : (ds : Text) → AllDigits 10 ds → are_digits ds ≡ true
@@ -37,7 +33,7 @@ after_lead [] e = refl
 after_lead (b ∷ rest) e = go (b == 43) refl
   where
     least : 49 ≤ b
-    least = leb-true 49 b (both (nat_le 49 b) _ e).0
+    least = leb-true 49 b (and_parts (nat_le 49 b) _ e).0
 
     go : (p : Bool) → (b == 43) ≡ p → without_leading_plus (b ∷ rest) ≡ b ∷ rest
     go false h = rw h refl
@@ -62,6 +58,6 @@ number_read text (Err e) lead h = go (are_digits text && nat_lt (digits_value 10
     go : (b : Bool) → (are_digits text && nat_lt (digits_value 10 text) (2 ^ 64)) ≡ b → None ≡ number_of text
     go false t = rw (lead, t) refl
     go true t =
-        let parts = both _ _ t in
+        let parts = and_parts _ _ t in
         let g = rw (no_plus text lead) at h in
         absurd (g ((starts text lead, digits_from text parts.0), ltb-true _ _ parts.1))

@@ -1,8 +1,8 @@
 -- The words of a program are text, so a word of flags has a first character.
-use Rattle.std.proofs.Common.{◌≡◌, ◌∙◌, ◌<◌, ◌==◌, ◌||◌, ℕ, Bool, true≢false, if◌then◌else◌, true, false, refl, sym, ap, subst, arith, List, [], ◌∷◌, ◌++◌, map, length, Some, None, option_and_then, chars, string_bytes, String, IsUtf8}
+use Rattle.std.proofs.Common.{◌≡◌, ◌∙◌, ◌<◌, ◌==◌, ℕ, Bool, if◌then◌else◌, true, false, refl, sym, ap, subst, arith, List, [], ◌∷◌, ◌++◌, map, length, Some, None, option_and_then, chars, string_bytes, String, IsUtf8}
 use Rattle.std.specs.Prelude.{slice_get}
 use Rattle.std.specs.List.{list_any}
-use Rattle.std.proofs.lemmas.Bool.{eqb-true}
+use Rattle.std.proofs.lemmas.Bool.{eqb-true, or_parts}
 use Rattle.std.proofs.lemmas.Str.{IsUtf8-past_char, IsUtf8-string_bytes, encode_ascii, encodes-chars}
 use Rattle.clap.specs.Lexer.{short_of, short_of_rest}
 use Rattle.cf_run_words.specs.Forms.{Text}
@@ -51,12 +51,8 @@ word_is word text other = record {
       first_char flags (IsUtf8-past_char word flags 45 text (parts.0 ∙ ap (λ l. l ++ flags) hyphen)) parts.1;
 }
 
-no_or : (a b : Bool) → (a || b) ≡ false → (a ≡ false) × (b ≡ false)
-no_or true b e = absurd (true≢false e)
-no_or false b e = (refl, e)
-
 pub words_are : {Z : Type 0} (words : List (String Z)) → list_any is_dashes (map string_bytes words) ≡ false → AreWords (map string_bytes words)
 words_are [] e = tt
 words_are (word ∷ rest) e =
-    let parts = no_or (is_dashes (string_bytes word)) _ e in
+    let parts = or_parts (is_dashes (string_bytes word)) _ e in
     (word_is (string_bytes word) (IsUtf8-string_bytes word) parts.0, words_are rest parts.1)

@@ -1,6 +1,7 @@
 -- From how the service at each door ended to how the run ends.
-use Rattle.std.proofs.Common.{◌≡◌, ◌⊎◌, inl, inr, ℕ, List, [], ◌∷◌, map, Bool, true, false, ◌||◌, true≢false, refl, sym, arith}
+use Rattle.std.proofs.Common.{◌≡◌, inl, inr, ℕ, List, [], ◌∷◌, map, Bool, true, false, true≢false, refl, sym, arith}
 use Rattle.std.specs.List.{list_any, sum_by}
+use Rattle.std.proofs.lemmas.Bool.{or_cases, or_parts}
 use Rattle.std.proofs.lemmas.List.Sums.{sum_by-cons}
 use Rattle.cf_base.specs.Causes.{Rose}
 use Rattle.cf_chart.specs.Plan.{Plan}
@@ -27,14 +28,6 @@ rose_is : (before now : ℕ) (end : DoorEnd) → IsQuiet before now end → is_f
 rose_is before now (Done links) q e = absurd (true≢false (sym e))
 rose_is before now (DoorFault links) q e = q
 
-neither : (a b : Bool) → (a || b) ≡ false → (a ≡ false) × (b ≡ false)
-neither true b e = absurd (true≢false e)
-neither false b e = (refl, e)
-
-either : (a b : Bool) → (a || b) ≡ true → (a ≡ true) ⊎ (b ≡ true)
-either true b e = inl refl
-either false b e = inr e
-
 -- ---- all doors
 
 module _ {L : Type 0} (tells : L → LinkTells) (known : Bool) (plan : Plan) (first : ℕ) (list : List TaggedEntry) (links : ℕ) where
@@ -43,7 +36,7 @@ module _ {L : Type 0} (tells : L → LinkTells) (known : Bool) (plan : Plan) (fi
   all_quiet [] (n ∷ news) all none = absurd all
   all_quiet (o ∷ olds) [] all none = absurd all
   all_quiet (o ∷ olds) (n ∷ news) all none =
-      let split = neither (is_fault n.end) (list_any (λ (d : DeskState L). is_fault d.end) news) none in
+      let split = or_parts (is_fault n.end) (list_any (λ (d : DeskState L). is_fault d.end) news) none in
       (quiet_is o.door.faults n.door.faults n.end all.1.quiet split.0, all_quiet olds news all.3 split.1)
 
   pub some_rose : (olds news : List (DeskState L)) → AllKept tells known plan first list links olds news → list_any (λ (d : DeskState L). is_fault d.end) news ≡ true → SomeRose (map door_of olds) (map door_of news)
@@ -51,7 +44,7 @@ module _ {L : Type 0} (tells : L → LinkTells) (known : Bool) (plan : Plan) (fi
   some_rose [] (n ∷ news) all some = absurd all
   some_rose (o ∷ olds) [] all some = absurd all
   some_rose (o ∷ olds) (n ∷ news) all some =
-      elim (either (is_fault n.end) (list_any (λ (d : DeskState L). is_fault d.end) news) some) [
+      elim (or_cases (is_fault n.end) (list_any (λ (d : DeskState L). is_fault d.end) news) some) [
         | inl here ↦ inl (rose_is o.door.faults n.door.faults n.end all.1.quiet here)
         | inr later ↦ inr (some_rose olds news all.3 later)
       ]

@@ -1,7 +1,6 @@
 -- The calls of a number in a list that gains one.
-use Rattle.std.proofs.Common.{◌≡◌, ◌≢◌, ℕ, List, [], ◌∷◌, ◌++◌, Bool, true, false, sym, ap, ◌∙◌, arith, append_assoc, append-nil}
+use Rattle.std.proofs.Common.{◌≡◌, ◌≢◌, ℕ, List, [], ◌∷◌, ◌++◌, Bool, eq-eqb, ne_eqb, refl, sym, ap, ◌∙◌, append_assoc, append-nil}
 use Rattle.std.specs.Prelude.{◌==◌, if◌then◌else◌}
-use Rattle.std.proofs.lemmas.Bool.Decides.{nat_tests}
 use Rattle.cf_calls.specs.declared.call.Call.{Call}
 use Rattle.cf_turns.specs.Lists.{TaggedCall, calls_of}
 
@@ -15,16 +14,10 @@ calls_of-snoc n (y ∷ ys) x =
     let head = call_if (y.1 == n) y.0 in
     ap (λ l. head ++ l) (calls_of-snoc n ys x) ∙ sym (append_assoc head (calls_of n ys) (call_if (x.1 == n) x.0))
 
-not_same : (n m : ℕ) → m ≢ n → (m == n) ≡ false
-not_same n m ne = grind (arith, nat_tests)
-
-is_same : (n : ℕ) → (n == n) ≡ true
-is_same n = grind (arith, nat_tests)
-
 -- a call of another number
 pub calls_of-other : (n : ℕ) (list : List TaggedCall) (c : Call) (m : ℕ) → m ≢ n → calls_of n (list ++ (c, m) ∷ []) ≡ calls_of n list
-calls_of-other n list c m ne = calls_of-snoc n list (c, m) ∙ (ap (λ b. calls_of n list ++ call_if b c) (not_same n m ne) ∙ append-nil (calls_of n list))
+calls_of-other n list c m ne = calls_of-snoc n list (c, m) ∙ (ap (λ b. calls_of n list ++ call_if b c) (ne_eqb m n ne) ∙ append-nil (calls_of n list))
 
 -- a call of this number
 pub calls_of-own : (n : ℕ) (list : List TaggedCall) (c : Call) → calls_of n (list ++ (c, n) ∷ []) ≡ calls_of n list ++ c ∷ []
-calls_of-own n list c = calls_of-snoc n list (c, n) ∙ ap (λ b. calls_of n list ++ call_if b c) (is_same n)
+calls_of-own n list c = calls_of-snoc n list (c, n) ∙ ap (λ b. calls_of n list ++ call_if b c) (eq-eqb n n refl)

@@ -1,7 +1,6 @@
 -- The places of a number's entries in a list that gains one.
-use Rattle.std.proofs.Common.{◌≡◌, ◌≢◌, ℕ, ◌+◌, ◌≤◌, List, [], ◌∷◌, ◌++◌, length, Bool, true, false, sym, ap, ◌∙◌, arith, append_assoc, append-nil}
+use Rattle.std.proofs.Common.{◌≡◌, ◌≢◌, ℕ, ◌+◌, ◌≤◌, List, [], ◌∷◌, ◌++◌, length, Bool, true, false, eq-eqb, ne_eqb, refl, sym, ap, ◌∙◌, arith, append_assoc, append-nil}
 use Rattle.std.specs.Prelude.{◌==◌, if◌then◌else◌}
-use Rattle.std.proofs.lemmas.Bool.Decides.{nat_tests}
 use Rattle.cf_calls.specs.declared.entry.Entry.{Entry}
 use Rattle.cf_turns.specs.Lists.{TaggedEntry, places_from, places_of}
 
@@ -20,24 +19,18 @@ places_from-snoc place n (x ∷ xs) e =
     ∙ (sym (append_assoc head (places_from (place + 1) n xs) (place_if (e.1 == n) ((place + 1) + length xs)))
     ∙ ap (λ p. (head ++ places_from (place + 1) n xs) ++ place_if (e.1 == n) p) same)
 
-not_same : (n m : ℕ) → m ≢ n → (m == n) ≡ false
-not_same n m ne = grind (arith, nat_tests)
-
-is_same : (n : ℕ) → (n == n) ≡ true
-is_same n = grind (arith, nat_tests)
-
 -- an entry of another number
 pub places_of-other : (n : ℕ) (list : List TaggedEntry) (e : Entry) (m : ℕ) → m ≢ n → places_of n (list ++ (e, m) ∷ []) ≡ places_of n list
 places_of-other n list e m ne =
     places_from-snoc 1 n list (e, m)
-    ∙ (ap (λ b. places_of n list ++ place_if b (1 + length list)) (not_same n m ne) ∙ append-nil (places_of n list))
+    ∙ (ap (λ b. places_of n list ++ place_if b (1 + length list)) (ne_eqb m n ne) ∙ append-nil (places_of n list))
 
 -- an entry of this number
 pub places_of-own : (n : ℕ) (list : List TaggedEntry) (e : Entry) → places_of n (list ++ (e, n) ∷ []) ≡ places_of n list ++ (length list + 1) ∷ []
 places_of-own n list e =
     let next : 1 + length list ≡ length list + 1 = omega arith in
     places_from-snoc 1 n list (e, n)
-    ∙ (ap (λ b. places_of n list ++ place_if b (1 + length list)) (is_same n) ∙ ap (λ p. places_of n list ++ p ∷ []) next)
+    ∙ (ap (λ b. places_of n list ++ place_if b (1 + length list)) (eq-eqb n n refl) ∙ ap (λ p. places_of n list ++ p ∷ []) next)
 
 length-places_from : (place n : ℕ) (list : List TaggedEntry) → length (places_from place n list) ≤ length list
 length-places_from place n [] = omega arith
