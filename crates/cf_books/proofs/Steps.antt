@@ -1,6 +1,6 @@
 -- One step of a loop over a list.
-use Rattle.std.proofs.Common.{◌≡◌, ℕ, zero, suc, ◌+◌, ◌<◌, Bool, refl, List, [], ◌∷◌, ◌++◌, Some, length, drop, get_or, sym, ap, ◌∙◌, append_assoc, add-one, drop-cons, arith}
-use Rattle.std.specs.Prelude.{◌-◌, codes, decimal, slice_get, slice_index_or}
+use Rattle.std.proofs.Common.{◌≡◌, ℕ, zero, suc, ◌+◌, ◌<◌, Bool, refl, List, [], ◌∷◌, ◌++◌, length, drop, get_or, sym, ap, ◌∙◌, append_assoc, add-one, drop-cons, arith}
+use Rattle.std.specs.Prelude.{◌-◌, codes, decimal, slice_index_or}
 use Rattle.cf_calls.specs.Refusals.{refusal_names}
 use Rattle.cf_books.specs.Notices.{refusal_text}
 use Rattle.cf_books_lists.specs.Records.{record_text, rows_text}
@@ -26,12 +26,6 @@ two_texts out a b x y p q = q ∙ ap (λ t. t ++ y) p ∙ append_assoc out x y
 
 pub three_texts : (out a b c x y z : List ℕ) → a ≡ out ++ x → b ≡ a ++ y → c ≡ b ++ z → c ≡ out ++ (x ++ (y ++ z))
 three_texts out a b c x y z p q r = two_texts out a c x (y ++ z) p (two_texts a b c y z q r)
-
--- the item at a place, as it is looked up
-pub get-item : {A : Type 0} (xs : List A) (i : ℕ) (x : A) → i < length xs → x ≡ get_or xs i x → slice_get xs i ≡ Some x
-get-item [] i x below is = absurd (omega (arith, below))
-get-item (y ∷ ys) zero x below is = ap (λ z. Some z) (sym is)
-get-item (y ∷ ys) (suc i) x below is = get-item ys i x (omega (arith, below)) is
 
 -- ---- the text of a refusal
 

@@ -6,6 +6,7 @@ use Rattle.std.proofs.lemmas.List.Sums.{sum_by-append, sum_by-cons}
 use Rattle.std.proofs.lemmas.List.Elements.{All-from_recursion, recursion_from_All}
 use Rattle.cf_base.specs.declared.calendar.Day.{Day}
 use Rattle.cf_base.specs.Limits.{most_entries}
+use Rattle.cf_journal_book.proofs.Watched.{posted_push}
 use Rattle.cf_journal_book.specs.Watching.{Posted, all_posted, next_posted}
 use Rattle.cf_calls.specs.declared.entry.Entry.{Entry}
 use Rattle.cf_calls.specs.declared.read.Basis.{Basis}
@@ -22,7 +23,6 @@ use Rattle.cf_model.proofs.PostedYears.{posts_years}
 use Rattle.cf_model.proofs.Sized.{posts_small}
 use Rattle.cf_books_days.specs.Through.{fund_balance_in, fund_posts, gov_posts, is_through, posts_by, seen_through}
 use Rattle.cf_books_days.specs.Ledgers.{as_balance, in_balance}
-use Rattle.cf_books_days.proofs.Pushed.{posted_push}
 use Rattle.cf_books_days.proofs.Whole.{fund_all, gov_all}
 
 -- ---- sizes

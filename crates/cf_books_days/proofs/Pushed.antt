@@ -1,28 +1,13 @@
 -- What is dated through a day, of one entry more.
-use Rattle.std.proofs.Common.{◌≡◌, ℕ, ◌+◌, cond, List, [], ◌∷◌, ◌++◌, length, sym, ap, ◌∙◌, arith}
+use Rattle.std.proofs.Common.{◌≡◌, ℕ, ◌+◌, cond, List, [], ◌∷◌, ◌++◌, sym, ap, ◌∙◌}
 use Rattle.std.proofs.lemmas.List.Elements.{filter-append}
 use Rattle.cf_base.specs.declared.calendar.Day.{Day}
-use Rattle.cf_journal_book.specs.Watching.{Posted, all_posted, next_posted, posted_after, posted_over}
+use Rattle.cf_journal_book.specs.Watching.{Posted}
 use Rattle.cf_budget.specs.Tables.{row_plus}
 use Rattle.cf_budget.proofs.Rows.{plus_regroup, plus_zero, zero_plus}
-use Rattle.cf_calls.specs.declared.entry.Entry.{Entry}
 use Rattle.cf_chart.specs.Plan.{Plan}
-use Rattle.cf_model.specs.Registers.{Registers, no_registers, registers_after, registers_step}
 use Rattle.cf_registers.specs.Moved.{moved_by}
 use Rattle.cf_books_days.specs.Through.{dated_through, is_through, moved_in}
-
-posted_after_push : (plan : Plan) (s : Registers) (n : ℕ) (h : List Entry) (e : Entry) →
-    posted_after plan s n (h ++ e ∷ []) ≡ posted_after plan s n h ++ posted_over plan (registers_after plan s h) (length h + n) e ∷ []
-posted_after_push plan s n [] e = let same : n ≡ 0 + n = omega arith in ap (λ m. posted_over plan s m e ∷ []) same
-posted_after_push plan s n (x ∷ h) e =
-    let moved : length h + (n + 1) ≡ length (x ∷ h) + n = omega arith in
-    ap (λ t. posted_over plan s n x ∷ t)
-    (posted_after_push plan (registers_step plan s x) (n + 1) h e
-    ∙ ap (λ m. posted_after plan (registers_step plan s x) (n + 1) h ++ posted_over plan (registers_after plan (registers_step plan s x) h) m e ∷ []) moved)
-
--- an entry more is seen
-pub posted_push : (plan : Plan) (h : List Entry) (e : Entry) → all_posted plan (h ++ e ∷ []) ≡ all_posted plan h ++ next_posted plan h e ∷ []
-posted_push plan h e = posted_after_push plan no_registers 1 h e
 
 abbrev pub if_through : Day → Posted → List Posted
 if_through day x = cond (is_through day x.entry.change.on) (x ∷ []) []

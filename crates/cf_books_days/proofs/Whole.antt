@@ -5,6 +5,7 @@ use Rattle.std.specs.List.{AllByRecursion}
 use Rattle.std.proofs.lemmas.Int.{int_wrap_fits, ints}
 use Rattle.std.proofs.lemmas.List.Sums.{sum_by-cons}
 use Rattle.cf_base.specs.declared.calendar.Day.{Day}
+use Rattle.cf_journal_book.proofs.Watched.{posted_push}
 use Rattle.cf_journal_book.specs.Watching.{Posted, all_posted, next_posted, posted_after, posted_over}
 use Rattle.cf_base.specs.Limits.{most_entries}
 use Rattle.cf_budget.specs.declared.row.Row.{Row}
@@ -24,7 +25,7 @@ use Rattle.cf_office_history.proofs.Numbers.{numbers_are_of}
 use Rattle.cf_registers.specs.Moved.{row_of}
 use Rattle.cf_office.proofs.Tied.{row_fits, row_push}
 use Rattle.cf_books_days.specs.Through.{dated_through, estimate_in, held_numbers, fund_balance_in, fund_posts, gov_posts, is_through, moved_in, seen_through, sums_in}
-use Rattle.cf_books_days.proofs.Pushed.{moved_append, moved_one, posted_push}
+use Rattle.cf_books_days.proofs.Pushed.{moved_append, moved_one}
 
 -- ---- all entries
 

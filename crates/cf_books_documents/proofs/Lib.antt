@@ -1,5 +1,4 @@
 pub mod Dating
-pub mod Adding
 pub mod Agreed
 pub mod Each
 pub mod Entering

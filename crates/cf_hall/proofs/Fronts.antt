@@ -41,7 +41,7 @@ pub front_wider : (plan : Plan) (least : ℕ) (h : List Entry) (P Q : List Entry
 front_wider plan least h P Q image wider f = (f.0, f.1, near_wider plan (take f.0 h) (P (take f.0 h)) (Q (take f.0 h)) image (wider (take f.0 h)) f.2)
 
 -- a front of a history is one of a longer history
-longer_front : (plan : Plan) (least : ℕ) (h more : List Entry) (P : List Entry → Entry → Type 0) (image : List ℕ) → least ≤ length h → RecoversToFrontAnd plan least P h image
+pub longer_front : (plan : Plan) (least : ℕ) (h more : List Entry) (P : List Entry → Entry → Type 0) (image : List ℕ) → least ≤ length h → RecoversToFrontAnd plan least P h image
     → RecoversToFrontAnd plan least P (h ++ more) image
 longer_front plan least h more P image long front =
     (length (take front.0 h), omega (arith, long, front.1, length-take front.0 h), subst (λ (l : List Entry). RecoversNear plan l (P l) image) (sym (same_front h more front.0)) front.2)
@@ -56,7 +56,7 @@ pub if_some_wider : (d : Option Entry) (P Q : Entry → Type 0) → ((e : Entry)
 if_some_wider None P Q wider p = tt
 if_some_wider (Some e) P Q wider p = wider e p
 
-would_next : (s : DurableState) (c : Call) (e : Entry) → WouldAdd s c e → next_of s.plan s.entries c ≡ s.entries ++ e ∷ []
+pub would_next : (s : DurableState) (c : Call) (e : Entry) → WouldAdd s c e → next_of s.plan s.entries c ≡ s.entries ++ e ∷ []
 would_next s c e w =
     ap (next_of s.plan s.entries) w.called ∙ ap (λ (v : Verdict). next_by v s.entries w.change) w.accepts ∙ ap (λ (x : Entry). s.entries ++ x ∷ []) (sym w.entry)
 

@@ -74,7 +74,7 @@ own-short on (Lease l) form fits = rw (lt-ltb l.vendor (2 ^ 64) (omega arith), l
 key_byte-ascii : (b : ℕ) → is_key_byte b ≡ true → nat_lt b 128 ≡ true
 key_byte-ascii b h = let p = and_parts (nat_le 33 b) (nat_le b 126) h in lt-ltb b 128 (omega (arith, leb-true b 126 p.1))
 
-key_bytes-ascii : (bs : List ℕ) → list_all is_key_byte bs ≡ true → are_ascii bs ≡ true
+pub key_bytes-ascii : (bs : List ℕ) → list_all is_key_byte bs ≡ true → are_ascii bs ≡ true
 key_bytes-ascii [] h = refl
 key_bytes-ascii (b ∷ bs) h = let p = and_parts (is_key_byte b) (list_all is_key_byte bs) h in rw (key_byte-ascii b p.0) (key_bytes-ascii bs p.1)
 

@@ -1,5 +1,5 @@
 -- What is read of a receipt's or a bill's line is that call.
-use Rattle.std.proofs.Common.{◌≡◌, ℕ, ◌^◌, ◌&&◌, true, cond, nat_lt, nat_le, length, List, [], ◌∷◌, Some, None, Ok, refl, ap, ◌∙◌, arith, lt-ltb, leb-true}
+use Rattle.std.proofs.Common.{◌≡◌, ℕ, ◌^◌, ◌&&◌, true, cond, nat_le, length, List, Some, None, Ok, refl, ap, ◌∙◌, arith, lt-ltb}
 use Rattle.std.specs.List.{list_all}
 use Rattle.std.proofs.lemmas.Bool.{and_parts}
 use Rattle.json.proofs.Printed.Utf8.{are_ascii}
@@ -18,6 +18,7 @@ use Rattle.cf_json_calls.specs.Fits.{ChangeFits}
 use Rattle.cf_json_calls.proofs.Sorted.{sorted, can_read}
 use Rattle.cf_json_calls.proofs.ReadBack.{read-compact_text, compact_text-utf8}
 use Rattle.cf_json_calls.proofs.CallsBack.{object_call_of-call_data}
+use Rattle.cf_json_calls.proofs.CallsShort.{key_bytes-ascii}
 use Rattle.cf_json_calls.proofs.Days.{day_ascii}
 use Rattle.cf_json_lines.specs.Lines.{Hand, change_of, receipt_data, bill_data}
 
@@ -28,13 +29,6 @@ sorted-back c d form fits short same =
     ap (λ b. call_in (cond b (read (text_of d)) None)) (compact_text-utf8 3 d short)
     ∙ ap call_in (read-compact_text 3 d short (omega arith) ∙ ap (λ x. Some x) same)
     ∙ object_call_of-call_data c form fits
-
-key_byte-ascii : (b : ℕ) → is_key_byte b ≡ true → nat_lt b 128 ≡ true
-key_byte-ascii b h = let p = and_parts (nat_le 33 b) (nat_le b 126) h in lt-ltb b 128 (omega (arith, leb-true b 126 p.1))
-
-key_bytes-ascii : (bs : List ℕ) → list_all is_key_byte bs ≡ true → are_ascii bs ≡ true
-key_bytes-ascii [] h = refl
-key_bytes-ascii (b ∷ bs) h = let p = and_parts (is_key_byte b) (list_all is_key_byte bs) h in rw (key_byte-ascii b p.0) (key_bytes-ascii bs p.1)
 
 key-ascii : (key : List ℕ) → is_key key ≡ true → are_ascii key ≡ true
 key-ascii key h = key_bytes-ascii key (and_parts (nat_le 1 (length key) && nat_le (length key) 40) (list_all is_key_byte key) h).1

@@ -1,25 +1,21 @@
 -- What a crash leaves at each moment of a line that is answered over a book.
-use Rattle.std.proofs.Common.{◌≡◌, ◌⊎◌, ℕ, ◌≤◌, List, [], ◌∷◌, ◌++◌, Option, Some, None, IfSome, IsTrue, length, length-append, append_assoc, take, drop, refl, sym, ap, subst, ◌∙◌, inl, inr, ⊎_elim, arith}
+use Rattle.std.proofs.Common.{◌≡◌, ◌⊎◌, ℕ, ◌≤◌, List, [], ◌∷◌, ◌++◌, Option, Some, None, IfSome, IsTrue, length, length-append, refl, sym, subst, ◌∙◌, inl, inr, ⊎_elim, arith}
 use Rattle.std.specs.List.{Contains}
-use Rattle.std.proofs.lemmas.List.{take-append-drop, length-take}
 use Rattle.std.proofs.lemmas.List.Elements.{Contains-push}
-use Rattle.std.proofs.Math.Seq.{take-append_seam}
 use Rattle.cf_calls.specs.declared.call.Call.{Call}
 use Rattle.cf_calls.specs.declared.entry.Entry.{Entry}
 use Rattle.cf_calls.specs.declared.reply.Posted.{Posted}
 use Rattle.cf_calls.specs.declared.reply.Posted.TheVariants as posted
 use Rattle.cf_calls.specs.declared.reply.Reply.{Reply}
-use Rattle.cf_calls.specs.declared.reply.Verdict.{Verdict}
 use Rattle.cf_chart.specs.Plan.{Plan}
 use Rattle.cf_disk.specs.Moments.{AtEachMoment}
 use Rattle.cf_journal.proofs.Moments.{weaken}
-use Rattle.cf_model.specs.Step.{next_by, next_of}
 use Rattle.cf_journal_book.specs.Books.{IsInHand, RecoversNear}
 use Rattle.cf_journal_book.specs.DurableState.{DurableState}
 use Rattle.cf_journal_book.specs.Recovery.{RecoversTo}
 use Rattle.cf_journal_book.specs.Settling.{Settles, WouldAdd}
 use Rattle.cf_hall.specs.Fronts.{IsUnacknowledged, RecoversToFrontAnd}
-use Rattle.cf_hall.proofs.Fronts.{doubt_on, whole_front}
+use Rattle.cf_hall.proofs.Fronts.{doubt_on, longer_front, whole_front, would_next}
 use Rattle.cf_run_status.specs.Devices.{Device}
 use Rattle.cf_top.specs.Answers.{LineAnswer}
 use Rattle.cf_top.specs.Clerks.{CallMoments, LineMoments}
@@ -38,22 +34,7 @@ failed_here s c given after (Settles.replied body says) is = absurd (replied_dis
 failed_here s c given after Settles.memory is = absurd (memory_disk is)
 failed_here s c given after (Settles.failed _ fails) is = Contains-push [] c
 
-would_next : (s : DurableState) (c : Call) (e : Entry) → WouldAdd s c e → next_of s.plan s.entries c ≡ s.entries ++ e ∷ []
-would_next s c e w =
-    ap (next_of s.plan s.entries) w.called ∙ ap (λ (v : Verdict). next_by v s.entries w.change) w.accepts ∙ ap (λ (x : Entry). s.entries ++ x ∷ []) (sym w.entry)
-
 -- ---- fronts
-
-same_front : (h more : List Entry) (n : ℕ) → take (length (take n h)) (h ++ more) ≡ take n h
-same_front h more n =
-    let front : List Entry = take n h in
-    ap (λ (l : List Entry). take (length front) (l ++ more)) (sym (take-append-drop n h)) ∙ ap (take (length front)) (append_assoc front (drop n h) more) ∙ take-append_seam front (drop n h ++ more)
-
--- a front of a history is one of a longer history
-pub longer_front : (plan : Plan) (least : ℕ) (h more : List Entry) (P : List Entry → Entry → Type 0) (image : List ℕ) → least ≤ length h → RecoversToFrontAnd plan least P h image
-    → RecoversToFrontAnd plan least P (h ++ more) image
-longer_front plan least h more P image long front =
-    (length (take front.0 h), omega (arith, long, front.1, length-take front.0 h), subst (λ (l : List Entry). RecoversNear plan l (P l) image) (sym (same_front h more front.0)) front.2)
 
 -- the entry in hand is that of an accepted call, with which the history goes on, or one that stays
 -- in doubt

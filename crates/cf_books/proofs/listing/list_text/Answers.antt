@@ -3,7 +3,8 @@ use Rattle.std.specs.Prelude.{slice_get}
 use Rattle.cf_books.specs.Listing.{entry_row, entry_rows, header}
 use Rattle.cf_books_payments.specs.Payments.{amount_after, none_payable, payable_after}
 use Rattle.cf_books_payments.proofs.Noted.{knows_next, knows_small}
-use Rattle.cf_books.proofs.Steps.{drop-item, get-item, row_added}
+use Rattle.cf_books_documents.proofs.Entering.{get-item}
+use Rattle.cf_books.proofs.Steps.{drop-item, row_added}
 use Rattle.cf_books_lists.specs.Records.{head_text, rows_text}
 use Rattle.cf_books_lists.specs.Rows.{Written, added}
 use Rattle.cf_books.proofs.listing.list_text.Goals as goal

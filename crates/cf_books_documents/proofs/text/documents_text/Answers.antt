@@ -12,7 +12,7 @@ use Rattle.cf_books_lists.specs.Records.{head_text}
 use Rattle.cf_books_lists.specs.Rows.{Written, added, none_written}
 use Rattle.cf_books_documents.specs.Text.{head, kinds, kinds_text}
 use Rattle.cf_books_documents.specs.Told.{told_of}
-use Rattle.cf_books_documents.proofs.Adding.{added_two}
+use Rattle.cf_books_lists.proofs.Adding.{added_two}
 use Rattle.cf_books_documents.proofs.Dating.{legal_dated}
 use Rattle.cf_books_documents.proofs.text.documents_text.Goals as goal
 
