@@ -1,7 +1,6 @@
--- Desks are opened one after another, and looked at.
-use Rattle.std.proofs.Common.{◌≡◌, ℕ, Bool, ◌+◌, List, [], ◌∷◌, ◌++◌, length, map, sym, ap, ◌∙◌, arith, append_assoc, length-append}
+-- Desks are opened one after another.
+use Rattle.std.proofs.Common.{◌≡◌, ℕ, ◌+◌, List, [], ◌∷◌, ◌++◌, length, map, sym, ap, ◌∙◌, arith, append_assoc, length-append}
 use Rattle.std.proofs.lemmas.List.{map-append}
-use Rattle.std.specs.List.{list_any, sum_by}
 
 pub one_on : {A : Type 0} (all yielded rest later : List A) (x : A) → all ≡ yielded ++ rest → rest ≡ x ∷ later → all ≡ (yielded ++ x ∷ []) ++ later
 one_on all yielded rest later x is next = is ∙ ap (λ ys. yielded ++ ys) next ∙ sym (append_assoc yielded (x ∷ []) later)
@@ -15,9 +14,3 @@ fewer_on first xs new ys x y e is = omega (arith, e, ap length is, length-append
 pub paired_on : {A B C : Type 0} (f : A → C) (g : B → C) (xs new : List A) (ys : List B) (x : A) (y : B) → map f xs ≡ map g ys → f x ≡ g y → new ≡ xs ++ x ∷ [] → map f new ≡ map g (ys ++ y ∷ [])
 paired_on f g xs new ys x y e h is =
     ap (map f) is ∙ map-append f xs (x ∷ []) ∙ ap (λ l. l ++ f x ∷ []) e ∙ ap (λ c. map g ys ++ c ∷ []) h ∙ sym (map-append g ys (y ∷ []))
-
-pub added : {A : Type 0} (f : A → ℕ) (n : ℕ) (xs ys : List A) → n ≡ sum_by f xs → xs ≡ ys → n ≡ sum_by f ys
-added f n xs ys is same = is ∙ ap (sum_by f) same
-
-pub any_of : {A : Type 0} (f : A → Bool) (b : Bool) (xs ys : List A) → b ≡ list_any f xs → xs ≡ ys → b ≡ list_any f ys
-any_of f b xs ys is same = is ∙ ap (list_any f) same

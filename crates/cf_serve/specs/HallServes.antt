@@ -1,7 +1,8 @@
 -- What serving a hall tells.
-use Rattle.std.specs.Prelude.{◌≡◌, ◌⊎◌, ℕ, Bool, true, false, IsTrue, IfSome, List, [], ◌∷◌, ◌++◌, length, Option, Some, None}
+use Rattle.std.specs.Prelude.{◌≡◌, ◌⊎◌, ℕ, Bool, IsTrue, IfSome, List, [], ◌∷◌, ◌++◌, length, Option, Some, None}
 use Rattle.cf_journal_book.specs.Books.{RecoversNear}
 use Rattle.cf_journal_book.specs.DurableState.{DurableBook}
+use Rattle.cf_journal_book.specs.declared.refused.BookRefused.TheVariants as refused
 use Rattle.cf_calls.specs.declared.entry.Entry.{Entry}
 use Rattle.cf_chart.specs.Plan.{Plan}
 use Rattle.cf_hall.specs.Fronts.{IsUnacknowledged, KeptSince}
@@ -9,7 +10,7 @@ use Rattle.cf_http.specs.Doors.{DoorTells}
 use Rattle.cf_http.specs.Links.{LinkTells}
 use Rattle.cf_model.specs.State.{IsSoundState}
 use Rattle.cf_serve.specs.declared.end.ServeEnd.{ServeEnd}
-use Rattle.cf_serve.specs.declared.end.ServeEnd.TheVariants.{Served, DoorFailed, NoMemory}
+use Rattle.cf_serve.specs.declared.end.ServeEnd.TheVariants.{Served, DoorFailed, Unopened}
 use Rattle.cf_serve_laws.specs.ServeEnds.{AllQuiet, SomeRose, links_given}
 use Rattle.cf_serve_laws.specs.ServeRuns.{ServeRan, failed_said, faults_said}
 
@@ -53,17 +54,12 @@ pub record HallRan {D L : Type 0} (device : DiskTells D) (tells : L → LinkTell
   pub given_is : given ≡ links_given olds news
 
 -- The doors were served and none failed; or one failed, whose count rose; or there was no memory,
--- and the doors and the disk are as they were, and no link was given.
+-- and the doors and the disk are as they were.
 abbrev pub ServesDoors : {D L : Type 0} → DiskTells D → (L → LinkTells) → Bool → ℕ → DurableBook D
-    → D → List (DoorTells L) → List (DoorTells L) → ℕ → ServeEnd → Type 0
-ServesDoors device tells known links book disk olds news given Served =
+    → D → List (DoorTells L) → List (DoorTells L) → ServeEnd → Type 0
+ServesDoors device tells known links book disk olds news (Served given) =
     HallRan device tells known links book disk olds news given × AllQuiet olds news
-ServesDoors device tells known links book disk olds news given DoorFailed =
+ServesDoors device tells known links book disk olds news (DoorFailed given) =
     HallRan device tells known links book disk olds news given × SomeRose olds news
-ServesDoors device tells known links book disk olds news given NoMemory = (news ≡ olds)
-    × (disk ≡ book.disk) × (given ≡ 0)
-
--- how the service ended, where a door failed or none did
-abbrev pub end_by : Bool → ServeEnd
-end_by true = DoorFailed
-end_by false = Served
+ServesDoors device tells known links book disk olds news (Unopened why) =
+    (why ≡ refused.NoMemory) × (news ≡ olds) × (disk ≡ book.disk)

@@ -2,7 +2,7 @@
 
 ghost use Rattle.std.specs.Prelude.{◌≡◌, ◌<◌, ◌≤◌, ℕ, length, map};
 ghost use Rattle.cf_hall.specs.OpeningNames.{name_at};
-ghost use Rattle.cf_serve.specs.HallServes as spec;
+ghost use Rattle.cf_journal_book.specs.declared.refused.BookRefused.TheVariants as refused;
 ghost use Rattle.cf_serve.specs.HallServes.{ServesDoors};
 
 use crate::end::{HallServed, ServeEnd};
@@ -13,21 +13,11 @@ use cf_disk::Disk;
 use cf_hall::{Hall, Opening};
 use cf_hall_names::City;
 use cf_http::Door;
-use cf_journal_book::Book;
+use cf_journal_book::{Book, BookRefused};
 use std::alloc::Global;
 use std::mem;
 use std::sync::Wait;
 use std::thread::Threads;
-
-fn end_by(failed: bool) -> ServeEnd
-    ensures { result ≡ spec.end_by failed }
-{
-    if failed {
-        ServeEnd::DoorFailed
-    } else {
-        ServeEnd::Served
-    }
-}
 
 /// Opens a hall over an opened book, with a second copy of its chart, serves so many links at each
 /// of at most 65,535 doors, each by a clerk in a thread of its own, and closes the hall. A door
@@ -60,7 +50,8 @@ where
     requires begun { D.moment book.disk ≡ N.begun }
     requires risen { D.faults book.disk ≡ N.risen }
     ensures many { length doors.new.items ≡ length doors.old.items }
-    ensures untouched { result.end ≡ ServeEnd.NoMemory → doors.new.items ≡ doors.old.items }
+    ensures untouched { result.end ≡ ServeEnd.Unopened refused.NoMemory
+        → doors.new.items ≡ doors.old.items }
     ensures ends { ServesDoors
         (record {
           tells = D.tells;
@@ -70,12 +61,13 @@ where
           faults = D.faults;
         })
         R.Link.tells R.known links book result.disk (map R.tells doors.old.items)
-        (map R.tells doors.new.items) result.links result.end }
+        (map R.tells doors.new.items) result.end }
 {
     let Ok(rooms) = Rooms::<N, D, H, R>::new(alloc, doors.len()) else {
         return HallServed {
-            end: ServeEnd::NoMemory,
-            links: 0,
+            end: ServeEnd::Unopened {
+                why: BookRefused::NoMemory,
+            },
             disk: book.close(),
         };
     };
@@ -88,7 +80,7 @@ where
     let mut hall = Hall::open(book, chart, opening);
     hall.enter_all(doors.len(), &mut passes);
     let all = mem::replace(doors, room);
-    let kept = serve_doors(
+    let end = serve_doors(
         rt,
         alloc,
         &hall.shared,
@@ -100,8 +92,7 @@ where
     );
     let closed = hall.close(passes, &mut receipts);
     HallServed {
-        end: end_by(kept.failed),
-        links: kept.links,
+        end,
         disk: closed.disk,
     }
 }

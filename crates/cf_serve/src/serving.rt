@@ -4,12 +4,14 @@ ghost use Rattle.std.specs.Prelude.{◌≡◌, ◌≤◌, [], length, map, All};
 ghost use Rattle.std.specs.List.{list_any, sum_by};
 ghost use Rattle.std.specs.Vec.{vec_capacity};
 ghost use Rattle.cf_hall_names.specs.Closing.{IsFreshPass};
+ghost use Rattle.cf_serve.specs.DesksRun as spec;
 ghost use Rattle.cf_serve.specs.DesksRun.{DesksRan};
 ghost use Rattle.cf_serve_laws.specs.Desks.{end_links, is_fault};
 ghost use Rattle.cf_serve_laws.specs.ServeRuns.{door_of};
 
 use crate::clerk::Clerk;
 use crate::desk::{Desk, keep_all};
+use crate::end::ServeEnd;
 use cf_disk::Disk;
 use cf_hall::{HallPass, Shared};
 use cf_hall_names::City;
@@ -143,11 +145,19 @@ fn part_all<'a, N: City, D: Disk + Drop, H: Wait, R: Door + Drop>(
     }
 }
 
-/// How the desks of a hall were kept: how many links their doors gave, and whether a door failed.
-#[derive(Clone, Copy)]
-pub(crate) struct Kept {
-    pub(crate) links: u64,
-    pub(crate) failed: bool,
+/// How the service of the desks ended.
+fn end_of<'a, N: City, D: Disk + Drop, H: Wait, R: Door + Drop>(
+    desks: &[Desk<'a, N, D, H, R>],
+) -> ServeEnd
+    requires { length desks.now ≤ 65535 }
+    ensures { result ≡ spec.end_of desks.now }
+{
+    let links = links_given(desks);
+    if has_failed(desks) {
+        ServeEnd::DoorFailed { links }
+    } else {
+        ServeEnd::Served { links }
+    }
 }
 
 /// Keeps a desk at each door, with a pass each: all at once, and each for so many links. The doors
@@ -167,7 +177,7 @@ pub(crate) fn serve_doors<
     back: &mut Vec<R>,
     passes: &mut Vec<HallPass<N>>,
     mut desks: Vec<Desk<'a, N, D, H, R>>,
-) -> Kept
+) -> ServeEnd
 where
     R::Link: Send,
     requires few { length doors.items ≤ 65535 }
@@ -180,14 +190,11 @@ where
     ensures many { (length back.new.items ≡ length doors.items)
         × (length passes.new.items ≡ length doors.items) }
     ensures ran { DesksRan R.Link.tells R.known N.plan N.first links (map R.tells doors.items)
-        (map R.tells back.new.items) passes.new.items result.links result.failed }
+        (map R.tells back.new.items) passes.new.items result }
 {
     seat_all(rt, alloc, shared, doors, passes, &mut desks);
     keep_all(rt, alloc, &mut desks, links);
-    let kept = Kept {
-        links: links_given(desks.as_slice()),
-        failed: has_failed(desks.as_slice()),
-    };
+    let end = end_of(desks.as_slice());
     part_all(desks, back, passes);
-    kept
+    end
 }

@@ -1,11 +1,14 @@
 -- A run of `serve` over the journal of a disk.
-use Rattle.std.proofs.Common.{◌≡◌, ⊎_elim, ℕ, ◌≤◌, List, [], ◌++◌, length, map, take, IfSome, Option, Ok, refl, sym, subst, ap, ◌∙◌}
+use Rattle.std.proofs.Common.{◌≡◌, ⊎_elim, ℕ, ◌≤◌, List, [], ◌++◌, length, map, take, IfSome, Option, Ok, sym, subst, ap, ◌∙◌}
 use Rattle.std.proofs.lemmas.List.{length-take-le}
 use Rattle.std.proofs.Math.Seq.{take-append_seam}
 use Rattle.cf_model_articulation.proofs.Articulated.{articulates_always}
 use Rattle.cf_model_articulation.proofs.ReadCharts.{read_chart}
 use Rattle.cf_journal_book.specs.DurableState.{DurableBook}
-use Rattle.cf_journal_book.specs.Openings.{OpensBook}
+use Rattle.cf_journal_book.specs.Openings.{OpensBook, Refuses}
+use Rattle.cf_journal_book.specs.Recovery.{recovered}
+use Rattle.cf_journal_book.specs.declared.refused.BookRefused.{BookRefused}
+use Rattle.cf_journal_book.specs.declared.refused.BookRefused.TheVariants as refused
 use Rattle.cf_calls.specs.declared.entry.Entry.{Entry}
 use Rattle.cf_chart.specs.Reading.{chart_of}
 use Rattle.cf_model_closed.proofs.ClosedYears.{closed_years_always}
@@ -19,7 +22,7 @@ use Rattle.cf_top.specs.Talks.{RoseBy}
 use Rattle.cf_serve_laws.specs.ServeRuns.{failed_said, faults_said}
 use Rattle.cf_run_status.specs.Devices.{Device}
 use Rattle.cf_top.specs.DoorKinds.{DoorKind}
-use Rattle.cf_top.specs.Serves.{IsUnserved, KeepsDoors, Served, kept_of}
+use Rattle.cf_top.specs.Serves.{IsUnserved, KeepsDoors, Served}
 
 -- what was moved to the end of an empty list, and then others after it, stands in front
 pub front_is : {R : Type 0} (count : ℕ) (old first back front rest last : List R) → count ≤ length old → first ≡ take count old → length back ≡ length first → front ≡ back → last ≡ front ++ rest
@@ -64,18 +67,31 @@ module _ {D R L : Type 0} (device : Device D) (kind : DoorKind R L) (links : ℕ
     any_moment = λ t. subst (λ (d : Option Entry). KeptSince device.moment device.was_image book.plan (length book.entries) d (failed_said h.ran.doors.talks) h.last (device.moment book.disk) new) opens.clear (h.any_moment t);
   }
 
-  pub doors_kept : (book : DurableBook D) (bytes : List ℕ) (doors doors' : List R) (given : ℕ) (how : ServeEnd)
+  -- where a hall wasn't opened over it, there was no memory, and the disk is as it was
+  pub unopened : (book : DurableBook D) (olds news : List (DoorTells L)) (how : ServeEnd) (why : BookRefused)
+      → ServesDoors (record { tells = device.tells; is_image = device.is_image; moment = device.moment; was_image = device.was_image; faults = device.faults }) kind.tells kind.known links book new olds news how
+      → how ≡ end.Unopened why → (why ≡ refused.NoMemory) × (new ≡ book.disk)
+  unopened book olds news how why h e =
+      let k = subst (λ (x : ServeEnd). ServesDoors (record { tells = device.tells; is_image = device.is_image; moment = device.moment; was_image = device.was_image; faults = device.faults }) kind.tells kind.known links book new olds news x) e h in
+      (k.0, k.2)
+
+  pub disk_unopened : (book : DurableBook D) (olds news : List (DoorTells L)) (how : ServeEnd)
+      → ServesDoors (record { tells = device.tells; is_image = device.is_image; moment = device.moment; was_image = device.was_image; faults = device.faults }) kind.tells kind.known links book new olds news how
+      → how ≡ end.Unopened refused.Disk → ⊥
+  disk_unopened book olds news how h e = let none : refused.Disk ≡ refused.NoMemory = (unopened book olds news how refused.Disk h e).0 in cc
+
+  pub doors_kept : (book : DurableBook D) (bytes : List ℕ) (doors doors' : List R) (how : ServeEnd)
       → OpensBook device.tells device.content device.is_image device.moment device.was_image device.faults old book → chart_of bytes ≡ Ok book.plan
-      → ServesDoors (record { tells = device.tells; is_image = device.is_image; moment = device.moment; was_image = device.was_image; faults = device.faults }) kind.tells kind.known links book new (map kind.state doors) (map kind.state doors') given how
-      → (how ≡ end.NoMemory → doors' ≡ doors) → KeepsDoors device kind links old new doors doors' (kept_of given how)
-  doors_kept book bytes doors doors' given end.Served opens states h stay =
+      → ServesDoors (record { tells = device.tells; is_image = device.is_image; moment = device.moment; was_image = device.was_image; faults = device.faults }) kind.tells kind.known links book new (map kind.state doors) (map kind.state doors') how
+      → (how ≡ end.Unopened refused.NoMemory → doors' ≡ doors) → KeepsDoors device kind links old new doors doors' how
+  doors_kept book bytes doors doors' (end.Served given) opens states h stay =
       (served_by book bytes (map kind.state doors) (map kind.state doors') given opens states h.0, h.1, h.0.given_is)
-  doors_kept book bytes doors doors' given end.DoorFailed opens states h stay =
+  doors_kept book bytes doors doors' (end.DoorFailed given) opens states h stay =
       (served_by book bytes (map kind.state doors) (map kind.state doors') given opens states h.0, h.1)
-  doors_kept book bytes doors doors' given end.NoMemory opens states h stay =
+  doors_kept book bytes doors doors' (end.Unopened why) opens states h stay =
       let unserved : IsUnserved device old new doors doors' = record {
-        doors_stay = stay refl;
-        content = λ t. ap device.content h.1 ∙ opens.reads t;
-        any_moment = subst (λ (d : D). AtEachMoment device.moment device.was_image old d (device.is_image old)) (sym h.1) opens.any_moment;
+        doors_stay = stay (ap end.Unopened h.0);
+        content = λ t. ap device.content h.2 ∙ opens.reads t;
+        any_moment = subst (λ (d : D). AtEachMoment device.moment device.was_image old d (device.is_image old)) (sym h.2) opens.any_moment;
       } in
-      (unserved, λ t. tt, λ fine. ap device.faults h.1 ∙ opens.quiet)
+      (unserved, λ t. subst (λ (w : BookRefused). Refuses w (recovered (device.content old))) (sym h.0) tt, λ fine. ap device.faults h.2 ∙ opens.quiet)

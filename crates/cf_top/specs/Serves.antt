@@ -18,8 +18,6 @@ use Rattle.cf_serve.specs.declared.end.ServeEnd.{ServeEnd}
 use Rattle.cf_serve.specs.declared.end.ServeEnd.TheVariants as end
 use Rattle.cf_serve_laws.specs.ServeEnds.{AllQuiet, SomeRose, EndsWhole, EndsUnwritten, links_given, served_text}
 use Rattle.cf_serve_laws.specs.ServeRuns.{ServeRan, failed_said, faults_said}
-use Rattle.cf_top.specs.declared.serve_command.Kept.{Kept}
-use Rattle.cf_top.specs.declared.serve_command.Kept.TheVariants as kept
 use Rattle.cf_run_status.specs.declared.status.Status.{Status}
 use Rattle.cf_run_status.specs.declared.status.Status.TheVariants as status
 use Rattle.cf_run_status.specs.Devices.{Device}
@@ -67,21 +65,16 @@ pub record IsUnserved {D R : Type 0} (device : Device D) (old new : D)
 
 -- ---- how the doors were kept
 
-abbrev pub kept_of : ℕ → ServeEnd → Kept
-kept_of links end.Served = kept.Served links
-kept_of links end.DoorFailed = kept.Failed
-kept_of links end.NoMemory = kept.Unopened refused.NoMemory
-
 abbrev pub KeepsDoors : {D R L : Type 0} → Device D → DoorKind R L → ℕ → D → D → List R → List R
-    → Kept → Type 0
-KeepsDoors device kind links old new doors doors' (kept.Served count) =
+    → ServeEnd → Type 0
+KeepsDoors device kind links old new doors doors' (end.Served count) =
     Served device kind links old new (map kind.state doors) (map kind.state doors')
     × AllQuiet (map kind.state doors) (map kind.state doors')
     × (count ≡ links_given (map kind.state doors) (map kind.state doors'))
-KeepsDoors device kind links old new doors doors' kept.Failed =
+KeepsDoors device kind links old new doors doors' (end.DoorFailed count) =
     Served device kind links old new (map kind.state doors) (map kind.state doors')
     × SomeRose (map kind.state doors) (map kind.state doors')
-KeepsDoors device kind links old new doors doors' (kept.Unopened why) =
+KeepsDoors device kind links old new doors doors' (end.Unopened why) =
     IsUnserved device old new doors doors'
     × (IsTrue device.tells → Refuses why (recovered (device.content old)))
     × (why ≢ refused.Disk → device.faults new ≡ device.faults old)
@@ -94,10 +87,10 @@ PutsLine line held held' status.Ok = Appends held held' line
 PutsLine line held held' status.WriteFault = (rest : List ℕ) × Wrote held held' line rest
 PutsLine line held held' _ = ⊥
 
-abbrev pub TellsKept : Kept → Option (List ℕ) → Option (List ℕ) → Status → Type 0
-TellsKept (kept.Served count) held held' s = PutsLine (served_text count) held held' s
-TellsKept kept.Failed held held' s = (s ≡ status.DoorFault) × (held' ≡ held)
-TellsKept (kept.Unopened why) held held' s = (s ≡ status_of_refused why) × (held' ≡ held)
+abbrev pub TellsEnd : ServeEnd → Option (List ℕ) → Option (List ℕ) → Status → Type 0
+TellsEnd (end.Served count) held held' s = PutsLine (served_text count) held held' s
+TellsEnd (end.DoorFailed count) held held' s = (s ≡ status.DoorFault) × (held' ≡ held)
+TellsEnd (end.Unopened why) held held' s = (s ≡ status_of_refused why) × (held' ≡ held)
 
 -- ---- the run, by its status
 

@@ -5,35 +5,23 @@ ghost use Rattle.std.specs.Vec.{vec_len, vec_capacity};
 ghost use Rattle.cf_base.specs.Causes.{Rose};
 ghost use Rattle.cf_serve_laws.specs.ServeEnds.{served_text};
 ghost use Rattle.cf_journal_book.specs.declared.refused.BookRefused.TheVariants as refused;
-ghost use Rattle.cf_top.specs.declared.serve_command.Kept.TheVariants as kept;
 ghost use Rattle.cf_run_status.specs.Devices.{device};
 ghost use Rattle.cf_top.specs.DoorKinds.{door_kind};
-ghost use Rattle.cf_top.specs.Serves.{KeepsDoors, PutsLine, ServeEnds, TellsKept, kept_of};
+ghost use Rattle.cf_top.specs.Serves.{KeepsDoors, PutsLine, ServeEnds, TellsEnd};
 
 use cf_base::Sink;
 use cf_base_lines::write_all;
 use cf_disk::Disk;
 use cf_hall::Opening;
 use cf_http::Door;
-use cf_journal_book::{BookRefused, NotOpened, open_with_chart};
+use cf_journal_book::{NotOpened, open_with_chart};
 use cf_run_status::{Ran, Status, refusal_status};
-use cf_serve::{ServeEnd, serve_hall};
+use cf_serve::{HallServed, ServeEnd, serve_hall};
 use itoa::Buffer;
 use std::alloc::{AllocError, Global};
 use std::marker::Brand;
 use std::sync::Wait;
 use std::thread::Threads;
-
-/// How the doors of a city were kept.
-#[derive(Clone, Copy)]
-pub enum Kept {
-    /// To their ends: so many links were served.
-    Served { links: u64 },
-    /// A door failed. The others were kept to their ends.
-    Failed,
-    /// No link was served.
-    Unopened { why: BookRefused },
-}
 
 /// What a run of `serve` takes before it opens the journal: nothing that it does later wants
 /// memory.
@@ -106,21 +94,21 @@ fn put_line<O: Sink>(line: &[u8], out: &mut O) -> Status
 }
 
 /// Says what was served, in room that was taken for it.
-fn tell_kept<O: Sink>(kept: Kept, line: &mut Vec<u8>, out: &mut O) -> Status
+fn tell_end<O: Sink>(end: ServeEnd, line: &mut Vec<u8>, out: &mut O) -> Status
     requires empty { line.old.items ≡ [] }
     requires room { 64 ≤ vec_capacity line.old }
-    ensures told { TellsKept kept (O.held out.old) (O.held out.new) result }
+    ensures told { TellsEnd end (O.held out.old) (O.held out.new) result }
     ensures write { result ≡ Status.WriteFault → Rose (O.faults out.old) (O.faults out.new) }
     ensures quiet { result ≡ Status.NoMemory → O.faults out.new ≡ O.faults out.old }
     ensures out_quiet { result ≢ Status.WriteFault → O.faults out.new ≡ O.faults out.old }
 {
-    match kept {
-        Kept::Served { links } => {
+    match end {
+        ServeEnd::Served { links } => {
             put_served(line, links);
             put_line(line.as_slice(), out)
         }
-        Kept::Failed => Status::DoorFault,
-        Kept::Unopened { why } => refusal_status(why),
+        ServeEnd::DoorFailed { .. } => Status::DoorFault,
+        ServeEnd::Unopened { why } => refusal_status(why),
     }
 }
 
@@ -151,19 +139,6 @@ fn move_all<R>(from: &mut Vec<R>, to: &mut Vec<R>)
     let _ = to.append(from);
 }
 
-/// How the doors were kept, where their hall ended so.
-fn kept_by(end: ServeEnd, links: u64) -> Kept
-    ensures { result ≡ kept_of links end }
-{
-    match end {
-        ServeEnd::Served => Kept::Served { links },
-        ServeEnd::DoorFailed => Kept::Failed,
-        ServeEnd::NoMemory => Kept::Unopened {
-            why: BookRefused::NoMemory,
-        },
-    }
-}
-
 /// Opens the journal of the disk, and serves links at each door. The names of the hall are picked
 /// at its one call.
 fn keep_doors<H: Threads + Wait + Sync, D: Disk + Drop + Send, R: Door + Drop + Send>(
@@ -173,26 +148,27 @@ fn keep_doors<H: Threads + Wait + Sync, D: Disk + Drop + Send, R: Door + Drop + 
     doors: &mut Vec<R>,
     links: u32,
     disk: D,
-) -> (Kept, D)
+) -> HallServed<D>
 where
     R::Link: Send,
     requires few { length doors.old.items ≤ 16 }
     ensures keeps { KeepsDoors (device D.tells D.content D.is_image D.moment D.was_image D.faults)
         (door_kind R.Link.tells R.known R.tells)
-        links disk result.1 doors.old.items doors.new.items result.0 }
+        links disk result.disk doors.old.items doors.new.items result.end }
     ensures len { length doors.new.items ≡ length doors.old.items }
-    ensures disk { result.0 ≡ kept.Unopened refused.Disk
-        → Rose (D.faults disk) (D.faults result.1) }
-    ensures memory { result.0 ≡ kept.Unopened refused.NoMemory → D.faults result.1 ≡ D.faults disk }
+    ensures disk { result.end ≡ ServeEnd.Unopened refused.Disk
+        → Rose (D.faults disk) (D.faults result.disk) }
+    ensures memory { result.end ≡ ServeEnd.Unopened refused.NoMemory
+        → D.faults result.disk ≡ D.faults disk }
 {
     match open_with_chart(alloc, disk) {
         Ok((book, chart)) => {
-            let served = serve_hall::<Brand, D, H, R>(
-                rt, alloc, book, chart, opening, doors, links,
-            );
-            (kept_by(served.end, served.links), served.disk)
+            serve_hall::<Brand, D, H, R>(rt, alloc, book, chart, opening, doors, links)
         }
-        Err(NotOpened { disk, why }) => (Kept::Unopened { why }, disk),
+        Err(NotOpened { disk, why }) => HallServed {
+            end: ServeEnd::Unopened { why },
+            disk,
+        },
     }
 }
 
@@ -206,7 +182,7 @@ fn keep_first<H: Threads + Wait + Sync, D: Disk + Drop + Send, R: Door + Drop + 
     links: u32,
     disk: D,
     doors: &mut Vec<R>,
-) -> (Kept, D)
+) -> HallServed<D>
 where
     R::Link: Send,
     requires empty { (prepared.first.items ≡ []) × (prepared.others.items ≡ []) }
@@ -216,11 +192,13 @@ where
     requires few { count ≤ 16 }
     ensures keeps { KeepsDoors (device D.tells D.content D.is_image D.moment D.was_image D.faults)
         (door_kind R.Link.tells R.known R.tells)
-        links disk result.1 (take count doors.old.items) (take count doors.new.items) result.0 }
+        links disk result.disk (take count doors.old.items) (take count doors.new.items)
+        result.end }
     ensures others { drop count doors.new.items ≡ drop count doors.old.items }
-    ensures disk { result.0 ≡ kept.Unopened refused.Disk
-        → Rose (D.faults disk) (D.faults result.1) }
-    ensures memory { result.0 ≡ kept.Unopened refused.NoMemory → D.faults result.1 ≡ D.faults disk }
+    ensures disk { result.end ≡ ServeEnd.Unopened refused.Disk
+        → Rose (D.faults disk) (D.faults result.disk) }
+    ensures memory { result.end ≡ ServeEnd.Unopened refused.NoMemory
+        → D.faults result.disk ≡ D.faults disk }
 {
     let Prepared {
         opening,
@@ -229,11 +207,11 @@ where
     } = prepared;
     take_others(doors, count, &mut others);
     move_all(doors, &mut first);
-    let kept = keep_doors(rt, alloc, opening, &mut first, links, disk);
+    let served = keep_doors(rt, alloc, opening, &mut first, links, disk);
     move_all(&mut first, doors);
     others.reverse();
     move_all(&mut others, doors);
-    kept
+    served
 }
 
 /// The run of `serve`: opens the journal, and serves so many links at each of the first `count`
@@ -271,9 +249,12 @@ where
     }
     match prepare(alloc, count, doors.len() - count) {
         Ok((prepared, mut line)) => {
-            let (kept, disk) = keep_first(rt, alloc, prepared, count, links, disk, doors);
-            let status = tell_kept(kept, &mut line, out);
-            Ran { status, disk }
+            let served = keep_first(rt, alloc, prepared, count, links, disk, doors);
+            let status = tell_end(served.end, &mut line, out);
+            Ran {
+                status,
+                disk: served.disk,
+            }
         }
         Err(_) => Ran {
             status: Status::NoMemory,
