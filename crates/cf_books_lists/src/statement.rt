@@ -486,21 +486,6 @@ pub fn text_of_rows(
     out.into_text()
 }
 
-/// A statement of a book as records below the names of the columns.
-fn records_text<D: Disk + Drop>(
-    layout: Layout,
-    book: &Book<D>,
-    year: u16,
-    kind: ReportKind,
-) -> Result<Vec<u8>, AllocError>
-    requires { IsYear year }
-    ensures { IfOk result (λ v. v.items ≡ spec.statement_text layout.csv year kind book.now.plan
-        book.now.entries) }
-{
-    let rows = rows_of(layout.alloc, book, year, kind)?;
-    text_of_rows(layout, book.chart(), year, kind, rows.as_slice())
-}
-
 /// A statement of a fiscal year from 1971 to 2199: its rows, which are those that `report` prints,
 /// as records. Each has the section that it stands in, which is the heading above it, as a fund's
 /// name; its name; and its amounts in units of money. A row of a control line has the name of the
@@ -518,5 +503,6 @@ pub fn statement_text<D: Disk + Drop>(
         (spec.comparison_lines book.now.plan year)
         (report_rows book.now.plan book.now.entries year Budget) }
 {
-    records_text(layout, book, year, kind)
+    let rows = rows_of(layout.alloc, book, year, kind)?;
+    text_of_rows(layout, book.chart(), year, kind, rows.as_slice())
 }
