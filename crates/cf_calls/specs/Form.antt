@@ -103,8 +103,8 @@ is_period n = (n == 1) || (n == 2) || (n == 3) || (n == 4) || (n == 6) || (n == 
 abbrev pub month_number : ℕ → ℕ → ℕ
 month_number year month = 12 * year + month
 
--- the terms of a debt of this amount, owed from a day on: the principals come to the amount, and the
--- last payment's month is at most December 2199
+-- the terms of a debt of this amount, owed from a day on: the principals come to the amount, and
+-- the last payment's month is at most December 2199
 pub record IsTermsForm (on : Day) (amount : ℕ) (t : Terms) : Type 0 where
   pub day : on.day ≤ 28
   pub rate : t.rate_bp ≤ 10000
