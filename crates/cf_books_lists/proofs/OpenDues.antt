@@ -1,5 +1,5 @@
 -- What is due next of a bond or a lease, as `open` has it, is what its payment takes and makes.
-use Rattle.std.proofs.Common.{◌≡◌, ℕ, ◌+◌, eq-eqb, if◌then◌else◌, ◌==◌, List, [], ◌∷◌, Option, Some, None, option_map, sum_by, refl, ap, ◌∙◌, arith, true, option_to_list}
+use Rattle.std.proofs.Common.{◌≡◌, ℕ, ◌+◌, eq-eqb, if◌then◌else◌, ◌==◌, List, [], ◌∷◌, Option, Some, None, option_map, sum_by, refl, ap, ◌∙◌, arith, option_to_list}
 use Rattle.std.specs.List.{AllByRecursion}
 use Rattle.cf_calls.specs.declared.acts.Act.{Act}
 use Rattle.cf_calls.specs.declared.acts.Act.TheVariants as act
