@@ -8,11 +8,11 @@ use Rattle.cf_calls.specs.declared.acts.Act.{Act}
 use Rattle.cf_calls.specs.declared.acts.Act.TheVariants.{Adopt, Amend, Transfer, Requisition, Withdraw, Order, ChangeOrder, CancelOrder, Voucher, VoidVoucher, Pay, Bill, Collect, Receive, WriteOff, Asset, Issue, PayDue, Leave, Interfund, Close, Lease}
 use Rattle.cf_calls.specs.declared.acts.BillAmount.{BillAmount}
 use Rattle.cf_calls.specs.declared.acts.AssetAct.TheVariants.{Donate, Dispose}
-use Rattle.cf_calls.specs.declared.acts.BondIssue.{BondIssue}
 use Rattle.cf_calls.specs.declared.acts.LeaveAct.TheVariants.{Earn, Use, Mature}
 use Rattle.cf_calls.specs.declared.acts.LeaveAmount.{LeaveAmount}
 use Rattle.cf_calls.specs.declared.acts.LeaveMaturity.{LeaveMaturity}
 use Rattle.cf_calls.specs.declared.acts.Period.TheVariants as period
+use Rattle.cf_calls.specs.declared.acts.Terms.{Terms}
 use Rattle.cf_calls.specs.Form.{is_period, month_number}
 use Rattle.cf_json_members.specs.declared.fault.FormFault.{FormFault}
 use Rattle.cf_calls.specs.declared.kind.ActKind.{ActKind}
@@ -134,10 +134,9 @@ asset_act_by asset.Dispose d = disposal_of d
 abbrev pub asset_act_of : Data → Result Act FormFault
 asset_act_of d = field (as_word asset_words) (codes "what") d >>= (λ what. asset_act_by what d)
 
--- an amount's rate and payments: the principals come to the amount, and the last payment is due by
--- the end of 2199
-abbrev pub schedule_of : Day → ℕ → ℕ → Data → Result BondIssue FormFault
-schedule_of on fund amount d = do
+-- the terms of an amount: the principals come to it, and the last payment is due by the end of 2199
+abbrev pub terms_of : Day → ℕ → Data → Result Terms FormFault
+terms_of on amount d = do
   rate_bp ← field as_n16 (codes "rate_bp") d
   _ ← must (nat_le rate_bp 10000) (codes "rate_bp")
   every ← field as_n16 (codes "every") d
@@ -146,13 +145,7 @@ schedule_of on fund amount d = do
   _ ← must (sum principals == amount) (codes "principals")
   _ ← must (nat_le (month_number on.year on.month + every * length principals)
       (month_number last_year 12)) (codes "principals")
-  Ok (record {
-    fund = fund;
-    amount = amount;
-    rate_bp = rate_bp;
-    every = every;
-    principals = principals;
-  })
+  Ok (record { rate_bp = rate_bp; every = every; principals = principals })
 
 -- the day of the month is at most 28
 abbrev pub issue_of : Day → Data → Result Act FormFault
@@ -160,8 +153,8 @@ issue_of on d = do
   _ ← must (nat_le on.day 28) (codes "on")
   fund ← field as_n16 (codes "fund") d
   amount ← field as_count (codes "amount") d
-  issue ← schedule_of on fund amount d
-  Ok (Issue issue)
+  terms ← terms_of on amount d
+  Ok (Issue (record { fund = fund; amount = amount; terms = terms }))
 
 -- the same, and the term is above 12 months (GASB Statement 87: a shorter lease is no lease
 -- liability)
@@ -173,14 +166,12 @@ lease_of on d = do
   dept ← field as_n16 (codes "dept") d
   object ← field as_n16 (codes "object") d
   amount ← field as_count (codes "amount") d
-  s ← schedule_of on fund amount d
-  _ ← must (nat_lt 12 (s.every * length s.principals)) (codes "principals")
+  terms ← terms_of on amount d
+  _ ← must (nat_lt 12 (terms.every * length terms.principals)) (codes "principals")
   Ok (Lease (record {
     vendor = vendor;
-    account = record { fund = s.fund; dept = dept; object = object; amount = s.amount };
-    rate_bp = s.rate_bp;
-    every = s.every;
-    principals = s.principals;
+    account = record { fund = fund; dept = dept; object = object; amount = amount };
+    terms = terms;
   }))
 
 abbrev pub debt_payment_of : Data → Result Act FormFault

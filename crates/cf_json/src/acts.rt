@@ -4,7 +4,7 @@
 ghost use Rattle.std.specs.Prelude.{◌≡◌, ◌≤◌, ◌+◌, ◌*◌, nat_le, nat_lt, sum, length, map, IfOk};
 ghost use Rattle.cf_base.specs.Limits.{last_year};
 ghost use Rattle.serde_json.specs.View.{view};
-ghost use Rattle.cf_calls.specs.Form.{IsIssueForm, IsActInForm, is_period, month_number};
+ghost use Rattle.cf_calls.specs.Form.{IsTermsForm, IsActInForm, is_period, month_number};
 ghost use Rattle.cf_json_members.specs.Faults.{Gives};
 ghost use Rattle.cf_json.specs.Acts as spec;
 
@@ -14,7 +14,7 @@ use cf_base::{Day, LAST_YEAR};
 use cf_calls::acts::{
     Adoption, Amendment, AssetAct, BillAmount, BondIssue, DebtPayment, Disposal, Donation,
     FundMove, LeaveAct, LeaveAmount, LeaveMaturity, LineTransfer, NewBill, NewLease, NewOrder,
-    NewRequisition, NewVoucher, OrderChange, Payment, Period,
+    NewRequisition, NewVoucher, OrderChange, Payment, Period, Terms,
 };
 use cf_calls::items::{AccountItem, SourceAmount};
 use cf_calls::{Act, ActKind};
@@ -241,17 +241,11 @@ fn is_payment_period(months: u16) -> bool
     matches!(months, 1 | 2 | 3 | 4 | 6 | 12)
 }
 
-/// The rate and the payments of an amount that a fund owes from a day on.
-fn schedule(
-    alloc: Global,
-    on: Day,
-    fund: u16,
-    amount: u64,
-    value: &Value,
-) -> Result<BondIssue, CallRefused>
+/// The terms of an amount that is owed from a day on.
+fn terms_of(alloc: Global, on: Day, amount: u64, value: &Value) -> Result<Terms, CallRefused>
     requires { on.day ≤ 28 }
-    ensures answer { Gives result (spec.schedule_of on fund amount (view value.now)) }
-    ensures form { IfOk result (IsIssueForm on) }
+    ensures answer { Gives result (spec.terms_of on amount (view value.now)) }
+    ensures form { IfOk result (IsTermsForm on amount) }
 {
     let rate_bp = need::<N16>(alloc, value, "rate_bp")?;
     must(alloc, rate_bp <= 10000, "rate_bp")?;
@@ -265,9 +259,7 @@ fn schedule(
         is_due_in_time(on, every, payments.len()),
         "principals",
     )?;
-    Ok(BondIssue {
-        fund,
-        amount,
+    Ok(Terms {
         rate_bp,
         every,
         principals,
@@ -281,7 +273,12 @@ fn issue(alloc: Global, on: Day, value: &Value) -> Result<Act, CallRefused>
     must(alloc, on.day <= 28, "on")?;
     let fund = need::<N16>(alloc, value, "fund")?;
     let amount = need::<Count>(alloc, value, "amount")?;
-    Ok(Act::Issue(schedule(alloc, on, fund, amount, value)?))
+    let terms = terms_of(alloc, on, amount, value)?;
+    Ok(Act::Issue(BondIssue {
+        fund,
+        amount,
+        terms,
+    }))
 }
 
 /// Whether so many payments, `every` months apart, are for more than a year.
@@ -302,16 +299,10 @@ fn lease(alloc: Global, on: Day, value: &Value) -> Result<Act, CallRefused>
     let dept = need::<N16>(alloc, value, "dept")?;
     let object = need::<N16>(alloc, value, "object")?;
     let amount = need::<Count>(alloc, value, "amount")?;
-    let BondIssue {
-        fund,
-        amount,
-        rate_bp,
-        every,
-        principals,
-    } = schedule(alloc, on, fund, amount, value)?;
+    let terms = terms_of(alloc, on, amount, value)?;
     must(
         alloc,
-        is_above_a_year(every, principals.as_slice().len()),
+        is_above_a_year(terms.every, terms.principals.as_slice().len()),
         "principals",
     )?;
     let account = AccountItem {
@@ -323,9 +314,7 @@ fn lease(alloc: Global, on: Day, value: &Value) -> Result<Act, CallRefused>
     Ok(Act::Lease(NewLease {
         vendor,
         account,
-        rate_bp,
-        every,
-        principals,
+        terms,
     }))
 }
 
