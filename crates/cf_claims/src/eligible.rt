@@ -23,17 +23,11 @@ pub fn voucher_year(chart: &Chart, entry: &Entry) -> u16
     }
 }
 
-fn has_number(lines: &[u16], number: u16) -> bool
-    ensures { result ≡ spec.has_number number lines.now }
-{
-    lines.iter().any(|line| *line == number)
-}
-
 fn is_among(lines: &[u16], number: Option<u16>) -> bool
     ensures { result ≡ spec.is_among lines.now number }
 {
     match number {
-        Some(number) => has_number(lines, number),
+        Some(number) => lines.contains(&number),
         None => false,
     }
 }
