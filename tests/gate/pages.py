@@ -315,7 +315,7 @@ def wide_faults():
     found = collections.Counter()
     for path in files("crates/*/src/**/*.rt", "crates/*/specs/**/*.antt"):
         lines = read(path).split("\n")
-        found[path] = sum(1 for line in lines if len(line) > 100 and not re.match(r"(ghost )?use ", line.strip()))
+        found[path] = sum(1 for line in lines if len(line) > 100 and not re.match(r"((ghost|pub|unfoldable pub) )?use ", line.strip()))
     if found.total() != WIDE:
         most = ", ".join(f"{path} ({count})" for path, count in found.most_common(3))
         yield f"tests/gate/pages.py: {found.total()} lines of crates have more than 100 columns, and WIDE says {WIDE}: {most}"
