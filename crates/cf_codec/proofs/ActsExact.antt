@@ -1,7 +1,8 @@
 -- The fields of each act are exact, and with them those of any act.
 use Rattle.std.proofs.Common.{◌≡◌, ◌≢◌, ℕ, zero, suc, ◌+◌, ◌*◌, ◌<◌, ◌≤◌, Bool, true, false, cond, leb, eqb, not, List, [], ◌∷◌, ◌++◌, length, Option, Some, None, option_map, Result, Ok, Err, ℤ, pos, negsuc, refl, sym, ap, subst, ◌∙◌, append_assoc, arith, nat_le, inl, inr}
-use Rattle.std.specs.Prelude.{⊤, nat_lt, find, is_some, unwrap_or, unsigned_abs}
+use Rattle.std.specs.Prelude.{⊤, find, is_some, unwrap_or, unsigned_abs}
 use Rattle.std.specs.List.{AllByRecursion, list_all}
+use Rattle.std.proofs.lemmas.Grind.{common_steps}
 use Rattle.std.proofs.lemmas.Bool.{leb-true, le-leb, lt-ltb, and_parts, eqb-true, eqb-false, ne_eqb, not-true}
 use Rattle.std.proofs.lemmas.List.{length-append}
 use Rattle.cf_base.specs.Limits.{most_cents}
@@ -17,7 +18,8 @@ use Rattle.cf_calls.specs.declared.acts.LeaveAct.{LeaveAct}
 use Rattle.cf_calls.specs.declared.acts.LeaveAct.TheVariants.{Earn, Use, Mature}
 use Rattle.cf_calls.specs.declared.acts.Period.{Period}
 use Rattle.cf_calls.specs.declared.acts.Period.TheVariants as period
-use Rattle.cf_calls.specs.Form.{IsYear, IsCount, IsAdoptionForm, IsIssueForm, IsLeaseForm, IsVoucherForm, IsPeriodForm, IsActInForm, IsWithinLimits, is_by, is_distinct, is_most, is_period, same_line, same_source, same_number}
+use Rattle.cf_calls.specs.declared.acts.Terms.{Terms}
+use Rattle.cf_calls.specs.Form.{IsYear, IsCount, IsAdoptionForm, IsTermsForm, IsLeaseForm, IsVoucherForm, IsPeriodForm, IsActInForm, IsWithinLimits, is_by, is_distinct, is_most, is_period, same_line, same_source, same_number}
 use Rattle.cf_calls.specs.declared.kind.ActKind.{ActKind}
 use Rattle.cf_calls.specs.declared.kind.ActKind.TheVariants as kind
 use Rattle.cf_codec_fields.specs.Formats.{Format, and_then, kept}
@@ -25,7 +27,7 @@ use Rattle.cf_codec_fields.specs.Fields.{byte, half, word, one_of, flag, year, a
 use Rattle.cf_calls.specs.Kinds.{kind_of, kind_value, kind_code}
 use Rattle.cf_calls.proofs.KindsFound.{by_code, code_is}
 use Rattle.cf_codec_fields.specs.Kinds.{value_in, kind, moves, move_value, move_code, move_kind}
-use Rattle.cf_codec.specs.Acts.{source_amount, account_item, line_amounts, source_amounts, account_items, voucher_items, voucher_numbers, principals, adoption, amendment, other_than, transfer, new_requisition, optional_by, optional, new_order, order_change, new_voucher, payment, new_bill, bill_amount, donation, disposal, issue, lease, lease_principals, debt_payment, leave_amount, maturity, fund_move, made, asset_act_by, asset_act, leave_act_by, leave_act, period_by, closed_period, act_bytes, act_fits, act_at, act_for}
+use Rattle.cf_codec.specs.Acts.{source_amount, account_item, line_amounts, source_amounts, account_items, voucher_items, voucher_numbers, principals, adoption, amendment, other_than, transfer, new_requisition, optional_by, optional, new_order, order_change, new_voucher, payment, new_bill, bill_amount, donation, disposal, terms, issue, lease, debt_payment, leave_amount, maturity, fund_move, made, asset_act_by, asset_act, leave_act_by, leave_act, period_by, closed_period, act_bytes, act_fits, act_at, act_for}
 use Rattle.cf_codec_fields.proofs.Exact.{IsBytes, Takes, IsExact, IsWhole, Any, step, last, same, ok_is, then_ok, then_err, kept-exact, converted-exact}
 use Rattle.cf_codec_fields.proofs.FieldsExact.{byte-exact, half-exact, word-exact, one_of-exact, flag-exact, year-exact, amount-exact, most_amount-exact, signed-exact, month-exact}
 use Rattle.cf_codec.proofs.ItemsExact.{source_amount-exact, account_item-exact, IsDistinctList, line_amounts-exact, source_amounts-exact, account_items-exact, voucher_items-exact, voucher_numbers-exact, IsRepaymentList, principals-exact}
@@ -263,39 +265,51 @@ fund_move-exact =
     (λ r known fits form. (tt, (tt, (form.0, (form.1, tt)))))
     (λ r known fits form. (form.1.1.0, form.1.1.1.0))
 
-pub issue-exact : (on : Day) → on.day ≤ 28 → IsWhole (issue on) (λ i. IsIssueForm on i × ((is_amount i.amount ≡ true) × (list_all is_most i.principals ≡ true)))
+-- the terms of a debt of this amount, whose term is above so many months
+record AreTerms (on : Day) (above amount : ℕ) (t : Terms) : Type 0 where
+  form : IsTermsForm on amount t
+  most : list_all is_most t.principals ≡ true
+  term : above < t.every * length t.principals
+
+terms-exact : (on : Day) → on.day ≤ 28 → (above amount : ℕ) → IsWhole (terms on above amount) (AreTerms on above amount)
+terms-exact on day above amount =
+    same (terms on above amount) Any _ _
+    (step (λ t. t.rate_bp) (kept (λ n. nat_le n 10000) half) _ (λ n. ⊤ × (nat_le n 10000 ≡ true)) Any _ (kept-exact (λ n. nat_le n 10000) half Any half-exact) (λ rate_bp fits form.
+    step (λ t. t.every) (kept is_period byte) _ (λ n. ⊤ × (is_period n ≡ true)) _ _ (kept-exact is_period byte Any byte-exact) (λ every fits form.
+    step (λ t. t.principals) (principals on above amount every) _ (λ xs. IsRepaymentList on above amount every xs) _ _ (principals-exact on above amount every) (λ principals fits form.
+    last (record { rate_bp = rate_bp; every = every; principals = principals }) _ (((tt, refl), refl), refl) (λ t known. λ i. record { rate_bp = known.0.0.1 i; every = known.0.1 i; principals = known.1 i })))))
+    (λ t known fits is. let f = is.form in ((tt, le-leb t.rate_bp 10000 f.rate), ((tt, f.every), (record { count = f.principals; most = is.most; total = f.total; term = is.term; last_due = f.last_due }, tt))))
+    (λ t known fits form.
+    let list = form.1.1.0 in
+    record {
+      form = record { day = day; rate = leb-true t.rate_bp 10000 form.0.1; every = form.1.0.1; principals = list.count; total = list.total; last_due = list.last_due };
+      most = list.most;
+      term = list.term;
+    })
+
+-- a payment at least comes at least a month on
+some_term : (every count : ℕ) → is_period every ≡ true → 1 ≤ count → 0 < every * count
+some_term every (suc count) e l = grind (arith, common_steps)
+
+pub issue-exact : (on : Day) → on.day ≤ 28 → IsWhole (issue on) (λ i. IsTermsForm on i.amount i.terms × ((is_amount i.amount ≡ true) × (list_all is_most i.terms.principals ≡ true)))
 issue-exact on day =
     same (issue on) Any _ _
     (step (λ r. r.fund) half _ Any Any _ half-exact (λ fund fits form.
     step (λ r. r.amount) amount _ (λ n. is_amount n ≡ true) _ _ amount-exact (λ amount fits form.
-    step (λ r. r.rate_bp) (kept (λ n. nat_le n 10000) half) _ (λ n. ⊤ × (nat_le n 10000 ≡ true)) _ _ (kept-exact (λ n. nat_le n 10000) half Any half-exact) (λ rate_bp fits form.
-    step (λ r. r.every) (kept is_period byte) _ (λ n. ⊤ × (is_period n ≡ true)) _ _ (kept-exact is_period byte Any byte-exact) (λ every fits form.
-    step (λ r. r.principals) (principals on amount every) _ (λ xs. IsRepaymentList on amount every xs) _ _ (principals-exact on amount every) (λ principals fits form.
-    last (record { fund = fund; amount = amount; rate_bp = rate_bp; every = every; principals = principals }) _ (((((tt, refl), refl), refl), refl), refl) (λ r known. λ i. record { fund = known.0.0.0.0.1 i; amount = known.0.0.0.1 i; rate_bp = known.0.0.1 i; every = known.0.1 i; principals = known.1 i })))))))
-    (λ r known fits form. (tt, (form.1.0, ((tt, le-leb r.rate_bp 10000 form.0.rate), ((tt, form.0.every), (record { count = form.0.principals; most = form.1.1; total = form.0.total; last_due = form.0.last_due }, tt))))))
-    (λ r known fits form. let list = form.1.1.1.1.0 in (record { day = day; rate = leb-true r.rate_bp 10000 form.1.1.0.1; every = form.1.1.1.0.1; principals = list.count; total = list.total; last_due = list.last_due }, (form.1.0, list.most)))
+    step (λ r. r.terms) (terms on 0 amount) _ (AreTerms on 0 amount) _ _ (terms-exact on day 0 amount) (λ terms fits form.
+    last (record { fund = fund; amount = amount; terms = terms }) _ (((tt, refl), refl), refl) (λ r known. λ i. record { fund = known.0.0.1 i; amount = known.0.1 i; terms = known.1 i })))))
+    (λ r known fits form. (tt, (form.1.0, (record { form = form.0; most = form.1.1; term = some_term r.terms.every (length r.terms.principals) form.0.every form.0.principals.from }, tt))))
+    (λ r known fits form. let is = form.1.1.0 in (is.form, (form.1.0, is.most)))
 
-pub lease-exact : (on : Day) → on.day ≤ 28 → IsWhole (lease on) (λ l. IsLeaseForm on l × ((is_amount l.account.amount ≡ true) × (list_all is_most l.principals ≡ true)))
+pub lease-exact : (on : Day) → on.day ≤ 28 → IsWhole (lease on) (λ l. IsLeaseForm on l × ((is_amount l.account.amount ≡ true) × (list_all is_most l.terms.principals ≡ true)))
 lease-exact on day =
     same (lease on) Any _ _
     (step (λ r. r.vendor) word _ Any Any _ word-exact (λ vendor fits form.
     step (λ r. r.account) account_item _ (λ i. is_amount i.amount ≡ true) _ _ account_item-exact (λ account fits form.
-    step (λ r. r.rate_bp) (kept (λ n. nat_le n 10000) half) _ (λ n. ⊤ × (nat_le n 10000 ≡ true)) _ _ (kept-exact (λ n. nat_le n 10000) half Any half-exact) (λ rate_bp fits form.
-    step (λ r. r.every) (kept is_period byte) _ (λ n. ⊤ × (is_period n ≡ true)) _ _ (kept-exact is_period byte Any byte-exact) (λ every fits form.
-    step (λ r. r.principals) (lease_principals on account.amount every) _ (λ xs. IsRepaymentList on account.amount every xs × (nat_lt 12 (every * length xs) ≡ true)) _ _
-    (kept-exact (λ xs. nat_lt 12 (every * length xs)) (principals on account.amount every) (IsRepaymentList on account.amount every) (principals-exact on account.amount every)) (λ principals fits form.
-    last (record { vendor = vendor; account = account; rate_bp = rate_bp; every = every; principals = principals }) _ (((((tt, refl), refl), refl), refl), refl) (λ r known. λ i. record { vendor = known.0.0.0.0.1 i; account = known.0.0.0.1 i; rate_bp = known.0.0.1 i; every = known.0.1 i; principals = known.1 i })))))))
-    (λ r known fits form.
-    let f = form.0.schedule in
-    (tt, (form.1.0, ((tt, le-leb r.rate_bp 10000 f.rate), ((tt, f.every), ((record { count = f.principals; most = form.1.1; total = f.total; last_due = f.last_due }, lt-ltb 12 (r.every * length r.principals) form.0.term), tt))))))
-    (λ r known fits form.
-    let list = form.1.1.1.1.0.0 in (
-      record {
-        schedule = record { day = day; rate = leb-true r.rate_bp 10000 form.1.1.0.1; every = form.1.1.1.0.1; principals = list.count; total = list.total; last_due = list.last_due };
-        term = leb-true 13 (r.every * length r.principals) form.1.1.1.1.0.1;
-      },
-      (form.1.0, list.most),
-    ))
+    step (λ r. r.terms) (terms on 12 account.amount) _ (AreTerms on 12 account.amount) _ _ (terms-exact on day 12 account.amount) (λ terms fits form.
+    last (record { vendor = vendor; account = account; terms = terms }) _ (((tt, refl), refl), refl) (λ r known. λ i. record { vendor = known.0.0.1 i; account = known.0.1 i; terms = known.1 i })))))
+    (λ r known fits form. (tt, (form.1.0, (record { form = form.0.terms; most = form.1.1; term = form.0.term }, tt))))
+    (λ r known fits form. let is = form.1.1.0 in (record { terms = is.form; term = is.term }, (form.1.0, is.most)))
 
 -- ---- acts of several kinds
 

@@ -109,7 +109,7 @@ day_early k d may = (λ e. leb-true d.day 28 (subst (λ (j : ActKind). may_be_on
 
 may_be : (d : Day) (a : Act) → IsActInForm d a → may_be_on (kind_of a) d ≡ true
 may_be d (Issue x) form = le-leb d.day 28 form.day
-may_be d (Lease x) form = le-leb d.day 28 form.schedule.day
+may_be d (Lease x) form = le-leb d.day 28 form.terms.day
 may_be d _ form = refl
 
 abbrev NoAfter : Entry → Type 0

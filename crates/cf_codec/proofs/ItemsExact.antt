@@ -2,7 +2,7 @@
 use Rattle.std.proofs.Common.{◌≡◌, ℕ, zero, suc, ◌+◌, ◌<◌, ◌≤◌, ◌*◌, Bool, true, false, List, [], ◌∷◌, length, refl, sym, ap, subst, ◌∙◌, arith, ◌&&◌, sum}
 use Rattle.std.specs.Prelude.{⊤}
 use Rattle.std.specs.List.{AllByRecursion, list_all}
-use Rattle.std.proofs.lemmas.Bool.{leb-true, le-leb, and_parts, and_from, eqb-true, eq-eqb}
+use Rattle.std.proofs.lemmas.Bool.{leb-true, le-leb, lt-ltb, and_parts, and_from, eqb-true, eq-eqb}
 use Rattle.cf_base.specs.declared.calendar.Day.{Day}
 use Rattle.cf_base.specs.Money.{is_amount}
 use Rattle.cf_calls.specs.declared.items.VoucherItem.{VoucherItem}
@@ -228,16 +228,17 @@ voucher_numbers-exact =
     (λ xs known fits form. record { count = form.0; apart = form.1; pass = all_pass xs })
     (λ xs known fits form. (form.count, form.apart))
 
--- the principals of an issue
-pub record IsRepaymentList (on : Day) (amount every : ℕ) (xs : List ℕ) : Type 0 where
+-- the principals of a debt, whose term is above so many months
+pub record IsRepaymentList (on : Day) (above amount every : ℕ) (xs : List ℕ) : Type 0 where
   pub count : IsCount 1 120 (length xs)
   pub most : list_all is_most xs ≡ true
   pub total : sum xs ≡ amount
+  pub term : above < every * length xs
   pub last_due : month_number on.year on.month + every * length xs ≤ month_number 2199 12
 
-pub principals-exact : (on : Day) (amount every : ℕ) → IsWhole (principals on amount every) (IsRepaymentList on amount every)
-principals-exact on amount every =
-    same (principals on amount every) Any _ _
-    (kept-exact (is_repayment on amount every) (list 1 120 most_amount) (IsListOf is_most 1 120) (tested is_most 1 120 most_amount (omega arith) most_amount-exact))
-    (λ xs known fits form. ((form.count, form.most), and_from _ _ (eq-eqb _ _ form.total) (le-leb _ _ form.last_due)))
-    (λ xs known fits form. let p = and_parts _ _ form.1 in record { count = form.0.0; most = form.0.1; total = eqb-true _ _ p.0; last_due = leb-true _ _ p.1 })
+pub principals-exact : (on : Day) (above amount every : ℕ) → IsWhole (principals on above amount every) (IsRepaymentList on above amount every)
+principals-exact on above amount every =
+    same (principals on above amount every) Any _ _
+    (kept-exact (is_repayment on above amount every) (list 1 120 most_amount) (IsListOf is_most 1 120) (tested is_most 1 120 most_amount (omega arith) most_amount-exact))
+    (λ xs known fits form. ((form.count, form.most), and_from _ _ (and_from _ _ (eq-eqb _ _ form.total) (lt-ltb _ _ form.term)) (le-leb _ _ form.last_due)))
+    (λ xs known fits form. let p = and_parts _ _ form.1 in let q = and_parts _ _ p.0 in record { count = form.0.0; most = form.0.1; total = eqb-true _ _ q.0; term = leb-true _ _ q.1; last_due = leb-true _ _ p.1 })

@@ -21,7 +21,7 @@ use Rattle.cf_codec_fields.specs.Fields.{byte, half, word, flag, year, amount, m
 use Rattle.cf_calls.specs.Kinds.{draws_of, kind_of}
 use Rattle.cf_codec_fields.specs.Kinds.{kind, kind_in}
 use Rattle.cf_codec_fields.specs.Fields.{key}
-use Rattle.cf_codec.specs.Acts.{line_amount, source_amount, account_item, charge, voucher_item, line_amounts, source_amounts, account_items, voucher_items, voucher_numbers, principals, adoption, new_requisition, optional, new_order, new_voucher, payment, issue, lease, lease_principals, act_bytes, act_size, act_for}
+use Rattle.cf_codec.specs.Acts.{line_amount, source_amount, account_item, charge, voucher_item, line_amounts, source_amounts, account_items, voucher_items, voucher_numbers, principals, adoption, new_requisition, optional, new_order, new_voucher, payment, terms, issue, lease, act_bytes, act_size, act_for}
 use Rattle.cf_codec.specs.Entries.{drawn_as, drawn_for, on_for, entry, payload}
 
 record IsSized {A : Type 0} (f : Format A) : Type 0 where
@@ -126,17 +126,20 @@ byte_sized : IsSized byte
 unfolding number_bytes
 byte_sized = record { len = λ n. refl }
 
+terms_sized : (on : Day) (above amount : ℕ) → IsSized (terms on above amount)
+terms_sized on above amount =
+    step_sized (λ t. t.rate_bp) _ _ (kept_sized _ half half_sized) (λ rate. step_sized (λ t. t.every) _ _ (kept_sized _ byte byte_sized) (λ every.
+    step_sized (λ t. t.principals) (principals on above amount every) _ (kept_sized _ _ (list_sized 1 120 most_amount most_amount_sized)) (λ principals. done_sized _)))
+
 issue_sized : (on : Day) → IsSized (issue on)
 issue_sized on =
     step_sized (λ i. i.fund) half _ half_sized (λ fund. step_sized (λ i. i.amount) amount _ amount_sized (λ amount.
-    step_sized (λ i. i.rate_bp) _ _ (kept_sized _ half half_sized) (λ rate. step_sized (λ i. i.every) _ _ (kept_sized _ byte byte_sized) (λ every.
-    step_sized (λ i. i.principals) (principals on amount every) _ (kept_sized _ _ (list_sized 1 120 most_amount most_amount_sized)) (λ principals. done_sized _)))))
+    step_sized (λ i. i.terms) (terms on 0 amount) _ (terms_sized on 0 amount) (λ terms. done_sized _)))
 
 lease_sized : (on : Day) → IsSized (lease on)
 lease_sized on =
     step_sized (λ l. l.vendor) word _ word_sized (λ vendor. step_sized (λ l. l.account) account_item _ account_item_sized (λ account.
-    step_sized (λ l. l.rate_bp) _ _ (kept_sized _ half half_sized) (λ rate. step_sized (λ l. l.every) _ _ (kept_sized _ byte byte_sized) (λ every.
-    step_sized (λ l. l.principals) (lease_principals on account.amount every) _ (kept_sized _ _ (kept_sized _ _ (list_sized 1 120 most_amount most_amount_sized))) (λ principals. done_sized _)))))
+    step_sized (λ l. l.terms) (terms on 12 account.amount) _ (terms_sized on 12 account.amount) (λ terms. done_sized _)))
 
 act_sized : (on : Day) (a : Act) → length (act_bytes on a) ≡ act_size on a
 unfolding number_bytes act_bytes act_size

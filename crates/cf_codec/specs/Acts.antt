@@ -20,6 +20,7 @@ use Rattle.cf_calls.specs.declared.acts.Donation.{Donation}
 use Rattle.cf_calls.specs.declared.acts.Disposal.{Disposal}
 use Rattle.cf_calls.specs.declared.acts.BondIssue.{BondIssue}
 use Rattle.cf_calls.specs.declared.acts.NewLease.{NewLease}
+use Rattle.cf_calls.specs.declared.acts.Terms.{Terms}
 use Rattle.cf_calls.specs.declared.acts.DebtPayment.{DebtPayment}
 use Rattle.cf_calls.specs.declared.acts.LeaveAct.{LeaveAct}
 use Rattle.cf_calls.specs.declared.acts.LeaveAct.TheVariants.{Earn, Use, Mature}
@@ -140,20 +141,18 @@ voucher_items = kept (is_distinct same_order_item) (list 1 32 voucher_item)
 abbrev pub voucher_numbers : Format (List ℕ)
 voucher_numbers = kept (is_distinct same_number) (list 1 64 word)
 
--- they sum to the amount of the issue, and the last is due by the end of 2199
-abbrev pub is_repayment : Day → ℕ → ℕ → List ℕ → Bool
-is_repayment on amount every principals =
+-- they sum to the amount, the term that they are for is above so many months, and the last is due
+-- by the end of 2199
+abbrev pub is_repayment : Day → ℕ → ℕ → ℕ → List ℕ → Bool
+is_repayment on above amount every principals =
     (sum principals == amount)
+    && nat_lt above (every * length principals)
     && nat_le (month_number on.year on.month + every * length principals)
     (month_number last_year 12)
 
-abbrev pub principals : Day → ℕ → ℕ → Format (List ℕ)
-principals on amount every = kept (is_repayment on amount every) (list 1 120 most_amount)
-
--- .. of a lease, whose term is above 12 months (GASB Statement 87)
-abbrev pub lease_principals : Day → ℕ → ℕ → Format (List ℕ)
-lease_principals on amount every =
-    kept (λ xs. nat_lt 12 (every * length xs)) (principals on amount every)
+abbrev pub principals : Day → ℕ → ℕ → ℕ → Format (List ℕ)
+principals on above amount every =
+    kept (is_repayment on above amount every) (list 1 120 most_amount)
 
 -- ---- the acts
 
@@ -261,37 +260,29 @@ disposal = do
   proceeds ← field (λ d. d.proceeds) most_amount
   done (record { asset = asset; fund = fund; proceeds = proceeds })
 
--- the rate is at most 10,000 basis points, and there are 1, 2, 3, 4, 6 or 12 months between
--- payments
+-- the terms of a debt of this amount: the rate is at most 10,000 basis points, and there are 1, 2,
+-- 3, 4, 6 or 12 months between payments
+abbrev pub terms : Day → ℕ → ℕ → Format Terms
+terms on above amount = do
+  rate_bp ← field (λ t. t.rate_bp) (kept (λ n. nat_le n 10000) half)
+  every ← field (λ t. t.every) (kept is_period byte)
+  principals ← field (λ t. t.principals) (principals on above amount every)
+  done (record { rate_bp = rate_bp; every = every; principals = principals })
+
 abbrev pub issue : Day → Format BondIssue
 issue on = do
   fund ← field (λ i. i.fund) half
   amount ← field (λ i. i.amount) amount
-  rate_bp ← field (λ i. i.rate_bp) (kept (λ n. nat_le n 10000) half)
-  every ← field (λ i. i.every) (kept is_period byte)
-  principals ← field (λ i. i.principals) (principals on amount every)
-  done (record {
-    fund = fund;
-    amount = amount;
-    rate_bp = rate_bp;
-    every = every;
-    principals = principals;
-  })
+  terms ← field (λ i. i.terms) (terms on 0 amount)
+  done (record { fund = fund; amount = amount; terms = terms })
 
+-- a lease's term is above 12 months (GASB Statement 87)
 abbrev pub lease : Day → Format NewLease
 lease on = do
   vendor ← field (λ l. l.vendor) word
   account ← field (λ l. l.account) account_item
-  rate_bp ← field (λ l. l.rate_bp) (kept (λ n. nat_le n 10000) half)
-  every ← field (λ l. l.every) (kept is_period byte)
-  principals ← field (λ l. l.principals) (lease_principals on account.amount every)
-  done (record {
-    vendor = vendor;
-    account = account;
-    rate_bp = rate_bp;
-    every = every;
-    principals = principals;
-  })
+  terms ← field (λ l. l.terms) (terms on 12 account.amount)
+  done (record { vendor = vendor; account = account; terms = terms })
 
 abbrev pub debt_payment : Format DebtPayment
 debt_payment = do

@@ -1,6 +1,6 @@
 //! How many bytes an entry has. The bounds are far from tight: they say that the sums fit.
 
-ghost use Rattle.std.specs.Prelude.{◌≡◌, ◌≤◌};
+ghost use Rattle.std.specs.Prelude.{◌≡◌, ◌<◌, ◌≤◌, length};
 ghost use Rattle.cf_calls.specs.Form.{IsActInForm, IsAdoptionForm, IsEntryInForm};
 ghost use Rattle.cf_codec.specs.Acts as spec;
 ghost use Rattle.cf_codec.specs.Entries as entries;
@@ -9,7 +9,7 @@ use crate::items::{
     AccountElement, LineElement, Principal, SourceElement, VoucherElement, VoucherNumber,
 };
 use cf_base::Day;
-use cf_calls::acts::{Adoption, AssetAct, LeaveAct, Period};
+use cf_calls::acts::{Adoption, AssetAct, LeaveAct, Period, Terms};
 use cf_calls::{Act, Draws, Entry};
 use cf_codec_fields::lists::list_len;
 
@@ -20,6 +20,14 @@ fn adoption_len(adoption: &Adoption) -> u64
 {
     4 + list_len::<LineElement>(adoption.lines.as_slice())
         + list_len::<SourceElement>(adoption.estimates.as_slice())
+}
+
+fn terms_len(on: Day, terms: &Terms) -> u64
+    requires { length terms.now.principals < 65536 }
+    ensures size { result ≡ (spec.terms on 0 0).size terms.now }
+    ensures small { result ≤ 16711685 }
+{
+    3 + list_len::<Principal>(terms.principals.as_slice())
 }
 
 /// How many bytes the fields of an act have.
@@ -56,14 +64,14 @@ fn act_len(on: Day, act: &Act) -> u64
         Act::WriteOff(_) => 12,
         Act::Asset(AssetAct::Donate(_)) => 13,
         Act::Asset(AssetAct::Dispose(_)) => 15,
-        Act::Issue(issue) => 13 + list_len::<Principal>(issue.principals.as_slice()),
+        Act::Issue(issue) => 10 + terms_len(on, &issue.terms),
         Act::PayDue(_) => 12,
         Act::Leave(LeaveAct::Mature(_)) => 15,
         Act::Leave(_) => 13,
         Act::Interfund(_) => 13,
         Act::Close(Period::Month(_)) => 4,
         Act::Close(Period::Year(_)) => 3,
-        Act::Lease(lease) => 21 + list_len::<Principal>(lease.principals.as_slice()),
+        Act::Lease(lease) => 18 + terms_len(on, &lease.terms),
     }
 }
 

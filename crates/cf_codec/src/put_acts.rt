@@ -14,7 +14,7 @@ use cf_calls::Act;
 use cf_calls::acts::{
     Adoption, Amendment, AssetAct, BillAmount, BondIssue, DebtPayment, FundMove, LeaveAct,
     LeaveAmount, LeaveMaturity, LineTransfer, NewBill, NewLease, NewOrder, NewVoucher, OrderChange,
-    Period,
+    Period, Terms,
 };
 use cf_codec_fields::lists::{Element, put_list};
 use cf_codec_fields::put::{
@@ -136,30 +136,37 @@ fn put_asset_act(out: &mut Vec<u8>, act: &AssetAct)
     }
 }
 
+fn put_terms(out: &mut Vec<u8>, on: Day, terms: &Terms)
+    requires period { is_period terms.now.every ≡ true }
+    requires few { length terms.now.principals < 65536 }
+    requires room { HasRoom (spec.terms on 0 0) terms.now out.old }
+    ensures { Puts (spec.terms on 0 0) terms.now out.old out.new }
+{
+    put_half(out, terms.rate_bp);
+    put_byte(out, terms.every as u8);
+    put_list::<Principal>(out, terms.principals.as_slice());
+}
+
 fn put_issue(out: &mut Vec<u8>, on: Day, issue: &BondIssue)
-    requires period { is_period issue.now.every ≡ true }
-    requires few { length issue.now.principals < 65536 }
+    requires period { is_period issue.now.terms.every ≡ true }
+    requires few { length issue.now.terms.principals < 65536 }
     requires room { HasRoom (spec.issue on) issue.now out.old }
     ensures { Puts (spec.issue on) issue.now out.old out.new }
 {
     put_half(out, issue.fund);
     put_long(out, issue.amount);
-    put_half(out, issue.rate_bp);
-    put_byte(out, issue.every as u8);
-    put_list::<Principal>(out, issue.principals.as_slice());
+    put_terms(out, on, &issue.terms);
 }
 
 fn put_lease(out: &mut Vec<u8>, on: Day, lease: &NewLease)
-    requires period { is_period lease.now.every ≡ true }
-    requires few { length lease.now.principals < 65536 }
+    requires period { is_period lease.now.terms.every ≡ true }
+    requires few { length lease.now.terms.principals < 65536 }
     requires room { HasRoom (spec.lease on) lease.now out.old }
     ensures { Puts (spec.lease on) lease.now out.old out.new }
 {
     put_word(out, lease.vendor);
     AccountElement::put(out, lease.account);
-    put_half(out, lease.rate_bp);
-    put_byte(out, lease.every as u8);
-    put_list::<Principal>(out, lease.principals.as_slice());
+    put_terms(out, on, &lease.terms);
 }
 
 fn put_debt_payment(out: &mut Vec<u8>, payment: &DebtPayment)

@@ -1,7 +1,7 @@
 //! The readers of the acts: the fields of each in order, with the rules of form where they speak.
 //! Each gives the act and the bytes after it.
 
-ghost use Rattle.std.specs.Prelude.{◌≡◌, ◌+◌, ◌*◌, ◌<◌, nat_le, nat_lt, sum, length};
+ghost use Rattle.std.specs.Prelude.{◌≡◌, ◌+◌, ◌*◌, ◌<◌, nat_le, sum};
 ghost use Rattle.cf_base.specs.Limits.{last_year};
 ghost use Rattle.cf_calls.specs.Form.{is_period, month_number};
 ghost use Rattle.cf_calls.specs.declared.acts.Act.TheVariants as act;
@@ -17,7 +17,7 @@ use cf_base::{Day, LAST_YEAR};
 use cf_calls::acts::{
     Adoption, Amendment, AssetAct, BillAmount, BondIssue, DebtPayment, Disposal, Donation,
     FundMove, LeaveAct, LeaveAmount, LeaveMaturity, LineTransfer, NewBill, NewLease, NewOrder,
-    NewRequisition, NewVoucher, OrderChange, Payment, Period,
+    NewRequisition, NewVoucher, OrderChange, Payment, Period, Terms,
 };
 use cf_calls::items::Principals;
 use cf_calls::{Act, ActKind};
@@ -281,7 +281,7 @@ fn take_asset_act(bytes: &[u8]) -> Result<(Act, &[u8]), Refused>
     }
 }
 
-/// The sum of the principals of a bond's payments.
+/// The sum of the principals of payments.
 fn total(principals: &[u64]) -> u128
     ensures { result ≡ sum principals.now }
 {
@@ -301,44 +301,70 @@ fn is_due_in_time(on: Day, every: u16, payments: usize) -> bool
     issued + u128::from(every) * payments as u128 <= 12 * u128::from(LAST_YEAR) + 12
 }
 
-/// Whether the principals repay the amount in time.
-fn is_repayment(on: Day, amount: u64, every: u16, principals: &[u64]) -> bool
-    ensures { result ≡ spec.is_repayment on amount every principals.now }
+/// Whether the principals repay the amount in time, over a term of more than so many months.
+fn is_repayment(on: Day, above: u16, amount: u64, every: u16, principals: &[u64]) -> bool
+    ensures { result ≡ spec.is_repayment on above amount every principals.now }
 {
-    total(principals) == u128::from(amount) && is_due_in_time(on, every, principals.len())
+    let term = u128::from(every) * principals.len() as u128;
+    total(principals) == u128::from(amount)
+        && u128::from(above) < term
+        && is_due_in_time(on, every, principals.len())
 }
 
 fn take_principals(
     alloc: Global,
     on: Day,
+    above: u16,
     amount: u64,
     every: u16,
     bytes: &[u8],
 ) -> Result<(Principals, &[u8]), Refused>
     ensures { Gives (λ x. (x.0, x.1.now)) result
-        ((spec.principals on amount every).read bytes.now) }
+        ((spec.principals on above amount every).read bytes.now) }
 {
     let (principals, rest) = take_list::<Principal>(alloc, 1, 120, bytes)?;
-    if is_repayment(on, amount, every, principals.as_slice()) {
+    if is_repayment(on, above, amount, every, principals.as_slice()) {
         Ok((principals, rest))
     } else {
         Err(faulty(bytes))
     }
 }
 
-/// Whether a bond may have so many months between payments.
+/// Whether there may be so many months between payments.
 fn is_payment_period(n: u8) -> bool
     ensures { result ≡ is_period n }
 {
     n == 1 || n == 2 || n == 3 || n == 4 || n == 6 || n == 12
 }
 
-/// The months between a bond's payments.
+/// The months between payments.
 fn take_every(bytes: &[u8]) -> Result<(u16, &[u8]), Refused>
     ensures { Gives (λ x. (x.0, x.1.now)) result ((kept is_period byte).read bytes.now) }
 {
     let (n, rest) = take_byte(bytes)?;
     or_faulty(is_payment_period(n).then_some(u16::from(n)), rest, bytes)
+}
+
+/// The terms of a debt of this amount, whose term is above so many months.
+fn take_terms(
+    alloc: Global,
+    on: Day,
+    above: u16,
+    amount: u64,
+    bytes: &[u8],
+) -> Result<(Terms, &[u8]), Refused>
+    ensures { Gives (λ x. (x.0, x.1.now)) result ((spec.terms on above amount).read bytes.now) }
+{
+    let (rate_bp, rest) = take_half(bytes)?;
+    let (rate_bp, rest) = or_faulty((rate_bp <= 10_000).then_some(rate_bp), rest, bytes)?;
+    let (every, rest) = take_every(rest)?;
+    let (principals, rest) = take_principals(alloc, on, above, amount, every, rest)?;
+    let terms = Terms {
+        rate_bp,
+        every,
+        principals,
+    };
+    Ok((terms, rest))
 }
 
 fn take_issue(alloc: Global, on: Day, bytes: &[u8]) -> Result<(Act, &[u8]), Refused>
@@ -347,45 +373,13 @@ fn take_issue(alloc: Global, on: Day, bytes: &[u8]) -> Result<(Act, &[u8]), Refu
 {
     let (fund, rest) = take_half(bytes)?;
     let (amount, rest) = take_amount(rest)?;
-    let at_rate = rest;
-    let (rate_bp, rest) = take_half(at_rate)?;
-    let (rate_bp, rest) = or_faulty((rate_bp <= 10_000).then_some(rate_bp), rest, at_rate)?;
-    let (every, rest) = take_every(rest)?;
-    let (principals, rest) = take_principals(alloc, on, amount, every, rest)?;
+    let (terms, rest) = take_terms(alloc, on, 0, amount, rest)?;
     let issue = BondIssue {
         fund,
         amount,
-        rate_bp,
-        every,
-        principals,
+        terms,
     };
     Ok((Act::Issue(issue), rest))
-}
-
-/// The principals of a lease, whose term is above 12 months.
-fn take_lease_principals(
-    alloc: Global,
-    on: Day,
-    amount: u64,
-    every: u16,
-    bytes: &[u8],
-) -> Result<(Principals, &[u8]), Refused>
-    ensures { Gives (λ x. (x.0, x.1.now)) result
-        ((spec.lease_principals on amount every).read bytes.now) }
-{
-    let (principals, rest) = take_principals(alloc, on, amount, every, bytes)?;
-    if is_long(every, principals.as_slice()) {
-        Ok((principals, rest))
-    } else {
-        Err(faulty(bytes))
-    }
-}
-
-/// Whether the term is above 12 months.
-fn is_long(every: u16, principals: &[u64]) -> bool
-    ensures { result ≡ nat_lt 12 (every * length principals.now) }
-{
-    12 < u128::from(every) * principals.len() as u128
 }
 
 fn take_lease(alloc: Global, on: Day, bytes: &[u8]) -> Result<(Act, &[u8]), Refused>
@@ -394,17 +388,11 @@ fn take_lease(alloc: Global, on: Day, bytes: &[u8]) -> Result<(Act, &[u8]), Refu
 {
     let (vendor, rest) = take_word(bytes)?;
     let (account, rest) = AccountElement::take(rest)?;
-    let at_rate = rest;
-    let (rate_bp, rest) = take_half(at_rate)?;
-    let (rate_bp, rest) = or_faulty((rate_bp <= 10_000).then_some(rate_bp), rest, at_rate)?;
-    let (every, rest) = take_every(rest)?;
-    let (principals, rest) = take_lease_principals(alloc, on, account.amount, every, rest)?;
+    let (terms, rest) = take_terms(alloc, on, 12, account.amount, rest)?;
     let lease = NewLease {
         vendor,
         account,
-        rate_bp,
-        every,
-        principals,
+        terms,
     };
     Ok((Act::Lease(lease), rest))
 }
