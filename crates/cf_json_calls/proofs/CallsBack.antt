@@ -128,8 +128,8 @@ dispose-back c d None f form fits = rw (f.desk, f.key, f.on, lt-ltb d.asset 4294
 dispose-back c d (Some n) f form fits = rw (f.desk, f.key, f.on, lt-ltb d.asset 4294967296 fits.0, lt-ltb d.fund 65536 fits.1)
 
 issue-back : (c : Change) (i : BondIssue) (after : Option ℕ) → IsFront c → IsActInForm c.on (Issue i) → ActFits (Issue i) → IsBack c (Issue i) after
-issue-back c i None f form fits = rw (f.desk, f.key, f.on, le-leb c.on.day 28 form.day, lt-ltb i.fund 65536 fits.0, lt-ltb i.rate_bp 65536 fits.2, le-leb i.rate_bp 10000 form.rate, lt-ltb i.every 65536 fits.3, form.every, items.principals-back i.principals fits.4 form.principals, eq-eqb (sum i.principals) i.amount form.total, le-leb (month_number c.on.year c.on.month + i.every * length i.principals) (month_number 2199 12) form.last_due)
-issue-back c i (Some n) f form fits = rw (f.desk, f.key, f.on, le-leb c.on.day 28 form.day, lt-ltb i.fund 65536 fits.0, lt-ltb i.rate_bp 65536 fits.2, le-leb i.rate_bp 10000 form.rate, lt-ltb i.every 65536 fits.3, form.every, items.principals-back i.principals fits.4 form.principals, eq-eqb (sum i.principals) i.amount form.total, le-leb (month_number c.on.year c.on.month + i.every * length i.principals) (month_number 2199 12) form.last_due)
+issue-back c i None f form fits = rw (f.desk, f.key, f.on, le-leb c.on.day 28 form.day, lt-ltb i.fund 65536 fits.0, lt-ltb i.terms.rate_bp 65536 fits.2.0, le-leb i.terms.rate_bp 10000 form.rate, lt-ltb i.terms.every 65536 fits.2.1, form.every, items.principals-back i.terms.principals fits.2.2 form.principals, eq-eqb (sum i.terms.principals) i.amount form.total, le-leb (month_number c.on.year c.on.month + i.terms.every * length i.terms.principals) (month_number 2199 12) form.last_due)
+issue-back c i (Some n) f form fits = rw (f.desk, f.key, f.on, le-leb c.on.day 28 form.day, lt-ltb i.fund 65536 fits.0, lt-ltb i.terms.rate_bp 65536 fits.2.0, le-leb i.terms.rate_bp 10000 form.rate, lt-ltb i.terms.every 65536 fits.2.1, form.every, items.principals-back i.terms.principals fits.2.2 form.principals, eq-eqb (sum i.terms.principals) i.amount form.total, le-leb (month_number c.on.year c.on.month + i.terms.every * length i.terms.principals) (month_number 2199 12) form.last_due)
 
 pay_due-back : (c : Change) (p : DebtPayment) (after : Option ℕ) → IsFront c → IsActInForm c.on (PayDue p) → ActFits (PayDue p) → IsBack c (PayDue p) after
 pay_due-back c p None f form fits = rw (f.desk, f.key, f.on, lt-ltb p.bond 4294967296 fits.0, lt-ltb p.fund 65536 fits.1, lt-ltb p.dept 65536 fits.2, lt-ltb p.principal 65536 fits.3, lt-ltb p.interest 65536 fits.4)
@@ -168,8 +168,8 @@ close_year-back c y None f form fits = rw (f.desk, f.key, f.on, le-leb 1971 y fo
 close_year-back c y (Some n) f form fits = rw (f.desk, f.key, f.on, le-leb 1971 y form.from, le-leb y 2199 form.to)
 
 lease-back : (c : Change) (l : NewLease) (after : Option ℕ) → IsFront c → IsActInForm c.on (Lease l) → ActFits (Lease l) → IsBack c (Lease l) after
-lease-back c l None f form fits = rw (f.desk, f.key, f.on, le-leb c.on.day 28 form.schedule.day, lt-ltb l.vendor 4294967296 fits.0, lt-ltb l.account.fund 65536 fits.1.0, lt-ltb l.account.dept 65536 fits.1.1, lt-ltb l.account.object 65536 fits.1.2, lt-ltb l.rate_bp 65536 fits.2, le-leb l.rate_bp 10000 form.schedule.rate, lt-ltb l.every 65536 fits.3, form.schedule.every, items.principals-back l.principals fits.4 form.schedule.principals, eq-eqb (sum l.principals) l.account.amount form.schedule.total, le-leb (month_number c.on.year c.on.month + l.every * length l.principals) (month_number 2199 12) form.schedule.last_due, lt-ltb 12 (l.every * length l.principals) form.term)
-lease-back c l (Some n) f form fits = rw (f.desk, f.key, f.on, le-leb c.on.day 28 form.schedule.day, lt-ltb l.vendor 4294967296 fits.0, lt-ltb l.account.fund 65536 fits.1.0, lt-ltb l.account.dept 65536 fits.1.1, lt-ltb l.account.object 65536 fits.1.2, lt-ltb l.rate_bp 65536 fits.2, le-leb l.rate_bp 10000 form.schedule.rate, lt-ltb l.every 65536 fits.3, form.schedule.every, items.principals-back l.principals fits.4 form.schedule.principals, eq-eqb (sum l.principals) l.account.amount form.schedule.total, le-leb (month_number c.on.year c.on.month + l.every * length l.principals) (month_number 2199 12) form.schedule.last_due, lt-ltb 12 (l.every * length l.principals) form.term)
+lease-back c l None f form fits = rw (f.desk, f.key, f.on, le-leb c.on.day 28 form.terms.day, lt-ltb l.vendor 4294967296 fits.0, lt-ltb l.account.fund 65536 fits.1.0, lt-ltb l.account.dept 65536 fits.1.1, lt-ltb l.account.object 65536 fits.1.2, lt-ltb l.terms.rate_bp 65536 fits.2.0, le-leb l.terms.rate_bp 10000 form.terms.rate, lt-ltb l.terms.every 65536 fits.2.1, form.terms.every, items.principals-back l.terms.principals fits.2.2 form.terms.principals, eq-eqb (sum l.terms.principals) l.account.amount form.terms.total, le-leb (month_number c.on.year c.on.month + l.terms.every * length l.terms.principals) (month_number 2199 12) form.terms.last_due, lt-ltb 12 (l.terms.every * length l.terms.principals) form.term)
+lease-back c l (Some n) f form fits = rw (f.desk, f.key, f.on, le-leb c.on.day 28 form.terms.day, lt-ltb l.vendor 4294967296 fits.0, lt-ltb l.account.fund 65536 fits.1.0, lt-ltb l.account.dept 65536 fits.1.1, lt-ltb l.account.object 65536 fits.1.2, lt-ltb l.terms.rate_bp 65536 fits.2.0, le-leb l.terms.rate_bp 10000 form.terms.rate, lt-ltb l.terms.every 65536 fits.2.1, form.terms.every, items.principals-back l.terms.principals fits.2.2 form.terms.principals, eq-eqb (sum l.terms.principals) l.account.amount form.terms.total, le-leb (month_number c.on.year c.on.month + l.terms.every * length l.terms.principals) (month_number 2199 12) form.terms.last_due, lt-ltb 12 (l.terms.every * length l.terms.principals) form.term)
 
 -- ---- any change
 

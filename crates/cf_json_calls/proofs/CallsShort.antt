@@ -61,7 +61,7 @@ own-short on (Receive r) form fits = rw (lt-ltb r.source (2 ^ 64) (omega arith),
 own-short on (WriteOff a) form fits = rw (lt-ltb a.bill (2 ^ 64) (omega arith), lt-ltb a.amount (2 ^ 64) fits.1)
 own-short on (Asset (Donate d)) form fits = rw (lt-ltb d.dept (2 ^ 64) (omega arith), lt-ltb d.object (2 ^ 64) (omega arith), lt-ltb d.amount (2 ^ 64) fits.2)
 own-short on (Asset (Dispose d)) form fits = rw (lt-ltb d.asset (2 ^ 64) (omega arith), lt-ltb d.fund (2 ^ 64) (omega arith), lt-ltb d.proceeds (2 ^ 64) fits.2)
-own-short on (Issue i) form fits = rw (lt-ltb i.fund (2 ^ 64) (omega arith), lt-ltb i.amount (2 ^ 64) fits.1, lt-ltb i.rate_bp (2 ^ 64) (omega arith), lt-ltb i.every (2 ^ 64) (omega arith), items.items-short count IsN64 items.number-short i.principals fits.4)
+own-short on (Issue i) form fits = rw (lt-ltb i.fund (2 ^ 64) (omega arith), lt-ltb i.amount (2 ^ 64) fits.1, lt-ltb i.terms.rate_bp (2 ^ 64) (omega arith), lt-ltb i.terms.every (2 ^ 64) (omega arith), items.items-short count IsN64 items.number-short i.terms.principals fits.2.2)
 own-short on (PayDue p) form fits = rw (lt-ltb p.bond (2 ^ 64) (omega arith), lt-ltb p.fund (2 ^ 64) (omega arith), lt-ltb p.dept (2 ^ 64) (omega arith), lt-ltb p.principal (2 ^ 64) (omega arith), lt-ltb p.interest (2 ^ 64) (omega arith))
 own-short on (Leave (Earn a)) form fits = rw (lt-ltb a.fund (2 ^ 64) (omega arith), lt-ltb a.dept (2 ^ 64) (omega arith), lt-ltb a.amount (2 ^ 64) fits.2)
 own-short on (Leave (Use a)) form fits = rw (lt-ltb a.fund (2 ^ 64) (omega arith), lt-ltb a.dept (2 ^ 64) (omega arith), lt-ltb a.amount (2 ^ 64) fits.2)
@@ -69,7 +69,7 @@ own-short on (Leave (Mature m)) form fits = rw (lt-ltb m.fund (2 ^ 64) (omega ar
 own-short on (Interfund m) form fits = interfund-short m.what m.from m.to m.amount fits.0 fits.1 fits.2
 own-short on (Close (period.Month m)) form fits = rw (month_ascii m)
 own-short on (Close (period.Year y)) form fits = rw (lt-ltb y (2 ^ 64) (omega (arith, form.to)))
-own-short on (Lease l) form fits = rw (lt-ltb l.vendor (2 ^ 64) (omega arith), lt-ltb l.account.fund (2 ^ 64) (omega arith), lt-ltb l.account.dept (2 ^ 64) (omega arith), lt-ltb l.account.object (2 ^ 64) (omega arith), lt-ltb l.account.amount (2 ^ 64) fits.1.3, lt-ltb l.rate_bp (2 ^ 64) (omega arith), lt-ltb l.every (2 ^ 64) (omega arith), items.items-short count IsN64 items.number-short l.principals fits.4)
+own-short on (Lease l) form fits = rw (lt-ltb l.vendor (2 ^ 64) (omega arith), lt-ltb l.account.fund (2 ^ 64) (omega arith), lt-ltb l.account.dept (2 ^ 64) (omega arith), lt-ltb l.account.object (2 ^ 64) (omega arith), lt-ltb l.account.amount (2 ^ 64) fits.1.3, lt-ltb l.terms.rate_bp (2 ^ 64) (omega arith), lt-ltb l.terms.every (2 ^ 64) (omega arith), items.items-short count IsN64 items.number-short l.terms.principals fits.2.2)
 
 key_byte-ascii : (b : ℕ) → is_key_byte b ≡ true → nat_lt b 128 ≡ true
 key_byte-ascii b h = let p = and_parts (nat_le 33 b) (nat_le b 126) h in lt-ltb b 128 (omega (arith, leb-true b 126 p.1))

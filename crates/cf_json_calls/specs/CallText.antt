@@ -26,6 +26,7 @@ use Rattle.cf_calls.specs.declared.acts.LeaveAmount.{LeaveAmount}
 use Rattle.cf_calls.specs.declared.acts.LeaveMaturity.{LeaveMaturity}
 use Rattle.cf_calls.specs.declared.acts.FundMove.{FundMove}
 use Rattle.cf_calls.specs.declared.acts.NewLease.{NewLease}
+use Rattle.cf_calls.specs.declared.acts.Terms.{Terms}
 use Rattle.cf_calls.specs.declared.acts.FundMoveKind.{FundMoveKind}
 use Rattle.cf_calls.specs.declared.acts.FundMoveKind.TheVariants as move
 use Rattle.cf_calls.specs.declared.acts.Period.{Period}
@@ -107,10 +108,13 @@ asset_fields (Dispose d) =
     (codes "what", string (codes "dispose")) ∷ (codes "asset", count d.asset)
     ∷ (codes "fund", count d.fund) ∷ (codes "proceeds", count d.proceeds) ∷ []
 
+abbrev pub terms_fields : Terms → List (List ℕ × Data)
+terms_fields t = (codes "rate_bp", count t.rate_bp) ∷ (codes "every", count t.every)
+    ∷ (codes "principals", list_of count t.principals) ∷ []
+
 abbrev pub issue_fields : BondIssue → List (List ℕ × Data)
 issue_fields i = (codes "fund", count i.fund) ∷ (codes "amount", count i.amount)
-    ∷ (codes "rate_bp", count i.rate_bp) ∷ (codes "every", count i.every)
-    ∷ (codes "principals", list_of count i.principals) ∷ []
+    ∷ terms_fields i.terms
 
 abbrev pub debt_payment_fields : DebtPayment → List (List ℕ × Data)
 debt_payment_fields p =
@@ -151,8 +155,7 @@ period_fields (period.Year y) = (codes "what", string (codes "year")) ∷ (codes
 
 abbrev pub lease_fields : NewLease → List (List ℕ × Data)
 lease_fields l = (codes "vendor", count l.vendor)
-    ∷ (account_fields l.account ++ (codes "rate_bp", count l.rate_bp)
-    ∷ (codes "every", count l.every) ∷ (codes "principals", list_of count l.principals) ∷ [])
+    ∷ (account_fields l.account ++ terms_fields l.terms)
 
 -- the fields of an act, beside those that every changing call has
 abbrev pub own_fields : Act → List (List ℕ × Data)

@@ -8,6 +8,7 @@ use Rattle.cf_calls.specs.declared.acts.AssetAct.{AssetAct}
 use Rattle.cf_calls.specs.declared.acts.AssetAct.TheVariants.{Donate, Dispose}
 use Rattle.cf_calls.specs.declared.acts.LeaveAct.{LeaveAct}
 use Rattle.cf_calls.specs.declared.acts.LeaveAct.TheVariants.{Earn, Use, Mature}
+use Rattle.cf_calls.specs.declared.acts.Terms.{Terms}
 use Rattle.cf_calls.specs.declared.items.LineAmount.{LineAmount}
 use Rattle.cf_calls.specs.declared.items.SourceAmount.{SourceAmount}
 use Rattle.cf_calls.specs.declared.items.AccountItem.{AccountItem}
@@ -64,6 +65,9 @@ LeaveFits (Earn a) = IsN16 a.fund × IsN16 a.dept × IsN64 a.amount
 LeaveFits (Use a) = IsN16 a.fund × IsN16 a.dept × IsN64 a.amount
 LeaveFits (Mature m) = IsN16 m.fund × IsN16 m.dept × IsN16 m.object × IsN64 m.amount
 
+abbrev pub TermsFit : Terms → Type 0
+TermsFit t = IsN16 t.rate_bp × IsN16 t.every × All IsN64 t.principals
+
 abbrev pub ActFits : Act → Type 0
 ActFits (Adopt a) = IsN16 a.fund × All LineAmountFits a.lines × All SourceAmountFits a.estimates
 ActFits (Amend a) = IsN16 a.fund × IsN16 a.line × FitsSigned w64 a.by
@@ -82,15 +86,13 @@ ActFits (Collect a) = IsN32 a.bill × IsN64 a.amount
 ActFits (Receive r) = SourceAmountFits r
 ActFits (WriteOff a) = IsN32 a.bill × IsN64 a.amount
 ActFits (Asset a) = AssetFits a
-ActFits (Issue i) = IsN16 i.fund × IsN64 i.amount × IsN16 i.rate_bp × IsN16 i.every
-    × All IsN64 i.principals
+ActFits (Issue i) = IsN16 i.fund × IsN64 i.amount × TermsFit i.terms
 ActFits (PayDue p) = IsN32 p.bond × IsN16 p.fund × IsN16 p.dept × IsN16 p.principal
     × IsN16 p.interest
 ActFits (Leave l) = LeaveFits l
 ActFits (Interfund m) = IsN16 m.from × IsN16 m.to × IsN64 m.amount
 ActFits (Close p) = Unit {0}
-ActFits (Lease l) = IsN32 l.vendor × AccountFits l.account × IsN16 l.rate_bp × IsN16 l.every
-    × All IsN64 l.principals
+ActFits (Lease l) = IsN32 l.vendor × AccountFits l.account × TermsFit l.terms
 
 pub record ChangeFits (c : Change) : Type 0 where
   pub desk : IsN16 c.desk

@@ -8,7 +8,7 @@ ghost use Rattle.cf_json_members.specs.Parts.{is_plain};
 ghost use Rattle.cf_json_members.specs.Objects.{list_of};
 ghost use Rattle.cf_json_calls.specs.CallText as spec;
 ghost use Rattle.cf_json_calls.specs.CallText.{fields_text};
-ghost use Rattle.cf_json_calls.specs.Fits.{ActFits, AssetFits, LeaveFits, IsN16, IsN32, IsN64, HasFit};
+ghost use Rattle.cf_json_calls.specs.Fits.{ActFits, AssetFits, LeaveFits, TermsFit, IsN16, IsN32, IsN64, HasFit};
 
 use crate::items::{Item, put_account, put_list};
 use crate::pieces::{put_fields, put_name, put_signed_field};
@@ -16,7 +16,7 @@ use cf_calls::Act;
 use cf_calls::acts::{
     Adoption, Amendment, AssetAct, BillAmount, BondIssue, DebtPayment, Disposal, Donation,
     FundMove, FundMoveKind, LeaveAct, LeaveAmount, LeaveMaturity, LineTransfer, NewBill, NewLease,
-    NewOrder, NewVoucher, OrderChange, Period,
+    NewOrder, NewVoucher, OrderChange, Period, Terms,
 };
 use cf_calls::items::SourceAmount;
 use cf_json_members::parts::Part::{Number, True, Word, YearMonth};
@@ -268,6 +268,28 @@ fn put_asset(out: &mut Vec<u8>, act: &AssetAct) -> Result<(), AllocError>
     }
 }
 
+/// Appends the fields of the terms of a bond or a lease.
+fn put_terms(out: &mut Vec<u8>, terms: &Terms) -> Result<(), AllocError>
+    ensures text { OnOk result
+        (out.new.items ≡ out.old.items ++ fields_text true (spec.terms_fields terms.now)) }
+    ensures fits { OnOk result (TermsFit terms.now) }
+{
+    let Terms {
+        rate_bp,
+        every,
+        principals,
+    } = terms;
+    put_fields(
+        out,
+        true,
+        &[
+            ("rate_bp", Number(*rate_bp as u64)),
+            ("every", Number(*every as u64)),
+        ],
+    )?;
+    put_list_field(out, "principals", principals.as_slice())
+}
+
 /// Appends the fields of a bond's issue.
 fn put_issue(out: &mut Vec<u8>, issue: &BondIssue) -> Result<(), AllocError>
     ensures text { OnOk result
@@ -277,21 +299,14 @@ fn put_issue(out: &mut Vec<u8>, issue: &BondIssue) -> Result<(), AllocError>
     let BondIssue {
         fund,
         amount,
-        rate_bp,
-        every,
-        principals,
+        terms,
     } = issue;
     put_fields(
         out,
         true,
-        &[
-            ("fund", Number(*fund as u64)),
-            ("amount", Number(*amount)),
-            ("rate_bp", Number(*rate_bp as u64)),
-            ("every", Number(*every as u64)),
-        ],
+        &[("fund", Number(*fund as u64)), ("amount", Number(*amount))],
     )?;
-    put_list_field(out, "principals", principals.as_slice())
+    put_terms(out, terms)
 }
 
 /// Appends the fields of a payment of debt.
@@ -436,15 +451,7 @@ fn put_lease(out: &mut Vec<u8>, lease: &NewLease) -> Result<(), AllocError>
 {
     put_number_field(out, "vendor", lease.vendor as u64)?;
     put_account(out, true, &lease.account)?;
-    put_fields(
-        out,
-        true,
-        &[
-            ("rate_bp", Number(lease.rate_bp as u64)),
-            ("every", Number(lease.every as u64)),
-        ],
-    )?;
-    put_list_field(out, "principals", lease.principals.as_slice())
+    put_terms(out, &lease.terms)
 }
 
 /// Appends the fields of an act.
