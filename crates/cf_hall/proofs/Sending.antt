@@ -48,6 +48,7 @@ use Rattle.cf_calls.specs.contracts.acts.NewVoucher as NewVoucher
 use Rattle.cf_calls.specs.contracts.acts.Payment as Payment
 use Rattle.cf_calls.specs.contracts.acts.BondIssue as BondIssue
 use Rattle.cf_calls.specs.contracts.acts.NewLease as NewLease
+use Rattle.cf_calls.specs.contracts.acts.Terms as Terms
 use Rattle.cf_calls.specs.contracts.acts.OrderChange as OrderChange
 use Rattle.cf_calls.specs.contracts.acts.AssetAct as AssetAct
 use Rattle.cf_calls.specs.contracts.acts.LeaveAct as LeaveAct
@@ -239,11 +240,14 @@ order_send = search (sendable, list_send) depth 20
 pub payment_send : IsSend Payment.the_field.row
 payment_send = search (sendable, list_send) depth 20
 
+pub terms_send : IsSend Terms.the_field.row
+terms_send = search (sendable, list_send) depth 20
+
 pub issue_send : IsSend BondIssue.the_field.row
-issue_send = search (sendable, list_send) depth 20
+issue_send = search (terms_send, sendable) depth 20
 
 pub lease_send : IsSend NewLease.the_field.row
-lease_send = search (account_send, sendable, list_send) depth 20
+lease_send = search (account_send, terms_send, sendable) depth 20
 
 pub asset_send : IsSend AssetAct.the_field.row
 asset_send = search sendable depth 30

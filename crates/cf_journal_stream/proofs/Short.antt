@@ -59,7 +59,7 @@ act_most on (Receive a) form = omega arith
 act_most on (WriteOff a) form = omega arith
 act_most on (Asset (Donate d)) form = omega arith
 act_most on (Asset (Dispose d)) form = omega arith
-act_most on (Issue i) form = omega (arith, form.principals.to, each_most most_amount 8 (λ p. omega arith) i.principals)
+act_most on (Issue i) form = omega (arith, form.principals.to, each_most most_amount 8 (λ p. omega arith) i.terms.principals)
 act_most on (PayDue p) form = omega arith
 act_most on (Leave (Earn l)) form = omega arith
 act_most on (Leave (Use l)) form = omega arith
@@ -67,7 +67,7 @@ act_most on (Leave (Mature m)) form = omega arith
 act_most on (Interfund m) form = omega arith
 act_most on (Close (period.Month m)) form = omega arith
 act_most on (Close (period.Year y)) form = omega arith
-act_most on (Lease l) form = omega (arith, form.schedule.principals.to, each_most most_amount 8 (λ p. omega arith) l.principals)
+act_most on (Lease l) form = omega (arith, form.terms.principals.to, each_most most_amount 8 (λ p. omega arith) l.terms.principals)
 
 drawn_most : (k : Draws) (d : Drawn) → (drawn_as k).size d ≤ 8
 drawn_most Nothing d = omega arith
