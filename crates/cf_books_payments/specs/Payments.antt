@@ -56,9 +56,9 @@ bond_of i = record {
   year = 0;
   month = 0;
   day = 0;
-  rate_bp = i.rate_bp;
-  every = i.every;
-  principals = i.principals;
+  rate_bp = i.terms.rate_bp;
+  every = i.terms.every;
+  principals = i.terms.principals;
   paid = 0;
 }
 

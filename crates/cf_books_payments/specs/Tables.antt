@@ -13,13 +13,7 @@ use Rattle.cf_books_payments.specs.declared.payments.Schedule.{Schedule}
 use Rattle.cf_books_payments.specs.declared.payments.Tables.{Tables}
 
 abbrev pub issue_of : Schedule → BondIssue
-issue_of s = record {
-  fund = s.fund;
-  amount = s.amount;
-  rate_bp = s.rate_bp;
-  every = s.every;
-  principals = s.principals.now;
-}
+issue_of s = record { fund = s.fund; amount = s.amount; terms = s.terms.now }
 
 -- the schedule that an act enters
 abbrev pub schedule_in : Act → Option BondIssue

@@ -10,6 +10,7 @@ ghost use Rattle.cf_books_payments.specs.Payments.{Payable};
 ghost use Rattle.cf_books_payments.specs.Tables.{AreSmall, Knows, NotesVoucher, debts_noted, issue_of, schedule_at, schedule_in};
 
 use crate::amounts::{amount_of, total};
+use cf_calls::acts::Terms;
 use cf_calls::{Act, Entry};
 use std::alloc::{AllocError, Global};
 use std::collections::BTreeMap;
@@ -27,9 +28,7 @@ pub struct Tables {
 pub struct Schedule<'a> {
     pub fund: u16,
     pub amount: u64,
-    pub rate_bp: u16,
-    pub every: u16,
-    pub principals: &'a [u64],
+    pub terms: &'a Terms,
 }
 
 /// The schedule that an act enters.
@@ -40,16 +39,12 @@ pub(crate) fn schedule_in(act: &Act) -> Option<Schedule<'_>>
         Act::Issue(bond) => Some(Schedule {
             fund: bond.fund,
             amount: bond.amount,
-            rate_bp: bond.rate_bp,
-            every: bond.every,
-            principals: bond.principals.as_slice(),
+            terms: &bond.terms,
         }),
         Act::Lease(lease) => Some(Schedule {
             fund: lease.account.fund,
             amount: lease.account.amount,
-            rate_bp: lease.rate_bp,
-            every: lease.every,
-            principals: lease.principals.as_slice(),
+            terms: &lease.terms,
         }),
         Act::Adopt(_)
         | Act::Amend(_)
@@ -90,10 +85,11 @@ pub(crate) fn due_amount(schedule: Schedule, number: u32) -> Option<i128>
     ensures value { result ≡ spec.due_amount number (spec.bond_of (issue_of schedule.entry)) }
     ensures small { IfSome result (λ due. unsigned_abs due < 2 ^ 90) }
 {
+    let terms = schedule.terms;
     let mut owed = schedule.amount;
-    for (nth, principal) in schedule.principals.iter().enumerate() {
+    for (nth, principal) in terms.principals.as_slice().iter().enumerate() {
         if nth == number.saturating_sub(1) as usize {
-            let due = due_total(owed, schedule.rate_bp, schedule.every, *principal);
+            let due = due_total(owed, terms.rate_bp, terms.every, *principal);
             return Some(due as i128);
         }
         owed = owed.saturating_sub(*principal);

@@ -17,8 +17,8 @@ pub loop-nth-preserved : goal.loop-nth-preserved
 loop-nth-preserved c =
     let inv = c.loop-nth.invariant in
     let i = c.loop-nth.nth in
-    let every = c.args.schedule.every in
-    let principals = c.args.schedule.principals.now in
+    let every = c.args.schedule.terms.now.every in
+    let principals = c.args.schedule.terms.now.principals in
     let p = get_or principals i 0 in
     let there : i < length principals = c.loop-nth-test.true in
     let below : i < c.args.number - 1 = omega arith in

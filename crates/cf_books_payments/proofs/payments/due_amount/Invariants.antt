@@ -10,5 +10,5 @@ abbrev pub invariant-loop-nth : goal.invariant-loop-nth
 invariant-loop-nth l = record {
   from : ℕ;
   before : l.nth ≤ l.number - 1;
-  behind : slice_get (dues_from l.schedule.every from l.owed (drop l.nth l.schedule.principals.now)) (l.number - 1 - l.nth) ≡ slice_get (dues (bond_of (issue_of l.schedule))) (l.number - 1);
+  behind : slice_get (dues_from l.schedule.terms.now.every from l.owed (drop l.nth l.schedule.terms.now.principals)) (l.number - 1 - l.nth) ≡ slice_get (dues (bond_of (issue_of l.schedule))) (l.number - 1);
 }
