@@ -1,7 +1,5 @@
 -- What the assets by number keep of their rows.
 use Rattle.std.proofs.Common.{◌≡◌, ◌⊎◌, inl, inr, ℕ, zero, suc, ◌+◌, ◌-◌, ◌<◌, ◌≤◌, min, Bool, true, false, not, if◌then◌else◌, ◌==◌, ◌&&◌, List, [], ◌∷◌, ◌++◌, length, map, set, get_or, sum_by, is_some, refl, sym, subst, ap, ◌∙◌, arith}
-use Rattle.cf_assets.specs.declared.rows.Acquired.TheVariants.{Given, Leased}
-use Rattle.cf_assets.specs.declared.rows.Acquired.{Acquired}
 use Rattle.std.proofs.lemmas.Grind.{common_steps}
 use Rattle.std.proofs.lemmas.List.{length-append, length-map, map-append, map-set, get_or_append_left, get_or_push, get_or-map}
 use Rattle.std.proofs.lemmas.List.Sums.{sum_by-cons}
@@ -11,13 +9,13 @@ use Rattle.cf_assets.specs.declared.rows.StageNow.TheVariants.{Held, Void, Dispo
 use Rattle.cf_assets.specs.Inventory.{AreKept, accumulated_at}
 use Rattle.cf_assets.specs.InventoryView.{AreAccumulated}
 use Rattle.cf_assets.specs.Rows.{view_asset, view_stage, IsRow, IsStage, AreRows, no_row, view_origin}
-use Rattle.cf_assets.specs.Years.{bought_in, given_in, book_in}
+use Rattle.cf_assets.specs.Years.{bought_in, given_in, let_in, book_in, with_cost}
 use Rattle.cf_register_parts.proofs.Lists.{each_push, each_set, less_or_not}
 use Rattle.cf_register_parts.specs.Years.{AreYears, cell_of, with_cell}
 use Rattle.cf_assets.proofs.Cells.{sum_push, sum_set, sum_small, push_adds, push_same, set_same, set_adds, set_takes, enough_there}
 use Rattle.cf_register_parts.proofs.Cells.{years_same}
 use Rattle.cf_assets.proofs.Charging.{not_yet, never_falls, total_next, total_first, total_most}
-use Rattle.cf_model.specs.Assets.{Asset, held, counted, depreciated, depreciation, charge, Origin, purchase, gift, lease, voucher_of, is_given}
+use Rattle.cf_model.specs.Assets.{Asset, held, counted, depreciated, depreciation, charge, voucher_of, is_given, is_leased}
 use Rattle.cf_model.specs.Changes.{is_void, is_disposed_in}
 use Rattle.cf_base.specs.Limits.{most_cents}
 use Rattle.cf_register_parts.specs.Limits.{most_items, most_total}
@@ -76,6 +74,13 @@ given_most year a = by_test (is_given a.origin && (a.year == year))
     by_test true = omega arith
     by_test false = omega arith
 
+pub let_most : (year : ℕ) (a : Asset) → let_in year a ≤ a.cost
+let_most year a = by_test (is_leased a.origin && (a.year == year))
+  where
+    by_test : (b : Bool) → (if b then a.cost else 0) ≤ a.cost
+    by_test true = omega arith
+    by_test false = omega arith
+
 pub book_most : (closed year : ℕ) (a : Asset) → book_in closed year a ≤ a.cost
 book_most closed year a = by_test (is_disposed_in year a.stage)
   where
@@ -111,26 +116,24 @@ same_year a = grind (arith, common_steps)
 other_year : (a b : ℕ) → (b ≡ a → ⊥) → (a == b) ≡ false
 other_year a b n = grind (arith, common_steps)
 
--- an asset that a voucher bought
-pub buy_bought : (rows : List AssetRow) (r : AssetRow) (cells : List ℕ) → is_some (voucher_of (view_origin r.acquired)) ≡ true → r.stage ≡ Held → 1970 ≤ r.year → r.year ≤ 2200 → AreYears (λ y. sum_by (bought_in y) (map view_asset rows)) cells →
-    AreYears (λ y. sum_by (bought_in y) (map view_asset (rows ++ r ∷ []))) (with_cell cells r.year (cell_of cells r.year + r.cost))
-buy_bought rows r cells some is from to are =
-    rw (view_push rows r) (push_adds bought_in (map view_asset rows) (view_asset r) cells r.year r.cost are from to (whole (is_some (voucher_of (view_origin r.acquired))) (r.year == r.year) r.stage some (same_year r.year) is) (λ y apart. none (is_some (voucher_of (view_origin r.acquired))) (not (is_void (view_stage r.stage))) (r.year == y) (other_year r.year y apart)))
+-- the cost of a new asset in the sums of what was acquired as it was
+pub cost_push : (f : ℕ → Asset → ℕ) (counts : Bool) (rows : List AssetRow) (r : AssetRow) (cells : List ℕ) → ((y : ℕ) → f y (view_asset r) ≡ (if counts && (r.year == y) then r.cost else 0)) → 1970 ≤ r.year → r.year ≤ 2200 →
+    AreYears (λ y. sum_by (f y) (map view_asset rows)) cells → AreYears (λ y. sum_by (f y) (map view_asset (rows ++ r ∷ []))) (with_cost counts r cells)
+cost_push f true rows r cells is from to are =
+    rw (view_push rows r) (push_adds f (map view_asset rows) (view_asset r) cells r.year r.cost are from to (is r.year ∙ by_year true (r.year == r.year) (same_year r.year)) (λ y apart. is y ∙ by_year false (r.year == y) (other_year r.year y apart)))
   where
-    whole : (b t : Bool) (s : StageNow) → b ≡ true → t ≡ true → s ≡ Held → (if b && t && not (is_void (view_stage s)) then r.cost else 0) ≡ r.cost
-    whole b t s e f h = rw (e, f, h) refl
+    by_year : (b t : Bool) → t ≡ b → (if t then r.cost else 0) ≡ (if b then r.cost else 0)
+    by_year b t e = rw e refl
+cost_push f false rows r cells is from to are = rw (view_push rows r) (push_same f (map view_asset rows) (view_asset r) cells are is)
 
-    none : (b k t : Bool) → t ≡ false → (if b && t && k then r.cost else 0) ≡ 0
-    none true k t e = rw e refl
-    none false k t e = refl
-
-pub buy_given : (rows : List AssetRow) (r : AssetRow) (cells : List ℕ) → is_some (voucher_of (view_origin r.acquired)) ≡ true → AreYears (λ y. sum_by (given_in y) (map view_asset rows)) cells → AreYears (λ y. sum_by (given_in y) (map view_asset (rows ++ r ∷ []))) cells
-buy_given rows r cells some are = rw (view_push rows r) (push_same given_in (map view_asset rows) (view_asset r) cells are (λ y. none (view_origin r.acquired) (r.year == y) some))
+-- one that is held isn't void
+pub held_bought : (r : AssetRow) → r.stage ≡ Held → (y : ℕ) → bought_in y (view_asset r) ≡ (if is_some (voucher_of (view_origin r.acquired)) && (r.year == y) then r.cost else 0)
+held_bought r is y = by_stage (is_some (voucher_of (view_origin r.acquired))) (r.year == y) r.stage is
   where
-    none : (o : Origin) (t : Bool) → is_some (voucher_of o) ≡ true → (if is_given o && t then r.cost else 0) ≡ 0
-    none (purchase n) t e = refl
-    none gift t e = cc
-    none lease t e = cc
+    by_stage : (b t : Bool) (s : StageNow) → s ≡ Held → (if b && t && not (is_void (view_stage s)) then r.cost else 0) ≡ (if b && t then r.cost else 0)
+    by_stage true true s e = rw e refl
+    by_stage true false s e = refl
+    by_stage false t s e = refl
 
 pub new_book : (closed : ℕ) (rows : List AssetRow) (r : AssetRow) (cells : List ℕ) → r.stage ≡ Held → AreYears (λ y. sum_by (book_in closed y) (map view_asset rows)) cells →
     AreYears (λ y. sum_by (book_in closed y) (map view_asset (rows ++ r ∷ []))) cells
@@ -138,38 +141,6 @@ new_book closed rows r cells is are = rw (view_push rows r) (push_same (book_in 
   where
     none : (y : ℕ) (s : StageNow) → s ≡ Held → (if is_disposed_in y (view_stage s) then r.cost - depreciation closed (view_asset r) else 0) ≡ 0
     none y s e = rw e refl
-
--- one that was given
-pub gift_bought : (rows : List AssetRow) (r : AssetRow) (cells : List ℕ) → r.acquired ≡ Given → AreYears (λ y. sum_by (bought_in y) (map view_asset rows)) cells → AreYears (λ y. sum_by (bought_in y) (map view_asset (rows ++ r ∷ []))) cells
-gift_bought rows r cells none are = rw (view_push rows r) (push_same bought_in (map view_asset rows) (view_asset r) cells are (λ y. nothing r.acquired (r.year == y) none))
-  where
-    nothing : (o : Acquired) (t : Bool) → o ≡ Given → (if is_some (voucher_of (view_origin o)) && t && not (is_void (view_stage r.stage)) then r.cost else 0) ≡ 0
-    nothing o t e = rw e refl
-
-pub gift_given : (rows : List AssetRow) (r : AssetRow) (cells : List ℕ) → r.acquired ≡ Given → 1970 ≤ r.year → r.year ≤ 2200 → AreYears (λ y. sum_by (given_in y) (map view_asset rows)) cells →
-    AreYears (λ y. sum_by (given_in y) (map view_asset (rows ++ r ∷ []))) (with_cell cells r.year (cell_of cells r.year + r.cost))
-gift_given rows r cells none from to are =
-    rw (view_push rows r) (push_adds given_in (map view_asset rows) (view_asset r) cells r.year r.cost are from to (whole r.acquired (r.year == r.year) none (same_year r.year)) (λ y apart. nothing (is_given (view_origin r.acquired)) (r.year == y) (other_year r.year y apart)))
-  where
-    whole : (o : Acquired) (t : Bool) → o ≡ Given → t ≡ true → (if is_given (view_origin o) && t then r.cost else 0) ≡ r.cost
-    whole o t e f = rw (e, f) refl
-
-    nothing : (b t : Bool) → t ≡ false → (if b && t then r.cost else 0) ≡ 0
-    nothing true t e = rw e refl
-    nothing false t e = refl
-
--- one that is leased
-pub lease_bought : (rows : List AssetRow) (r : AssetRow) (cells : List ℕ) → r.acquired ≡ Leased → AreYears (λ y. sum_by (bought_in y) (map view_asset rows)) cells → AreYears (λ y. sum_by (bought_in y) (map view_asset (rows ++ r ∷ []))) cells
-lease_bought rows r cells none are = rw (view_push rows r) (push_same bought_in (map view_asset rows) (view_asset r) cells are (λ y. nothing r.acquired (r.year == y) none))
-  where
-    nothing : (o : Acquired) (t : Bool) → o ≡ Leased → (if is_some (voucher_of (view_origin o)) && t && not (is_void (view_stage r.stage)) then r.cost else 0) ≡ 0
-    nothing o t e = rw e refl
-
-pub lease_given : (rows : List AssetRow) (r : AssetRow) (cells : List ℕ) → r.acquired ≡ Leased → AreYears (λ y. sum_by (given_in y) (map view_asset rows)) cells → AreYears (λ y. sum_by (given_in y) (map view_asset (rows ++ r ∷ []))) cells
-lease_given rows r cells none are = rw (view_push rows r) (push_same given_in (map view_asset rows) (view_asset r) cells are (λ y. nothing r.acquired (r.year == y) none))
-  where
-    nothing : (o : Acquired) (t : Bool) → o ≡ Leased → (if is_given (view_origin o) && t then r.cost else 0) ≡ 0
-    nothing o t e = rw e refl
 
 -- ---- an asset in another stage
 

@@ -1,4 +1,4 @@
--- What is leased, and the amortization of it: what each act makes of the running numbers.
+-- The amortization of what is leased: what each act makes of the running numbers.
 use Rattle.std.proofs.Common.{◌≡◌, ◌⊎◌, inl, inr, ℕ, zero, suc, ◌+◌, ◌-◌, ◌*◌, ◌<◌, ◌≤◌, Bool, true, false, not, if◌then◌else◌, ◌==◌, ◌&&◌, List, [], ◌∷◌, ◌++◌, length, map, get_or, sum_by, None, refl, sym, ap, ◌∙◌, arith, length-append}
 use Rattle.std.specs.List.{filter, AllByRecursion}
 use Rattle.std.proofs.lemmas.Grind.{common_steps}
@@ -8,10 +8,7 @@ use Rattle.cf_assets.specs.Charges.{charge_in}
 use Rattle.cf_assets.specs.Inventory.{AreCheap, accumulated_at, staged}
 use Rattle.cf_assets.specs.Leases.{AreAmortized, amortization}
 use Rattle.cf_assets.specs.Steps.{voids, disposes}
-use Rattle.cf_assets.specs.Years.{let_in}
-use Rattle.cf_register_parts.specs.Years.{AreYears, with_cell, cell_of}
-use Rattle.cf_assets.proofs.Cells.{push_adds, sum_push}
-use Rattle.cf_register_parts.proofs.Cells.{years_same}
+use Rattle.cf_assets.proofs.Cells.{sum_push}
 use Rattle.cf_assets.proofs.Charging.{depreciation_most, never_falls, not_yet}
 use Rattle.cf_base.specs.declared.calendar.Day.{Day}
 use Rattle.cf_calls.specs.declared.items.VoucherItem.{VoucherItem}
@@ -41,10 +38,7 @@ each P all (x ∷ xs) = (all x, each P all xs)
 adds_none : (f : Asset → ℕ) (xs ys : List Asset) → sum_by f ys ≡ 0 → sum_by f (xs ++ ys) ≡ sum_by f xs
 adds_none f xs ys none = omega (arith, sum_by-append f xs ys, none)
 
--- the cells and the numbers of each month, where the sums stay
-pub years_stay : (xs ys : List Asset) (cells : List ℕ) → ((year : ℕ) → sum_by (let_in year) ys ≡ sum_by (let_in year) xs) → AreYears (λ year. sum_by (let_in year) xs) cells → AreYears (λ year. sum_by (let_in year) ys) cells
-years_stay xs ys cells same are = years_same (λ year. sum_by (let_in year) xs) (λ year. sum_by (let_in year) ys) cells are same
-
+-- the numbers of each month, where the sums stay
 pub months_stay : (xs ys : List Asset) (closed : ℕ) (amortized : List ℕ) → ((n : ℕ) → n < closed → sum_by (amortization (n + 1)) ys ≡ sum_by (amortization (n + 1)) xs) → AreAmortized xs closed amortized → AreAmortized ys closed amortized
 months_stay xs ys closed amortized same are = record { count = are.count; are = λ n l. are.are n l ∙ sym (same n l) }
 
@@ -54,13 +48,6 @@ not_leased : (o : Origin) (n : ℕ) → is_number (voucher_of o) n ≡ true → 
 not_leased (purchase m) n e = refl
 not_leased gift n e = cc
 not_leased lease n e = cc
-
-void_let : (n year : ℕ) (a : Asset) → let_in year (voids n a) ≡ let_in year a
-void_let n year a = by_test (is_number (voucher_of a.origin) n)
-  where
-    by_test : (b : Bool) → let_in year (if b then staged void a else a) ≡ let_in year a
-    by_test true = refl
-    by_test false = refl
 
 void_amortized : (n months : ℕ) (a : Asset) → amortization months (voids n a) ≡ amortization months a
 void_amortized n months a = by_test (is_number (voucher_of a.origin) n) (not_leased a.origin n)
@@ -73,22 +60,12 @@ void_amortized n months a = by_test (is_number (voucher_of a.origin) n) (not_lea
     by_test true other = neither (is_leased a.origin) (depreciation months (staged void a)) (depreciation months a) (other refl)
     by_test false other = refl
 
-pub void_years : (n : ℕ) (assets : List Asset) (cells : List ℕ) → AreYears (λ year. sum_by (let_in year) assets) cells → AreYears (λ year. sum_by (let_in year) (map (voids n) assets)) cells
-void_years n assets cells are = years_stay assets (map (voids n) assets) cells (λ year. stays (let_in year) (voids n) assets (each (λ a. let_in year (voids n a) ≡ let_in year a) (void_let n year) assets)) are
-
 pub void_months : (n : ℕ) (assets : List Asset) (closed : ℕ) (amortized : List ℕ) → AreAmortized assets closed amortized → AreAmortized (map (voids n) assets) closed amortized
 void_months n assets closed amortized are =
     months_stay assets (map (voids n) assets) closed amortized
     (λ m l. stays (amortization (m + 1)) (voids n) assets (each (λ a. amortization (m + 1) (voids n a) ≡ amortization (m + 1) a) (void_amortized n (m + 1)) assets)) are
 
 -- ---- a disposal: by the rule it is of an asset that isn't leased
-
-dispose_let : (number at closed year : ℕ) (a : Asset) → let_in year (disposes number at closed a) ≡ let_in year a
-dispose_let number at closed year a = by_test (a.number == number)
-  where
-    by_test : (b : Bool) → let_in year (if b then staged (disposed at closed) a else a) ≡ let_in year a
-    by_test true = refl
-    by_test false = refl
 
 dispose_amortized : (on : Day) (number at closed months : ℕ) (a : Asset) → ((a.number == number) ≡ true → disposed_asset on a ≡ None) → amortization months (disposes number at closed a) ≡ amortization months a
 dispose_amortized on number at closed months a rule = by_test (a.number == number) rule
@@ -106,11 +83,6 @@ dispose_amortized on number at closed months a rule = by_test (a.number == numbe
     by_test : (b : Bool) → (b ≡ true → disposed_asset on a ≡ None) → amortization months (if b then staged (disposed at closed) a else a) ≡ amortization months a
     by_test true rule = neither (is_leased a.origin) (depreciation months (staged (disposed at closed) a)) (depreciation months a) (other (rule refl))
     by_test false rule = refl
-
-pub dispose_years : (number at closed : ℕ) (assets : List Asset) (cells : List ℕ) → AreYears (λ year. sum_by (let_in year) assets) cells → AreYears (λ year. sum_by (let_in year) (map (disposes number at closed) assets)) cells
-dispose_years number at closed assets cells are =
-    years_stay assets (map (disposes number at closed) assets) cells
-    (λ year. stays (let_in year) (disposes number at closed) assets (each (λ a. let_in year (disposes number at closed a) ≡ let_in year a) (dispose_let number at closed year) assets)) are
 
 pub dispose_months : (on : Day) (number at months : ℕ) (assets : List Asset) (closed : ℕ) (amortized : List ℕ) → first_refusal (disposed_asset on) (filter (λ a. a.number == number) assets) ≡ None →
     AreAmortized assets closed amortized → AreAmortized (map (disposes number at months) assets) closed amortized
@@ -134,17 +106,8 @@ bought_none f none plan voucher on year number (i ∷ items) =
         omega (arith, sum_by-cons f a (bought plan voucher on year (number + 1) items), none a refl, next)
     by_test false next same = same
 
-not_let : (year : ℕ) (a : Asset) → is_leased a.origin ≡ false → let_in year a ≡ 0
-not_let year a e = rw e refl
-
 not_amortized : (months : ℕ) (a : Asset) → is_leased a.origin ≡ false → amortization months a ≡ 0
 not_amortized months a e = rw e refl
-
-pub bought_years : (plan : Plan) (voucher : ℕ) (on : Day) (year number : ℕ) (items : List VoucherItem) (assets : List Asset) (cells : List ℕ) → AreYears (λ y. sum_by (let_in y) assets) cells →
-    AreYears (λ y. sum_by (let_in y) (assets ++ bought plan voucher on year number items)) cells
-bought_years plan voucher on year number items assets cells are =
-    let new = bought plan voucher on year number items in
-    years_stay assets (assets ++ new) cells (λ y. adds_none (let_in y) assets new (bought_none (let_in y) (not_let y) plan voucher on year number items)) are
 
 pub bought_months : (plan : Plan) (voucher : ℕ) (on : Day) (year number : ℕ) (items : List VoucherItem) (assets : List Asset) (closed : ℕ) (amortized : List ℕ) → AreAmortized assets closed amortized →
     AreAmortized (assets ++ bought plan voucher on year number items) closed amortized
@@ -170,24 +133,6 @@ new_months assets a closed amortized is early are =
 
     none : (n : ℕ) → n < closed → amortization (n + 1) a ≡ 0
     none n l = part (is_leased a.origin) (depreciation (n + 1) a) (not_yet (n + 1) a (omega (arith, counted_is a.stage (n + 1) is, early, l)))
-
-pub lease_years : (assets : List Asset) (a : Asset) (cells : List ℕ) → is_leased a.origin ≡ true → 1970 ≤ a.year → a.year ≤ 2200 → AreYears (λ y. sum_by (let_in y) assets) cells →
-    AreYears (λ y. sum_by (let_in y) (assets ++ a ∷ [])) (with_cell cells a.year (cell_of cells a.year + a.cost))
-lease_years assets a cells is from to are =
-    push_adds let_in assets a cells a.year a.cost are from to (here (is_leased a.origin) (a.year == a.year) is (same a.year)) (λ y apart. there (is_leased a.origin) (a.year == y) (other a.year y apart))
-  where
-    same : (n : ℕ) → (n == n) ≡ true
-    same n = grind (arith, common_steps)
-
-    other : (m n : ℕ) → (n ≡ m → ⊥) → (m == n) ≡ false
-    other m n apart = grind (arith, common_steps)
-
-    here : (b t : Bool) → b ≡ true → t ≡ true → (if b && t then a.cost else 0) ≡ a.cost
-    here b t e f = rw (e, f) refl
-
-    there : (b t : Bool) → t ≡ false → (if b && t then a.cost else 0) ≡ 0
-    there true t e = rw e refl
-    there false t e = refl
 
 -- ---- the close of a month
 
@@ -261,15 +206,6 @@ pub amortized_most : (months : ℕ) (assets : List Asset) → AreCheap assets �
 amortized_most months [] cheap = omega arith
 amortized_most months (a ∷ assets) cheap =
     omega (arith, sum_by-cons (amortization months) a assets, amortization_most months a, depreciation_most months a, cheap zero a (omega arith), amortized_most months assets (λ k d l. cheap (suc k) d (omega arith)))
-
-pub let_most : (year : ℕ) (assets : List Asset) → AreCheap assets → sum_by (let_in year) assets ≤ length assets * most_cents
-let_most year [] cheap = omega arith
-let_most year (a ∷ assets) cheap =
-    omega (arith, sum_by-cons (let_in year) a assets, part (is_leased a.origin && (a.year == year)), cheap zero a (omega arith), let_most year assets (λ k d l. cheap (suc k) d (omega arith)))
-  where
-    part : (b : Bool) → (if b then a.cost else 0) ≤ a.cost
-    part true = omega arith
-    part false = omega arith
 
 -- ---- the assets that are leased, and the others
 

@@ -7,7 +7,7 @@ use Rattle.cf_assets.specs.Inventory.{Inventory}
 use Rattle.cf_assets.specs.Rows.{view_asset, AreRows}
 use Rattle.cf_assets.specs.Serving.{ServeAll}
 use Rattle.cf_model.specs.Assets.{Asset, depreciation}
-use Rattle.cf_assets.specs.Years.{bought_in, given_in, book_in}
+use Rattle.cf_assets.specs.Years.{bought_in, given_in, let_in, book_in}
 use Rattle.cf_register_parts.specs.Years.{AreYears}
 use Rattle.cf_register_parts.specs.Limits.{most_items}
 
@@ -33,6 +33,7 @@ pub record IsSound (a : Inside) : Type 0 where
   pub accumulated : AreAccumulated (map view_asset a.rows.items) a.accumulated.items
   pub outlay : AreYears (λ year. sum_by (bought_in year) (map view_asset a.rows.items)) a.outlay
   pub donated : AreYears (λ year. sum_by (given_in year) (map view_asset a.rows.items)) a.donated
+  pub leased : AreYears (λ year. sum_by (let_in year) (map view_asset a.rows.items)) a.leased
   pub disposals : AreYears
       (λ year. sum_by (book_in (length a.accumulated.items) year) (map view_asset a.rows.items))
       a.disposals

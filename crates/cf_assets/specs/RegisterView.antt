@@ -1,13 +1,11 @@
 -- What the register's fields stand for.
-use Rattle.std.specs.Prelude.{◌-◌, ◌*◌, ◌≤◌, min, length, sum_by}
+use Rattle.std.specs.Prelude.{◌-◌, ◌*◌, ◌≤◌, min, length}
 use Rattle.std.specs.Vec.{vec_capacity}
 use Rattle.cf_base.specs.Limits.{most_entries}
 use Rattle.cf_assets.specs.declared.assets.Assets.TheInside.{Inside}
 use Rattle.cf_assets.specs.Extents.{AreExtents}
 use Rattle.cf_assets.specs.Leases.{AreAmortized}
 use Rattle.cf_assets.specs.Register.{Register}
-use Rattle.cf_assets.specs.Years.{let_in}
-use Rattle.cf_register_parts.specs.Years.{AreYears}
 
 abbrev pub register_of : Inside → Register
 register_of a = record {
@@ -29,5 +27,4 @@ pub record IsSound (a : Inside) : Type 0 where
   pub closed : a.inventory.closed ≤ a.acts
   pub vouchers : length a.vouchers.items ≤ a.acts
   pub extents : AreExtents a.vouchers.items a.inventory.assets
-  pub leased : AreYears (λ year. sum_by (let_in year) a.inventory.assets) a.leased
   pub amortized : AreAmortized a.inventory.assets a.inventory.closed a.amortized.items

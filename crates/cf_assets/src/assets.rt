@@ -18,7 +18,7 @@ use cf_calls::acts::AssetAct;
 use cf_calls::shown::AssetState;
 use cf_calls::{Act, Drawn, Read, Shown};
 use cf_chart::Chart;
-use cf_register_parts::{Extent, YEARS, no_years};
+use cf_register_parts::Extent;
 use std::alloc::{AllocError, Global};
 use std::marker::Model;
 
@@ -30,8 +30,6 @@ pub struct Assets {
     pub(crate) inventory: Inventory,
     /// The assets of each voucher, by its number from 1.
     pub(crate) vouchers: Vec<Extent>,
-    /// The cost of what was leased, in cents, by fiscal year.
-    pub(crate) leased: [u128; YEARS],
     /// The amortization of all leased assets after one closed month, after two, and so on, in
     /// cents.
     pub(crate) amortized: Vec<u128>,
@@ -72,7 +70,6 @@ impl Assets {
         Assets {
             inventory: Inventory::new(alloc),
             vouchers: Vec::new(alloc),
-            leased: no_years(),
             amortized: Vec::new(alloc),
             acts: 0,
         }

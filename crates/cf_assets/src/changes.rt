@@ -1,25 +1,22 @@
 //! Capital assets and right-to-use assets in the reconciliation of fund balances and net position
 //! (GASB Statements 34 and 87).
 
-ghost use Rattle.std.specs.Prelude.{◌≡◌, ◌≤◌, ◌-◌, sum_by};
+ghost use Rattle.std.specs.Prelude.{◌≡◌, ◌≤◌, sum_by};
 ghost use Rattle.std.specs.List.{AllByRecursion};
 ghost use Rattle.cf_base.specs.Limits.{last_fiscal_year};
 ghost use Rattle.cf_assets.specs.Changes.{asset_changes};
 ghost use Rattle.cf_calls.specs.Form.{IsYear};
-ghost use Rattle.cf_assets.specs.Inventory.{AreKept};
-ghost use Rattle.cf_assets.specs.Years.{let_in};
-ghost use Rattle.cf_register_parts.specs.Years.{sum_to};
 ghost use Rattle.cf_model.specs.Assets as spec;
 ghost use Rattle.cf_model.specs.Assets.{depreciation};
 ghost use Rattle.cf_model.specs.Months.{closed_to};
 ghost use Rattle.cf_model.specs.Sums.{int_sum};
 ghost use Rattle.cf_model.proofs.Depreciated.{IsSoundAsset};
-ghost use Rattle.cf_register_parts.specs.Limits.{most_in_years, most_total};
+ghost use Rattle.cf_register_parts.specs.Limits.{most_total};
 
 use crate::assets::Assets;
 use crate::inventory::accumulated_after;
 use cf_chart::Chart;
-use cf_register_parts::{amount_in, difference, total_through, years_to};
+use cf_register_parts::{difference, years_to};
 
 /// The rows of assets in the change of a fiscal year, in cents, each as it is added.
 #[derive(Clone, Copy)]
@@ -58,7 +55,10 @@ impl Assets {
             (spec.leased self.now.assets) }
     {
         let months = closed_through(chart, self.closed(), year);
-        difference(self.leased_through(year), self.amortized_to(months))
+        difference(
+            self.inventory.leased_through(year),
+            self.amortized_to(months),
+        )
     }
 
     /// The depreciation of what the city owns over the first so many months, which are closed, in
@@ -83,29 +83,6 @@ impl Assets {
         accumulated_after(&self.amortized, months)
     }
 
-    /// The cost of what was leased in the fiscal years up to a year, in cents.
-    fn leased_through(&self, year: u16) -> u128
-        requires { year ≤ last_fiscal_year }
-        ensures value { result ≡ sum_to (λ y. sum_by (let_in y) self.now.assets) (year - 1969) }
-        ensures most { result ≤ most_in_years }
-        ensures first { AreKept self.now.assets }
-    {
-        let _cost = self.inventory.acquired_through(year);
-        let _count = self.inventory.count();
-        total_through(&self.leased, year)
-    }
-
-    /// The cost of what was leased in a fiscal year, in cents.
-    fn leased_in(&self, year: u16) -> u128
-        requires from { 1970 ≤ year }
-        requires to { year ≤ last_fiscal_year }
-        ensures value { result ≡ sum_by (let_in year) self.now.assets }
-        ensures most { result ≤ most_total }
-    {
-        let _count = self.inventory.count();
-        amount_in(&self.leased, year)
-    }
-
     /// What a fiscal year changes.
     pub fn year_changes(&self, chart: &Chart, year: u16) -> AssetChanges
         requires { IsYear year }
@@ -120,7 +97,7 @@ impl Assets {
         AssetChanges {
             outlay: difference(sums.bought, 0),
             donated: difference(sums.given, 0),
-            right_to_use: difference(self.leased_in(year), 0),
+            right_to_use: difference(sums.leased, 0),
             depreciation: difference(self.depreciated_to(months_before), depreciated),
             amortization: difference(self.amortized_to(months_before), amortized),
             disposals: difference(0, sums.gone),

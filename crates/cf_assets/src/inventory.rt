@@ -1,20 +1,20 @@
 //! Capital assets by number, with their sums by fiscal year.
 
-ghost use Rattle.std.specs.Prelude.{false, ◌≡◌, ◌≤◌, ◌<◌, ◌+◌, ◌∷◌, ◌++◌, ℕ, [], true, is_some, length, sum_by, slice_index_or, OnOk, IfSome, option_map, option_to_list, ◌==◌};
+ghost use Rattle.std.specs.Prelude.{false, ◌≡◌, ◌≤◌, ◌<◌, ◌+◌, ◌^◌, ◌∷◌, ◌++◌, ℕ, [], true, is_some, length, sum, sum_by, slice_index_or, OnOk, IfSome, option_map, option_to_list, ◌==◌};
 ghost use Rattle.std.specs.List.{filter};
 ghost use Rattle.cf_base.specs.Limits.{last_fiscal_year, most_entries, most_cents};
 ghost use Rattle.cf_chart.specs.Rising.{is_rising};
 ghost use Rattle.cf_assets.specs.Charges.{AreCharges, charge_in, of_kind};
 ghost use Rattle.cf_assets.specs.Inventory.{AreCheap, AreNumbered, StagesOne, accumulated_at};
 ghost use Rattle.cf_assets.specs.Rows.{view_asset, view_origin, IsRow};
-ghost use Rattle.cf_assets.specs.declared.rows.Acquired.TheVariants.{Given, Leased};
+ghost use Rattle.cf_assets.specs.Years.{with_cost};
 ghost use Rattle.cf_assets.specs.Inventory as spec;
-ghost use Rattle.cf_model.specs.Assets.{Asset, held, void, disposed, voucher_of};
+ghost use Rattle.cf_model.specs.Assets.{Asset, held, void, disposed, voucher_of, is_given, is_leased};
 ghost use Rattle.cf_model.specs.RegisterRules.{asset_at};
 ghost use Rattle.cf_register_parts.specs.Limits.{most_items, most_total};
 
 use crate::charges::{MonthCharges, depreciation_of, function_charges, total_charges};
-use crate::rows::{AssetRow, StageNow};
+use crate::rows::{Acquired, AssetRow, StageNow};
 use crate::serving::{enlist, retire};
 use cf_chart::Function;
 use cf_register_parts::{YEARS, lower, no_years, raise};
@@ -22,7 +22,7 @@ use std::alloc::{AllocError, Global};
 use std::marker::Model;
 
 /// Assets by number, from 1. What all of them were depreciated by is kept after each closed month,
-/// and what was bought, given and disposed of by fiscal year, so that nothing goes over all assets
+/// and what was bought, given, leased and disposed of by fiscal year, so that nothing goes over all assets
 /// again.
 #[derive(Drop)]
 pub struct Inventory {
@@ -34,6 +34,7 @@ pub struct Inventory {
     /// The cost of what vouchers bought, in cents, by fiscal year.
     pub(crate) outlay: [u128; YEARS],
     pub(crate) donated: [u128; YEARS],
+    pub(crate) leased: [u128; YEARS],
     /// The book value of what was disposed of.
     pub(crate) disposals: [u128; YEARS],
 }
@@ -62,6 +63,7 @@ impl Inventory {
             accumulated: Vec::new(alloc),
             outlay: no_years(),
             donated: no_years(),
+            leased: no_years(),
             disposals: no_years(),
         }
     }
@@ -125,9 +127,8 @@ impl Inventory {
         self.accumulated.reserve(1)
     }
 
-    /// Enters an asset that a voucher bought. It takes no memory.
-    pub fn buy(&mut self, row: AssetRow)
-        requires voucher { is_some (voucher_of (view_origin row.acquired)) ≡ true }
+    /// Enters an asset. It takes no memory.
+    pub fn enter(&mut self, row: AssetRow)
         requires new { spec.IsNew row self.old }
         requires room { 1 ≤ self.old.room }
         requires few { length self.old.assets < most_items }
@@ -136,36 +137,7 @@ impl Inventory {
         ensures room { self.old.room ≤ self.new.room + 1 }
     {
         let at = self.rows.len() as u32;
-        raise(&mut self.outlay, row.year, row.cost);
-        enlist(&mut self.serving, at, &row);
-        self.rows.push_reserved(row);
-    }
-
-    /// Enters an asset that was given. It takes no memory.
-    pub fn accept_gift(&mut self, row: AssetRow)
-        requires gift { row.acquired ≡ Given }
-        requires new { spec.IsNew row self.old }
-        requires room { 1 ≤ self.old.room }
-        requires few { length self.old.assets < most_items }
-        ensures assets { self.new.assets ≡ self.old.assets ++ view_asset row ∷ [] }
-        ensures closed { self.new.closed ≡ self.old.closed }
-    {
-        let at = self.rows.len() as u32;
-        raise(&mut self.donated, row.year, row.cost);
-        enlist(&mut self.serving, at, &row);
-        self.rows.push_reserved(row);
-    }
-
-    /// Enters an asset that is leased. It takes no memory.
-    pub fn accept_lease(&mut self, row: AssetRow)
-        requires lease { row.acquired ≡ Leased }
-        requires new { spec.IsNew row self.old }
-        requires room { 1 ≤ self.old.room }
-        requires few { length self.old.assets < most_items }
-        ensures assets { self.new.assets ≡ self.old.assets ++ view_asset row ∷ [] }
-        ensures closed { self.new.closed ≡ self.old.closed }
-    {
-        let at = self.rows.len() as u32;
+        add_cost(&mut self.outlay, &mut self.donated, &mut self.leased, &row);
         enlist(&mut self.serving, at, &row);
         self.rows.push_reserved(row);
     }
@@ -250,4 +222,30 @@ fn staged(row: AssetRow, stage: StageNow) -> AssetRow
     let mut row = row;
     row.stage = stage;
     row
+}
+
+/// Adds the cost of a new asset to its fiscal year, among what was bought, given or leased.
+fn add_cost(
+    outlay: &mut [u128; YEARS],
+    donated: &mut [u128; YEARS],
+    leased: &mut [u128; YEARS],
+    row: &AssetRow,
+)
+    requires from { 1970 ≤ row.now.year }
+    requires to { row.now.year ≤ last_fiscal_year }
+    requires outlay_fits { sum outlay.old + row.now.cost < 2 ^ 128 }
+    requires donated_fits { sum donated.old + row.now.cost < 2 ^ 128 }
+    requires leased_fits { sum leased.old + row.now.cost < 2 ^ 128 }
+    ensures outlay { outlay.new
+        ≡ with_cost (is_some (voucher_of (view_origin row.now.acquired))) row.now outlay.old }
+    ensures donated { donated.new
+        ≡ with_cost (is_given (view_origin row.now.acquired)) row.now donated.old }
+    ensures leased { leased.new
+        ≡ with_cost (is_leased (view_origin row.now.acquired)) row.now leased.old }
+{
+    match row.acquired {
+        Acquired::Bought(_) => raise(outlay, row.year, row.cost),
+        Acquired::Given => raise(donated, row.year, row.cost),
+        Acquired::Leased => raise(leased, row.year, row.cost),
+    }
 }

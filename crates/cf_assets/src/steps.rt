@@ -1,6 +1,6 @@
 //! What each act makes of assets.
 
-ghost use Rattle.std.specs.Prelude.{◌≡◌, ◌≤◌, ◌<◌, ◌+◌, ◌-◌, ◌∷◌, ◌++◌, ◌==◌, [], ℕ, true, if◌then◌else◌, length, map, is_some};
+ghost use Rattle.std.specs.Prelude.{◌≡◌, ◌≤◌, ◌<◌, ◌+◌, ◌-◌, ◌∷◌, ◌++◌, ◌==◌, [], ℕ, true, if◌then◌else◌, length, map};
 ghost use Rattle.std.specs.List.{filter};
 ghost use Rattle.cf_assets.specs.Register.{HasRoomForVoucher, IsNextVoucher};
 ghost use Rattle.cf_assets.specs.Steps.{AreMost, IsTitled, CanVoid, voids, disposes};
@@ -30,7 +30,7 @@ use cf_calls::acts::{Donation, NewLease, NewVoucher};
 use cf_calls::items::VoucherItem;
 use cf_chart::Chart;
 use cf_register_parts::{
-    Extent, extent_of, function_of, is_capital, life_of, number_of_day, raise, year_of_day,
+    Extent, extent_of, function_of, is_capital, life_of, number_of_day, year_of_day,
 };
 
 /// How an asset is acquired: how, for which day and fiscal year, and from which month it serves.
@@ -133,7 +133,7 @@ impl Assets {
         };
         let life = life_of(chart, gift.object);
         let row = new_row(chart, title, number, gift.dept, life, gift.amount);
-        self.inventory.accept_gift(row);
+        self.inventory.enter(row);
         self.acts += 1;
     }
 
@@ -163,9 +163,7 @@ impl Assets {
         let account = lease.account;
         let life = life_of_lease(chart, lease);
         let row = new_row(chart, title, number, account.dept, life, account.amount);
-        let _count = self.inventory.count();
-        raise(&mut self.leased, row.year, row.cost);
-        self.inventory.accept_lease(row);
+        self.inventory.enter(row);
         self.acts += 1;
     }
 
@@ -241,7 +239,6 @@ fn new_row(chart: &Chart, title: Title, number: u32, dept: u16, life: u16, cost:
 /// Enters an asset for each item of a voucher on a capital object.
 fn buy_all(inventory: &mut Inventory, chart: &Chart, title: Title, items: &[VoucherItem])
     requires titled { IsTitled chart.now title }
-    requires voucher { is_some (voucher_of (view_origin title.acquired)) ≡ true }
     requires from { 1970 ≤ title.year }
     requires to { title.year ≤ last_fiscal_year }
     requires early { inventory.old.closed ≤ title.service }
@@ -267,7 +264,7 @@ fn buy_all(inventory: &mut Inventory, chart: &Chart, title: Title, items: &[Vouc
                 life_of(chart, account.object),
                 account.amount,
             );
-            inventory.buy(row);
+            inventory.enter(row);
         }
     }
 }

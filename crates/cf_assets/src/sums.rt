@@ -3,7 +3,7 @@
 ghost use Rattle.std.specs.Prelude.{◌≡◌, ◌≤◌, ◌*◌, ◌+◌, ◌-◌, sum_by};
 ghost use Rattle.cf_base.specs.Limits.{last_fiscal_year};
 ghost use Rattle.cf_assets.specs.Inventory.{AreKept};
-ghost use Rattle.cf_assets.specs.Years.{bought_in, given_in, book_in};
+ghost use Rattle.cf_assets.specs.Years.{bought_in, given_in, let_in, book_in};
 ghost use Rattle.cf_register_parts.specs.Years.{sum_to};
 ghost use Rattle.cf_model.specs.Assets.{depreciation};
 ghost use Rattle.cf_register_parts.specs.Limits.{most_in_years, most_total};
@@ -16,6 +16,7 @@ use cf_register_parts::{amount_in, total_through};
 pub struct YearSums {
     pub bought: u128,
     pub given: u128,
+    pub leased: u128,
     /// The book value of what was disposed of.
     pub gone: u128,
 }
@@ -37,14 +38,17 @@ impl Inventory {
         requires to { year ≤ last_fiscal_year }
         ensures bought { result.bought ≡ sum_by (bought_in year) self.now.assets }
         ensures given { result.given ≡ sum_by (given_in year) self.now.assets }
+        ensures leased { result.leased ≡ sum_by (let_in year) self.now.assets }
         ensures gone { result.gone ≡ sum_by (book_in self.now.closed year) self.now.assets }
         ensures most_bought { result.bought ≤ most_total }
         ensures most_given { result.given ≤ most_total }
+        ensures most_leased { result.leased ≤ most_total }
         ensures most_gone { result.gone ≤ most_total }
     {
         YearSums {
             bought: amount_in(&self.outlay, year),
             given: amount_in(&self.donated, year),
+            leased: amount_in(&self.leased, year),
             gone: amount_in(&self.disposals, year),
         }
     }
@@ -59,6 +63,16 @@ impl Inventory {
         ensures first { AreKept self.now.assets }
     {
         total_through(&self.outlay, year) + total_through(&self.donated, year)
+    }
+
+    /// The cost of what was leased in the fiscal years up to a year, in cents.
+    pub fn leased_through(&self, year: u16) -> u128
+        requires { year ≤ last_fiscal_year }
+        ensures value { result ≡ sum_to (λ y. sum_by (let_in y) self.now.assets) (year - 1969) }
+        ensures most { result ≤ most_in_years }
+        ensures first { AreKept self.now.assets }
+    {
+        total_through(&self.leased, year)
     }
 
     /// The book value of what was disposed of in the fiscal years up to a year, in cents.

@@ -277,10 +277,10 @@ pub asset_row_send : IsSend AssetRow.the_row
 asset_row_send = search (sendable, crosses) depth 40
 
 pub inventory_send : IsSend inventory.the_row
-inventory_send = view_send _ _ _ _ _ (recorded_send inventory_inside.the_field.row _ _ inventory_inside.the_type.to_one (struct_send (shape inventory_inside.the_type) (heap.Vec-send _ asset_row_send, (heap.Vec-send _ (search sendable), (heap.Vec-send _ (search sendable), (search sendable, (search sendable, (search sendable, tt))))))))
+inventory_send = view_send _ _ _ _ _ (recorded_send inventory_inside.the_field.row _ _ inventory_inside.the_type.to_one (struct_send (shape inventory_inside.the_type) (heap.Vec-send _ asset_row_send, (heap.Vec-send _ (search sendable), (heap.Vec-send _ (search sendable), (search sendable, (search sendable, (search sendable, (search sendable, tt)))))))))
 
 pub assets_send : IsSend assets.the_row
-assets_send = view_send _ _ _ _ _ (recorded_send assets_inside.the_field.row _ _ assets_inside.the_type.to_one (struct_send (shape assets_inside.the_type) (inventory_send, (heap.Vec-send _ (search sendable depth 20), (search sendable, (heap.Vec-send _ (search sendable), (search sendable, tt)))))))
+assets_send = view_send _ _ _ _ _ (recorded_send assets_inside.the_field.row _ _ assets_inside.the_type.to_one (struct_send (shape assets_inside.the_type) (inventory_send, (heap.Vec-send _ (search sendable depth 20), (heap.Vec-send _ (search sendable), (search sendable, tt))))))
 
 pub chart_send : IsSend chart.the_row
 chart_send = view_send _ _ _ _ _ (recorded_send chart_inside.the_field.row _ _ chart_inside.the_type.to_one (struct_send (shape chart_inside.the_type) (text_send, (search sendable, (search sendable, (list_send _ function_send, (list_send _ fund_send, (list_send _ department_send, (list_send _ object_send, (list_send _ source_send, (list_send _ line_send, (maps.BTreeMap-send _ _ _ line_key_eq.ghosts line_key_partial.ghosts line_key_send u16_send, (list_send _ desk_send, tt)))))))))))))

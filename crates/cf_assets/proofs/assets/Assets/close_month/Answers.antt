@@ -33,7 +33,6 @@ invariant_of-self c =
       closed = omega (arith, was.closed, c.close-leased.ensures.closed);
       vouchers = omega (arith, was.vouchers);
       extents = rw c.close-leased.ensures.assets was.extents;
-      leased = rw c.close-leased.ensures.assets was.leased;
       amortized = rw (c.close-leased.ensures.assets, c.close-leased.ensures.closed, c.push_reserved.ensures.items)
           (close_months inventory.assets inventory.closed amortized c.accumulated_after-before.result c.close-leased.result before c.close-leased.ensures.leased was.amortized);
     }

@@ -3,7 +3,7 @@ use Rattle.std.specs.List.{filter}
 use Rattle.std.proofs.lemmas.List.{length-map}
 use Rattle.cf_assets.specs.Register.{Register}
 use Rattle.cf_assets.specs.Steps.{disposes}
-use Rattle.cf_assets.proofs.Leases.{dispose_years, dispose_months}
+use Rattle.cf_assets.proofs.Leases.{dispose_months}
 use Rattle.cf_model.specs.Assets.{Asset}
 use Rattle.cf_model.specs.RegisterRules.{disposed_asset}
 use Rattle.cf_model.specs.Rules.{first_refusal}
@@ -26,7 +26,6 @@ invariant_of-self c =
       closed = omega (arith, was.closed, c.dispose_of.ensures.closed);
       vouchers = omega (arith, was.vouchers);
       extents = rw c.dispose_of.ensures.assets (extents_map (disposes c.args.number year inventory.closed) c.self.inside.vouchers.items inventory.assets (disposes_keep c.args.number year inventory.closed) was.extents);
-      leased = rw c.dispose_of.ensures.assets (dispose_years c.args.number year inventory.closed inventory.assets c.self.inside.leased was.leased);
       amortized = rw (c.dispose_of.ensures.assets, c.dispose_of.ensures.closed)
           (dispose_months c.args.on c.args.number year inventory.closed inventory.assets inventory.closed c.self.inside.amortized.items rule was.amortized);
     }

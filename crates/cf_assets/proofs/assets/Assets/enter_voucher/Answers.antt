@@ -1,7 +1,7 @@
 use Rattle.std.proofs.Common.{◌≡◌, ◌+◌, ◌<◌, ◌≤◌, ℕ, Some, List, length, refl, sym, subst, ap, ◌∙◌, arith}
 use Rattle.std.proofs.lemmas.List.{length-append}
 use Rattle.cf_assets.specs.Register.{Register}
-use Rattle.cf_assets.proofs.Leases.{bought_years, bought_months}
+use Rattle.cf_assets.proofs.Leases.{bought_months}
 use Rattle.cf_assets.proofs.Standing.{extents_push, bought_its}
 use Rattle.cf_calls.specs.declared.items.VoucherItem.{VoucherItem}
 use Rattle.cf_assets.proofs.assets.Assets.enter_voucher.Goals as goal
@@ -21,7 +21,6 @@ invariant_of-self c =
       vouchers = rw (c.push_reserved.ensures.items, length-append c.self.inside.vouchers.items) (omega (arith, was.vouchers));
       extents = rw (c.push_reserved.ensures.items, c.count-first.ensures.value, c.count-end.ensures.value, is)
           (extents_push c.self.inside.vouchers.items c.self.inside.inventory.assets _ was.extents (λ k d l. bought_its c.args.chart.now c.args.drawn.number c.args.on _ _ c.as_slice.result.now k d l ∙ ap (λ (n : ℕ). Some n) next));
-      leased = rw is (bought_years c.args.chart.now c.args.drawn.number c.args.on _ _ c.as_slice.result.now c.self.inside.inventory.assets c.self.inside.leased was.leased);
       amortized = rw (is, c.buy_all.ensures.closed)
           (bought_months c.args.chart.now c.args.drawn.number c.args.on _ _ c.as_slice.result.now c.self.inside.inventory.assets c.self.inside.inventory.closed c.self.inside.amortized.items was.amortized);
     }

@@ -1,5 +1,4 @@
 use Rattle.std.proofs.Common.{arith, refl}
-use Rattle.cf_register_parts.proofs.Cells.{none_years}
 use Rattle.cf_assets.proofs.Standing.{extents_none}
 use Rattle.cf_assets.proofs.assets.Assets.new.Goals as goal
 
@@ -10,6 +9,5 @@ invariant_of-result c = record {
   closed = rw c.new.ensures.closed (omega arith);
   vouchers = rw c.new-2.ensures.items (omega arith);
   extents = rw (c.new-2.ensures.items, c.new.ensures.assets) extents_none;
-  leased = rw (c.new.ensures.assets, c.no_years.ensures) (none_years (λ y. 0) (λ y. refl));
   amortized = rw (c.new.ensures.assets, c.new.ensures.closed, c.new-3.ensures.items) (record { count = refl; are = λ n l. absurd (omega arith) });
 }

@@ -1,8 +1,12 @@
-use Rattle.std.proofs.Common.{◌≡◌, ◌+◌, ◌-◌, ◌-ℤ◌, pos, rules, sym, ap, ◌∙◌, sum_by, arith}
+use Rattle.std.proofs.Common.{◌≡◌, ◌+◌, ◌-◌, ◌-ℤ◌, pos, rules, sym, subst, ap, ◌∙◌, sum_by, arith}
 use Rattle.std.proofs.lemmas.Int.{to_z-of_z}
 use mir.Val.{SFits}
 use mir.Syntax.{w128}
+use Rattle.cf_assets.specs.Inventory.{AreKept}
+use Rattle.cf_assets.specs.Register.{Register}
+use Rattle.cf_assets.specs.Years.{let_in}
 use Rattle.cf_assets.proofs.Netting.{leased_net}
+use Rattle.cf_register_parts.specs.Years.{sum_to}
 use Rattle.cf_model.specs.Assets.{depreciation, leased, net}
 use Rattle.cf_model.specs.Months.{closed_to}
 use Rattle.cf_model.specs.Sums.{int_sum}
@@ -21,8 +25,10 @@ returns c =
     c.amortized_to.ensures.value
     ∙ ap (λ m. sum_by (depreciation m) (leased register.assets)) months
     ∙ ap (λ y. sum_by (depreciation (closed_to plan register.closed y)) (leased register.assets)) (sym back) in
+    let first : AreKept register.assets = subst (λ (r : Register). AreKept r.assets) c.self.view_is c.leased_through.ensures.first in
+    let acquired = c.leased_through.ensures.value ∙ ap (λ (r : Register). sum_to (λ y. sum_by (let_in y) r.assets) n) c.self.view_is in
     to_z-of_z w128 c.difference.result fits
     ∙ c.difference.ensures.value
-    ∙ (λ i. pos (c.leased_through.ensures.value i) -ℤ pos (amortized i))
-    ∙ sym (leased_net plan register.closed register.assets c.closed_through-months.ensures.first c.leased_through.ensures.first c.requires.sound n)
+    ∙ (λ i. pos (acquired i) -ℤ pos (amortized i))
+    ∙ sym (leased_net plan register.closed register.assets c.closed_through-months.ensures.first first c.requires.sound n)
     ∙ ap (λ y. int_sum (net plan register.closed y) (leased register.assets)) back

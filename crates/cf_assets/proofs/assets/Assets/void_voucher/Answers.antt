@@ -2,7 +2,7 @@ use Rattle.std.proofs.Common.{◌<◌, sym, subst, arith}
 use Rattle.std.proofs.lemmas.List.{length-map}
 use Rattle.cf_assets.specs.Register.{Register}
 use Rattle.cf_assets.specs.Steps.{voids}
-use Rattle.cf_assets.proofs.Leases.{void_years, void_months}
+use Rattle.cf_assets.proofs.Leases.{void_months}
 use Rattle.cf_assets.proofs.Standing.{extents_map, voids_keep}
 use Rattle.cf_assets.proofs.assets.Assets.void_voucher.Goals as goal
 use Rattle.cf_base.specs.Limits.{most_entries}
@@ -19,6 +19,5 @@ invariant_of-self c =
       closed = omega (arith, was.closed, c.void_all.ensures.closed);
       vouchers = omega (arith, was.vouchers);
       extents = rw c.void_all.ensures.assets (extents_map (voids n) c.self.inside.vouchers.items assets (voids_keep n) was.extents);
-      leased = rw c.void_all.ensures.assets (void_years n assets c.self.inside.leased was.leased);
       amortized = rw (c.void_all.ensures.assets, c.void_all.ensures.closed) (void_months n assets c.self.inside.inventory.closed c.self.inside.amortized.items was.amortized);
     }

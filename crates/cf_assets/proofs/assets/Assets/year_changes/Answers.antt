@@ -3,7 +3,7 @@ use Rattle.std.proofs.lemmas.Int.{to_z-of_z, ints}
 use mir.Val.{SFits}
 use mir.Syntax.{w128}
 use Rattle.cf_assets.specs.Register.{Register}
-use Rattle.cf_assets.specs.Years.{bought_in, given_in, book_in}
+use Rattle.cf_assets.specs.Years.{bought_in, given_in, let_in, book_in}
 use Rattle.cf_assets.proofs.Netting.{outlay_sum, donated_sum, let_sum, book_sum, accumulated_sum}
 use Rattle.cf_model.specs.Assets.{depreciation, leased, owned}
 use Rattle.cf_model.specs.Changes.{outlay, donated, leased_in, depreciated_in, book_value}
@@ -38,7 +38,7 @@ returns c =
     let b : to_z w128 (of_z w128 c.difference-2.result) ≡ int_sum (donated year) assets =
     to_z-of_z w128 c.difference-2.result f2 ∙ c.difference-2.ensures.value ∙ none_less sums.result.given ∙ ap pos (sums.ensures.given ∙ ap (λ (r : Register). sum_by (given_in year) r.assets) view) ∙ sym (donated_sum year assets) in
     let r : to_z w128 (of_z w128 c.difference-3.result) ≡ int_sum (leased_in year) assets =
-    to_z-of_z w128 c.difference-3.result f3 ∙ c.difference-3.ensures.value ∙ none_less c.leased_in.result ∙ ap pos c.leased_in.ensures.value ∙ sym (let_sum year assets) in
+    to_z-of_z w128 c.difference-3.result f3 ∙ c.difference-3.ensures.value ∙ none_less sums.result.leased ∙ ap pos (sums.ensures.leased ∙ ap (λ (r : Register). sum_by (let_in year) r.assets) view) ∙ sym (let_sum year assets) in
     let d : to_z w128 (of_z w128 c.difference-4.result) ≡ pos 0 -ℤ int_sum (depreciated_in plan register.closed year) (owned assets) =
     to_z-of_z w128 c.difference-4.result f4
     ∙ c.difference-4.ensures.value

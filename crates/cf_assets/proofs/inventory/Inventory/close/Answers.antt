@@ -35,5 +35,6 @@ invariant_of-self c =
       accumulated = rw c.push_reserved.ensures.items (close_accumulated (map view_asset rows) accumulated c.accumulated_after-before.result c.total_charges-charges.result.all was.accumulated before charged);
       outlay = was.outlay;
       donated = was.donated;
+      leased = was.leased;
       disposals = rw (c.push_reserved.ensures.items, length-append accumulated) (close_books (length accumulated) rows c.self.inside.disposals was.rows was.disposals);
     }

@@ -3,7 +3,7 @@ use Rattle.std.proofs.lemmas.List.{length-map, length-set}
 use Rattle.cf_assets.specs.Inventory.{Inventory, IsHeldAt, staged}
 use Rattle.cf_assets.specs.InventoryView.{inventory_of}
 use Rattle.cf_assets.specs.Rows.{view_asset}
-use Rattle.cf_assets.specs.Years.{bought_in, given_in, book_in}
+use Rattle.cf_assets.specs.Years.{bought_in, given_in, let_in, book_in}
 use Rattle.cf_assets.specs.declared.inventory.Inventory.TheInside.{Inside}
 use Rattle.cf_assets.specs.declared.rows.AssetRow.{AssetRow}
 use Rattle.cf_assets.specs.declared.rows.StageNow.TheVariants.{Disposed, Held}
@@ -52,6 +52,7 @@ invariant_of-self c =
       accumulated = rw closed (gone_accumulated c.args.at c.args.year rows r accumulated at is was.accumulated);
       outlay = rw closed (restage_same bought_in c.args.at rows r stage c.self.inside.outlay at was.outlay (λ y. gone_bought y c.args.year (length accumulated) r is));
       donated = rw closed (restage_same given_in c.args.at rows r stage c.self.inside.donated at was.donated (λ y. refl));
+      leased = rw closed (restage_same let_in c.args.at rows r stage c.self.inside.leased at was.leased (λ y. refl));
       disposals = rw (closed, c.raise.ensures.cell) (gone_book c.args.at c.args.year (length accumulated) rows r c.self.inside.disposals (r.cost - c.depreciation_of.result) at is c.requires.from c.requires.to value was.disposals);
     }
 

@@ -11,5 +11,6 @@ invariant_of-result c = record {
   accumulated = rw (c.new.ensures.items, c.new-3.ensures.items) (λ n l. absurd (omega arith));
   outlay = rw (c.new.ensures.items, c.no_years.ensures) (none_years (λ y. 0) (λ y. refl));
   donated = rw (c.new.ensures.items, c.no_years-2.ensures) (none_years (λ y. 0) (λ y. refl));
-  disposals = rw (c.new.ensures.items, c.no_years-3.ensures) (none_years (λ y. 0) (λ y. refl));
+  leased = rw (c.new.ensures.items, c.no_years-3.ensures) (none_years (λ y. 0) (λ y. refl));
+  disposals = rw (c.new.ensures.items, c.no_years-4.ensures) (none_years (λ y. 0) (λ y. refl));
 }

@@ -3,7 +3,7 @@ use Rattle.std.proofs.lemmas.List.{length-map, length-set}
 use Rattle.cf_assets.specs.Inventory.{Inventory, IsFreshAt, staged}
 use Rattle.cf_assets.specs.InventoryView.{inventory_of}
 use Rattle.cf_assets.specs.Rows.{view_asset}
-use Rattle.cf_assets.specs.Years.{given_in, book_in}
+use Rattle.cf_assets.specs.Years.{given_in, let_in, book_in}
 use Rattle.cf_assets.specs.declared.inventory.Inventory.TheInside.{Inside}
 use Rattle.cf_assets.specs.declared.rows.AssetRow.{AssetRow}
 use Rattle.cf_assets.specs.declared.rows.StageNow.TheVariants.{Void, Held}
@@ -43,6 +43,7 @@ invariant_of-self c =
       accumulated = rw c.staged.ensures (void_accumulated c.args.at rows r accumulated at (fresh_row (length accumulated) c.args.at rows r at fresh.none) was.accumulated);
       outlay = rw (c.staged.ensures, c.lower.ensures) (void_bought c.args.at rows r c.self.inside.outlay at is (bought_row c.args.at rows r at fresh.bought) row.from row.to was.outlay);
       donated = rw c.staged.ensures (restage_same given_in c.args.at rows r Void c.self.inside.donated at was.donated (λ y. refl));
+      leased = rw c.staged.ensures (restage_same let_in c.args.at rows r Void c.self.inside.leased at was.leased (λ y. refl));
       disposals = rw c.staged.ensures (restage_same (book_in (length accumulated)) c.args.at rows r Void c.self.inside.disposals at was.disposals (λ y. sym (held_book (length accumulated) y r is)));
     }
 
