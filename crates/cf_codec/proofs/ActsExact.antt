@@ -289,6 +289,7 @@ terms-exact on day above amount =
 
 -- a payment at least comes at least a month on
 some_term : (every count : ℕ) → is_period every ≡ true → 1 ≤ count → 0 < every * count
+some_term every zero e l = elim l [ ]
 some_term every (suc count) e l = grind (arith, common_steps)
 
 pub issue-exact : (on : Day) → on.day ≤ 28 → IsWhole (issue on) (λ i. IsTermsForm on i.amount i.terms × ((is_amount i.amount ≡ true) × (list_all is_most i.terms.principals ≡ true)))
