@@ -1,4 +1,4 @@
-use Rattle.std.proofs.Common.{arith, ◌≡◌, ◌<◌, ◌+◌, ◌-◌, ◌∷◌, ap, drop, get_or, length, add-one, drop-cons}
+use Rattle.std.proofs.Common.{arith, ◌≡◌, ◌<◌, ◌+◌, ◌-◌, ◌∷◌, ℕ, List, ap, subst, drop, get_or, length, add-one, drop-cons}
 use Rattle.std.specs.Prelude.{slice_get}
 use Rattle.cf_model.specs.Bonds.{dues}
 use Rattle.cf_books_payments.specs.Payments.{bond_of}
@@ -20,13 +20,14 @@ loop-nth-preserved c =
     let every = c.args.schedule.terms.now.every in
     let principals = c.args.schedule.terms.now.principals in
     let p = get_or principals i 0 in
-    let there : i < length principals = c.loop-nth-test.true in
+    let same : c.as_slice-principal-items.result.now ≡ principals = c.as_slice-principal-items.ensures in
+    let there : i < length principals = subst (λ (xs : List ℕ). i < length xs) same c.loop-nth-test.true in
     let below : i < c.args.number - 1 = omega arith in
     let split : drop i principals ≡ p ∷ drop (i + 1) principals = rw add-one (drop-cons principals i 0 there) in
     record {
       from = inv.from + every;
       before = omega arith;
       behind =
-          rw c.saturating_sub-owed.ensures
+          rw (c.saturating_sub-owed.ensures, same)
           (due_behind every inv.from c.loop-nth.owed (c.args.number - 1) i p (drop i principals) (drop (i + 1) principals) _ split below inv.behind);
     }
