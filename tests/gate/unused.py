@@ -7,7 +7,7 @@ ends with 1 where there is one.
 
 What a run or a verdict needs is cited: each `main`, each test, what the methods of traits do, and each answer
 to a goal. From these on an item cites the items whose names stand in it as whole words: those of its file, and
-those that its file imports. The code of a function cites the functions and types of all crates, its clauses only
+those that its file imports, also by a file that only passes names on. The code of a function cites the functions and types of all crates, its clauses only
 definitions. A comment cites nothing, nor does an import. What is left over is cited by nothing, or only by what
 nothing cites.
 
@@ -165,13 +165,23 @@ def module_of(path):
 
 
 @functools.cache
+def passed_on(module):
+    """The module of each name that a module passes on from another one."""
+    path = f"crates/{module.replace('.', '/')}.antt"
+    if not os.path.exists(path):
+        return {}
+    found = re.findall(r"(?m)^(?:unfoldable )?pub use Rattle\.([\w.]+)\.\{([^}]*)\}", bare(path))
+    return {name.strip(): home for home, names in found for name in names.split(",")}
+
+
+@functools.cache
 def imports(path):
     """The items that a file imports, by the names that it has for them: the module and the name, or the module and None for all of it."""
     made = collections.defaultdict(list)
     for module, names, alias in re.findall(r"(?m)\buse Rattle\.([\w.]+?)(?:\.\{([^}]*)\})?(?: as (\w+))?(?=;|\s*$)", bare(path)):
         for one in filter(None, names.split(",")):
             name, _, other = one.strip().partition(" as ")
-            made[other or name].append((module, name))
+            made[other or name].append((passed_on(module).get(name, module), name))
         if not names:
             above, _, last = module.rpartition(".")
             made[alias or last] += [(module, None), (above, last)]

@@ -1,6 +1,6 @@
 //! Journals over files that print their calls.
 
-ghost use Rattle.cf_calls.specs.Form.{IsEntryInForm};
+ghost use Rattle.cf_calls.specs.Common.{IsEntryInForm};
 
 use crate::said::held;
 use crate::traced::{CallLog, TracedFiles};

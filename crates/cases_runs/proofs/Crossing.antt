@@ -1,6 +1,6 @@
 -- The callers of a hall may be shared.
 use denote.Param.Send.{IsSend, IsSync, sendable}
-use Rattle.std.proofs.Crossing.{crosses}
+use Rattle.cf_base.proofs.Common.{crosses}
 use Rattle.cases_runs.specs.contracts.halls.caller.Step as step
 use Rattle.cases_runs.specs.contracts.halls.caller.Caller as caller
 use Rattle.cases_runs.specs.contracts.halls.hall.Table as table

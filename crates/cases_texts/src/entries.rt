@@ -1,6 +1,6 @@
 //! What is said of a payload: the entry that begins it, or the offset of the first faulty field.
 
-ghost use Rattle.cf_calls.specs.Form.{IsEntryInForm};
+ghost use Rattle.cf_calls.specs.Common.{IsEntryInForm};
 
 use crate::lines::tell_change;
 use crate::page::Page;

@@ -1,6 +1,6 @@
 //! What is said of a line: the call that it is, or the form reply.
 
-ghost use Rattle.cf_calls.specs.Form.{IsCallInForm, IsChangeInForm};
+ghost use Rattle.cf_calls.specs.Common.{IsCallInForm, IsChangeInForm};
 
 use crate::page::Page;
 use cf_calls::{Call, Change};

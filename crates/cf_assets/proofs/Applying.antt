@@ -1,32 +1,14 @@
 -- What each act makes of assets, as the step of all registers has it.
-use Rattle.std.proofs.Common.{◌≡◌, ◌⊎◌, ℕ, zero, suc, ◌≤◌, Bool, true, false, ◌==◌, not, ◌&&◌, nat_le, List, [], ◌∷◌, ◌++◌, map, Option, Some, None, refl, sym, subst, ap, ◌∙◌, arith}
-use Rattle.std.proofs.lemmas.Grind.{common_steps}
-use Rattle.std.proofs.lemmas.List.{map-id, append-nil}
-use Rattle.std.specs.List.{filter}
+use Rattle.std.proofs.Common.{◌≡◌, ◌⊎◌, ℕ, zero, suc, ◌≤◌, Bool, true, false, ◌==◌, not, ◌&&◌, nat_le, List, [], ◌∷◌, ◌++◌, map, Option, Some, None, refl, sym, subst, ap, ◌∙◌, arith, filter}
+use Rattle.cf_base.proofs.Common.{common_steps, map-id, append-nil}
 use Rattle.cf_assets.specs.Register.{Register, IsOf}
 use Rattle.cf_assets.specs.Steps.{AreMost}
-use Rattle.cf_base.specs.declared.calendar.Day.{Day}
+use Rattle.cf_model.specs.Common.{Day, Act, Donate, Dispose, AssetAct, Disposal, Donation, NewLease, NewVoucher, Period, Drawn, VoucherItem, Refusal, Asset, asset_step, assets_by, voucher_of, is_number, voided_asset, disposed_asset, asset_refusal, Registers, no_registers, amount, bad_amount, first_refusal, refuse_if, or_else}
 use Rattle.cf_calls.specs.declared.acts.Act.TheVariants as act
-use Rattle.cf_calls.specs.declared.acts.Act.{Act}
-use Rattle.cf_calls.specs.declared.acts.AssetAct.TheVariants.{Donate, Dispose}
-use Rattle.cf_calls.specs.declared.acts.AssetAct.{AssetAct}
-use Rattle.cf_calls.specs.declared.acts.Disposal.{Disposal}
-use Rattle.cf_calls.specs.declared.acts.Donation.{Donation}
-use Rattle.cf_calls.specs.declared.acts.NewLease.{NewLease}
-use Rattle.cf_calls.specs.declared.acts.NewVoucher.{NewVoucher}
-use Rattle.cf_calls.specs.declared.acts.Period.{Period}
-use Rattle.cf_calls.specs.declared.entry.Drawn.{Drawn}
-use Rattle.cf_calls.specs.declared.items.VoucherItem.{VoucherItem}
-use Rattle.cf_calls.specs.declared.refusal.Refusal.{Refusal}
 use Rattle.cf_calls.specs.declared.refusal.Refusal.TheVariants as refusal
-use Rattle.cf_chart.specs.Plan.{Plan}
-use Rattle.cf_model.specs.Assets.{Asset, asset_step, assets_by, voucher_of}
-use Rattle.cf_model.specs.Documents.{is_number}
-use Rattle.cf_model.specs.RegisterRules.{voided_asset, disposed_asset, asset_refusal}
-use Rattle.cf_model.specs.Registers.{Registers, no_registers}
-use Rattle.cf_model.specs.Rules.{amount, bad_amount, first_refusal, refuse_if, or_else}
+use Rattle.cf_chart.specs.Common.{Plan}
 use Rattle.cf_register_parts.proofs.Acts.{Is}
-use Rattle.cf_base.specs.Limits.{most_cents}
+use Rattle.cf_base.specs.Common.{most_cents}
 
 -- registers with these assets
 with_assets : Register → Registers

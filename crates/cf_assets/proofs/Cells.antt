@@ -1,10 +1,10 @@
 -- The sums by fiscal year, and by closed month.
 use Rattle.std.proofs.Common.{◌≡◌, ℕ, zero, suc, ◌+◌, ◌-◌, ◌*◌, ◌<◌, ◌≤◌, List, [], ◌∷◌, ◌++◌, length, set, get_or, sum_by, ◌∙◌, arith}
-use Rattle.std.proofs.lemmas.List.Sums.{sum_by-cons}
+use Rattle.cf_base.proofs.Common.{sum_by-cons}
 use Rattle.cf_register_parts.specs.Years.{AreYears, cell_of, with_cell}
 use Rattle.cf_register_parts.proofs.Cells.{year_is, years_same, years_set}
-use Rattle.cf_model.specs.Assets.{Asset}
-use Rattle.cf_base.specs.Limits.{most_cents}
+use Rattle.cf_model.specs.Common.{Asset}
+use Rattle.cf_base.specs.Common.{most_cents}
 
 -- ---- sums
 

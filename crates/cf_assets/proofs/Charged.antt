@@ -1,20 +1,14 @@
 -- Sums over the assets in service, one after another.
 use Rattle.std.proofs.Common.{◌≡◌, ◌⊎◌, inl, inr, set, replicate, ℕ, zero, suc, ◌+◌, ◌<◌, ◌≤◌, Bool, true, false, if◌then◌else◌, ◌==◌, ◌&&◌, nat_lt, List, [], ◌∷◌, length, map, take, get_or, sum_by, refl, sym, ap, ◌∙◌, arith}
-use Rattle.std.specs.List.{list_all}
-use Rattle.std.proofs.lemmas.Bool.Decides.{nat_tests, eqb_tells}
-use Rattle.std.proofs.lemmas.Grind.{common_steps}
-use Rattle.cf_chart.specs.Rising.{is_rising}
-use Rattle.cf_chart.specs.declared.rows.Function.{Function}
-use Rattle.cf_model.specs.Deeds.{function_charge}
-use Rattle.std.proofs.lemmas.List.{take_all, get_or_default, get_or-set_same, get_or-set_other}
-use Rattle.std.proofs.lemmas.List.Sums.{sum_by-cons, sum_by_more}
+use Rattle.cf_base.proofs.Common.{list_all, nat_tests, eqb_tells, common_steps, take_all, get_or_default, get_or-set_same, get_or-set_other, sum_by-cons, sum_by_more}
+use Rattle.cf_chart.specs.Common.{is_rising}
+use Rattle.cf_model.specs.Common.{Function, function_charge, Asset, charge}
 use Rattle.cf_assets.specs.declared.rows.AssetRow.{AssetRow}
 use Rattle.cf_assets.specs.Charges.{StandsAt, charge_in, is_kind, of_kind}
 use Rattle.cf_assets.specs.Rows.{view_asset, IsRow, AreRows, no_row}
 use Rattle.cf_assets.specs.Serving.{ServeFrom}
 use Rattle.cf_assets.proofs.InService.{not_charged, sum_serving}
 use Rattle.cf_assets.proofs.Leases.{part_sum}
-use Rattle.cf_model.specs.Assets.{Asset, charge}
 use Rattle.cf_register_parts.proofs.Lists.{less_or_not}
 
 -- what the asset at a place adds

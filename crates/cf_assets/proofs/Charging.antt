@@ -1,13 +1,12 @@
 -- Depreciation: it fits its numbers, never falls, and what all assets have.
 use Rattle.std.proofs.Common.{◌≡◌, ℕ, zero, suc, ◌+◌, ◌-◌, ◌*◌, ◌<◌, ◌≤◌, min, List, [], ◌∷◌, length, map, sum_by, refl, arith}
-use Rattle.std.proofs.lemmas.List.Sums.{sum_by-cons}
-use Rattle.std.proofs.lemmas.Nat.{mul-le}
+use Rattle.cf_base.proofs.Common.{sum_by-cons, mul-le}
 use Rattle.cf_assets.specs.declared.rows.AssetRow.{AssetRow}
 use Rattle.cf_assets.specs.Rows.{view_asset, AreSmall}
-use Rattle.cf_model.specs.Assets.{Asset, Stage, held, void, disposed, counted, depreciated, depreciation, charge}
-use Rattle.cf_model.proofs.CloseBounds.{depreciated_most}
-use Rattle.cf_model.proofs.Depreciated.{depreciated_le, not_depreciated}
-use Rattle.cf_base.specs.Limits.{most_cents}
+use Rattle.cf_model.specs.Common.{Asset, Stage, void, disposed, counted, depreciated, depreciation, charge}
+use Rattle.cf_model.specs.Assets.{held}
+use Rattle.cf_model.proofs.Common.{depreciated_most, depreciated_le, not_depreciated}
+use Rattle.cf_base.specs.Common.{most_cents}
 
 pub fits : (cost life months : ℕ) → cost ≤ most_cents → life < 65536 → cost * min months life < 18446744073709551616
 fits cost life months l m = omega (arith, mul-le cost (min months life) most_cents 65535 l (omega arith))

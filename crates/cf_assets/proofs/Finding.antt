@@ -1,14 +1,9 @@
 -- The assets that pass a test: those from one place up to another.
-use Rattle.std.proofs.Common.{◌≡◌, ◌≢◌, ◌⊎◌, inl, inr, ℕ, zero, suc, ◌+◌, ◌<◌, ◌≤◌, Bool, true, false, if◌then◌else◌, ◌==◌, List, [], ◌∷◌, length, drop, get_or, Option, Some, None, find, slice_get, option_to_list, is_some, refl, sym, ap, ◌∙◌, arith}
-use Rattle.std.proofs.lemmas.Grind.{common_steps}
-use Rattle.std.proofs.lemmas.List.{drop_more}
-use Rattle.std.specs.List.{filter}
+use Rattle.std.proofs.Common.{◌≡◌, ◌≢◌, ◌⊎◌, inl, inr, ℕ, zero, suc, ◌+◌, ◌<◌, ◌≤◌, Bool, true, false, if◌then◌else◌, ◌==◌, List, [], ◌∷◌, length, drop, get_or, Option, Some, None, find, slice_get, option_to_list, is_some, refl, sym, ap, ◌∙◌, arith, filter}
+use Rattle.cf_base.proofs.Common.{common_steps, drop_more}
 use Rattle.cf_assets.specs.Inventory.{AreNumbered}
 use Rattle.cf_assets.specs.Rows.{view_asset, no_row}
-use Rattle.cf_calls.specs.declared.refusal.Refusal.{Refusal}
-use Rattle.cf_model.specs.Assets.{Asset}
-use Rattle.cf_model.specs.RegisterRules.{asset_at}
-use Rattle.cf_model.specs.Rules.{or_else, first_refusal}
+use Rattle.cf_model.specs.Common.{Refusal, Asset, asset_at, or_else, first_refusal}
 
 -- no element passes
 pub filter_none : {X : Type 0} (p : X → Bool) (xs : List X) → ((k : ℕ) (d : X) → k < length xs → p (get_or xs k d) ≡ false) → filter p xs ≡ []

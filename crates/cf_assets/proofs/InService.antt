@@ -1,14 +1,12 @@
 -- The places of the assets in service: all others are charged nothing.
-use Rattle.std.proofs.Common.{◌≡◌, inl, inr, ℕ, zero, suc, ◌+◌, ◌-◌, ◌*◌, ◌/◌, ◌<◌, ◌≤◌, min, Bool, true, false, if◌then◌else◌, nat_lt, List, [], ◌∷◌, ◌++◌, length, set, get_or, sum_by, slice_get, refl, sym, ap, ◌∙◌, arith}
-use Rattle.std.specs.List.{filter}
-use Rattle.std.proofs.lemmas.Bool.Decides.{nat_tests}
-use Rattle.std.proofs.lemmas.List.Sums.{sum_by-cons}
+use Rattle.std.proofs.Common.{◌≡◌, inl, inr, ℕ, zero, suc, ◌+◌, ◌-◌, ◌*◌, ◌/◌, ◌<◌, ◌≤◌, min, Bool, true, false, if◌then◌else◌, nat_lt, List, [], ◌∷◌, ◌++◌, length, set, get_or, sum_by, slice_get, refl, sym, ap, ◌∙◌, arith, filter}
+use Rattle.cf_base.proofs.Common.{nat_tests, sum_by-cons}
 use Rattle.cf_assets.specs.declared.rows.AssetRow.{AssetRow}
 use Rattle.cf_assets.specs.declared.rows.StageNow.{StageNow}
 use Rattle.cf_assets.specs.declared.rows.StageNow.TheVariants.{Held, Void, Disposed}
 use Rattle.cf_assets.specs.Rows.{view_asset, IsStage}
 use Rattle.cf_assets.specs.Serving.{serves, serves_in, serves_if, serves_at, enlisted, ServeFrom}
-use Rattle.cf_model.specs.Assets.{depreciated, charge}
+use Rattle.cf_model.specs.Common.{depreciated, charge}
 
 not_less : (a b : ℕ) → nat_lt a b ≡ false → b ≤ a
 not_less a b e = grind (arith, nat_tests)

@@ -1,8 +1,6 @@
 -- What the assets by number keep of their rows.
 use Rattle.std.proofs.Common.{◌≡◌, ◌⊎◌, inl, inr, ℕ, zero, suc, ◌+◌, ◌-◌, ◌<◌, ◌≤◌, min, Bool, true, false, not, if◌then◌else◌, ◌==◌, ◌&&◌, List, [], ◌∷◌, ◌++◌, length, map, set, get_or, sum_by, is_some, refl, sym, subst, ap, ◌∙◌, arith}
-use Rattle.std.proofs.lemmas.Grind.{common_steps}
-use Rattle.std.proofs.lemmas.List.{length-append, length-map, map-append, map-set, get_or_append_left, get_or_push, get_or-map}
-use Rattle.std.proofs.lemmas.List.Sums.{sum_by-cons}
+use Rattle.cf_base.proofs.Common.{common_steps, length-append, length-map, map-append, map-set, get_or_append_left, get_or_push, get_or-map, sum_by-cons}
 use Rattle.cf_assets.specs.declared.rows.AssetRow.{AssetRow}
 use Rattle.cf_assets.specs.declared.rows.StageNow.{StageNow}
 use Rattle.cf_assets.specs.declared.rows.StageNow.TheVariants.{Held, Void, Disposed}
@@ -15,9 +13,9 @@ use Rattle.cf_register_parts.specs.Years.{AreYears, cell_of, with_cell}
 use Rattle.cf_assets.proofs.Cells.{sum_push, sum_set, sum_small, push_adds, push_same, set_same, set_adds, set_takes, enough_there}
 use Rattle.cf_register_parts.proofs.Cells.{years_same}
 use Rattle.cf_assets.proofs.Charging.{not_yet, never_falls, total_next, total_first, total_most}
-use Rattle.cf_model.specs.Assets.{Asset, held, counted, depreciated, depreciation, charge, voucher_of, is_given, is_leased}
-use Rattle.cf_model.specs.Changes.{is_void, is_disposed_in}
-use Rattle.cf_base.specs.Limits.{most_cents}
+use Rattle.cf_model.specs.Common.{Asset, counted, depreciated, depreciation, charge, voucher_of, is_given, is_leased, is_void, is_disposed_in}
+use Rattle.cf_model.specs.Assets.{held}
+use Rattle.cf_base.specs.Common.{most_cents}
 use Rattle.cf_register_parts.specs.Limits.{most_items, most_total}
 
 -- ---- rows

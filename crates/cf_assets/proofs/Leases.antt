@@ -1,28 +1,19 @@
 -- The amortization of what is leased: what each act makes of the running numbers.
-use Rattle.std.proofs.Common.{◌≡◌, ◌⊎◌, inl, inr, ℕ, zero, suc, ◌+◌, ◌-◌, ◌*◌, ◌<◌, ◌≤◌, Bool, true, false, not, if◌then◌else◌, ◌==◌, List, [], ◌∷◌, ◌++◌, length, map, get_or, sum_by, None, refl, sym, ap, ◌∙◌, arith, length-append}
-use Rattle.std.specs.List.{filter, AllByRecursion}
-use Rattle.std.proofs.lemmas.List.{get_or_append_left, get_or_push}
-use Rattle.std.proofs.lemmas.List.Sums.{sum_by-cons, sum_by-append}
+use Rattle.std.proofs.Common.{◌≡◌, ◌⊎◌, inl, inr, ℕ, zero, suc, ◌+◌, ◌-◌, ◌*◌, ◌<◌, ◌≤◌, Bool, true, false, not, if◌then◌else◌, ◌==◌, List, [], ◌∷◌, ◌++◌, length, map, get_or, sum_by, None, refl, sym, ap, ◌∙◌, arith, length-append, filter}
+use Rattle.cf_base.proofs.Common.{AllByRecursion, get_or_append_left, get_or_push, sum_by-cons, sum_by-append}
 use Rattle.cf_assets.specs.Charges.{charge_in}
 use Rattle.cf_assets.specs.Inventory.{AreCheap, accumulated_at, staged}
 use Rattle.cf_assets.specs.Leases.{AreAmortized, amortization}
 use Rattle.cf_assets.specs.Steps.{voids, disposes}
 use Rattle.cf_assets.proofs.Cells.{sum_push}
 use Rattle.cf_assets.proofs.Charging.{depreciation_most, never_falls, not_yet}
-use Rattle.cf_base.specs.declared.calendar.Day.{Day}
-use Rattle.cf_calls.specs.declared.items.VoucherItem.{VoucherItem}
+use Rattle.cf_model.specs.Common.{Day, VoucherItem, Asset, Origin, purchase, gift, lease, Stage, void, disposed, counted, depreciation, bought, new_asset, is_leased, life_of, voucher_of, leased, owned, is_capital, is_number, disposed_asset, not_held, first_refusal, refuse_if}
 use Rattle.cf_calls.specs.declared.refusal.AssetFault.TheVariants as fault
 use Rattle.cf_calls.specs.declared.refusal.Refusal.TheVariants as refusal
-use Rattle.cf_chart.specs.Plan.{Plan, object_at}
-use Rattle.cf_model.specs.Assets.{Asset, Origin, purchase, gift, lease, Stage, held, void, disposed, counted, depreciation, bought, new_asset, is_leased, life_of, voucher_of, leased, owned}
-use Rattle.cf_model.specs.Charted.{is_capital}
-use Rattle.cf_model.specs.Documents.{is_number}
-use Rattle.cf_model.specs.RegisterRules.{disposed_asset, not_held}
-use Rattle.cf_model.specs.Rules.{first_refusal, refuse_if}
-use Rattle.cf_model.proofs.First.{or_else_none, refuse_none}
-use Rattle.cf_model.proofs.Lawful.{passed}
-use Rattle.cf_model.proofs.Totals.{all_so}
-use Rattle.cf_base.specs.Limits.{most_cents}
+use Rattle.cf_chart.specs.Common.{Plan, object_at}
+use Rattle.cf_model.specs.Assets.{held}
+use Rattle.cf_model.proofs.Common.{or_else_none, refuse_none, passed, all_so}
+use Rattle.cf_base.specs.Common.{most_cents}
 
 -- ---- sums that a step leaves, or that new assets leave
 

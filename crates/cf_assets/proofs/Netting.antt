@@ -1,21 +1,13 @@
 -- Capital assets, net, from the sums of the years.
-use Rattle.std.proofs.Common.{◌≡◌, ◌⊎◌, inl, inr, ℕ, zero, suc, ◌+◌, ◌-◌, ◌<◌, ◌≤◌, Bool, true, false, not, if◌then◌else◌, ◌==◌, ◌&&◌, nat_le, List, [], ◌∷◌, length, get_or, sum_by, is_some, ℤ, pos, ◌+ℤ◌, ◌-ℤ◌, refl, sym, ap, ◌∙◌, arith}
-use Rattle.std.specs.List.{filter, AllByRecursion}
-use Rattle.std.proofs.lemmas.Bool.Decides.{leb_tells}
-use Rattle.std.proofs.lemmas.Int.{ints}
-use Rattle.std.proofs.lemmas.List.Sums.{sum_by-cons}
+use Rattle.std.proofs.Common.{◌≡◌, ◌⊎◌, inl, inr, ℕ, zero, suc, ◌+◌, ◌-◌, ◌<◌, ◌≤◌, Bool, true, false, not, if◌then◌else◌, ◌==◌, ◌&&◌, nat_le, List, [], ◌∷◌, length, get_or, sum_by, is_some, ℤ, pos, ◌+ℤ◌, ◌-ℤ◌, refl, sym, ap, ◌∙◌, arith, filter}
+use Rattle.cf_base.proofs.Common.{AllByRecursion, leb_tells, ints, sum_by-cons}
 use Rattle.cf_assets.specs.Years.{bought_in, given_in, let_in, book_in}
 use Rattle.cf_register_parts.specs.Years.{sum_to}
 use Rattle.cf_assets.proofs.Charging.{depreciation_most, total_first}
-use Rattle.cf_chart.specs.Plan.{Plan}
-use Rattle.cf_model.specs.Assets.{Asset, Origin, purchase, gift, lease, Stage, held, void, disposed, depreciation, net, is_there, voucher_of, is_given, is_leased, leased, owned}
-use Rattle.cf_model.specs.Changes.{outlay, donated, leased_in, depreciated_in, book_value, is_void, is_disposed_in}
-use Rattle.cf_model.specs.Months.{closed_to}
-use Rattle.cf_model.specs.Sums.{int_sum}
-use Rattle.cf_model.proofs.ChangeRows.{asset_years, sum_minus}
-use Rattle.cf_model.proofs.Depreciated.{IsSoundAsset}
-use Rattle.cf_model.proofs.Posted.{all_filter}
-use Rattle.cf_model.proofs.Totals.{sum_same, sum_pos, none_first, split_sum}
+use Rattle.cf_chart.specs.Common.{Plan}
+use Rattle.cf_model.specs.Common.{Asset, Origin, purchase, gift, lease, Stage, void, disposed, depreciation, net, is_there, voucher_of, is_given, is_leased, leased, owned, outlay, donated, leased_in, depreciated_in, book_value, is_void, is_disposed_in, closed_to, int_sum}
+use Rattle.cf_model.specs.Assets.{held}
+use Rattle.cf_model.proofs.Common.{asset_years, sum_minus, IsSoundAsset, all_filter, sum_same, sum_pos, none_first, split_sum}
 use Rattle.cf_assets.proofs.Leases.{depreciated_parts}
 
 -- ---- each row as a sum of cents

@@ -1,29 +1,19 @@
 -- Where the assets of vouchers stand, and what goes over them one after another.
-use Rattle.std.proofs.Common.{◌≡◌, ◌≢◌, ◌⊎◌, inl, inr, ℕ, zero, suc, ◌+◌, ◌-◌, ◌<◌, ◌≤◌, Bool, true, false, if◌then◌else◌, ◌==◌, ◌&&◌, nat_le, nat_lt, List, [], ◌∷◌, ◌++◌, length, map, set, get_or, Option, Some, None, is_some, refl, sym, subst, ap, ◌∙◌, arith}
-use Rattle.std.proofs.lemmas.Bool.Decides.{nat_tests}
-use Rattle.std.proofs.lemmas.Grind.{common_steps}
-use Rattle.std.proofs.lemmas.List.{length-append, length-map, get_or_append_left, get_or-append_right, get_or_past, get_or_push, get_or-map}
-use Rattle.std.specs.List.{filter}
+use Rattle.std.proofs.Common.{◌≡◌, ◌≢◌, ◌⊎◌, inl, inr, ℕ, zero, suc, ◌+◌, ◌-◌, ◌<◌, ◌≤◌, Bool, true, false, if◌then◌else◌, ◌==◌, ◌&&◌, nat_le, nat_lt, List, [], ◌∷◌, ◌++◌, length, map, set, get_or, Option, Some, None, is_some, refl, sym, subst, ap, ◌∙◌, arith, filter}
+use Rattle.cf_base.proofs.Common.{nat_tests, common_steps, length-append, length-map, get_or_append_left, get_or-append_right, get_or_past, get_or_push, get_or-map}
 use Rattle.cf_assets.specs.Extents.{is_within, IsExtent, AreExtents}
 use Rattle.cf_register_parts.proofs.Lists.{less_or_not, same_or_not}
 use Rattle.cf_register_parts.specs.Extents.{no_extent, extent_at}
 use Rattle.cf_assets.specs.Inventory.{Inventory, AreNumbered, StagesOne, staged}
 use Rattle.cf_assets.specs.Rows.{view_asset, no_row}
 use Rattle.cf_assets.specs.Steps.{CanVoid, voids, disposes}
-use Rattle.cf_base.specs.declared.calendar.Day.{Day}
+use Rattle.cf_model.specs.Common.{Day, Refusal, VoucherItem, is_capital, Asset, Stage, void, disposed, bought, new_asset, voucher_of, purchase, life_of, is_leased, is_before, voided_asset, not_held, disposed_asset, is_number, or_else, first_refusal, refuse_if}
 use Rattle.cf_register_parts.specs.declared.extents.Extent.{Extent}
 use Rattle.cf_assets.proofs.Finding.{rest, rest_first, rest_more, rest_last, none_refused}
-use Rattle.cf_calls.specs.declared.refusal.Refusal.{Refusal}
 use Rattle.cf_calls.specs.declared.refusal.AssetFault.TheVariants as fault
 use Rattle.cf_calls.specs.declared.refusal.Refusal.TheVariants as refusal
-use Rattle.cf_calls.specs.declared.items.VoucherItem.{VoucherItem}
-use Rattle.cf_chart.specs.Plan.{Plan, object_at}
-use Rattle.cf_model.specs.Charted.{is_capital}
-use Rattle.cf_model.specs.Assets.{Asset, Stage, held, void, disposed, bought, new_asset, voucher_of, purchase, life_of, is_leased}
-use Rattle.cf_model.specs.Calendar.{is_before}
-use Rattle.cf_model.specs.RegisterRules.{voided_asset, not_held, disposed_asset}
-use Rattle.cf_model.specs.Documents.{is_number}
-use Rattle.cf_model.specs.Rules.{or_else, first_refusal, refuse_if}
+use Rattle.cf_chart.specs.Common.{Plan, object_at}
+use Rattle.cf_model.specs.Assets.{held}
 
 in_it : (e : Extent) (k : ℕ) → e.first ≤ k → k < e.end → is_within e k ≡ true
 in_it e k a b = both (nat_le e.first k) (nat_lt k e.end) (low e.first k a) (high k e.end b)

@@ -2,10 +2,8 @@
 -- 34).
 use Rattle.std.specs.Prelude.{ℕ, List, pos, ◌-ℤ◌}
 use Rattle.cf_assets.specs.declared.changes.AssetChanges.{AssetChanges}
-use Rattle.cf_chart.specs.Plan.{Plan}
-use Rattle.cf_model.specs.Assets.{Asset, leased, owned}
-use Rattle.cf_model.specs.Changes.{outlay, donated, leased_in, depreciated_in, book_value}
-use Rattle.cf_model.specs.Sums.{int_sum}
+use Rattle.cf_chart.specs.Common.{Plan}
+use Rattle.cf_model.specs.Common.{Asset, leased, owned, outlay, donated, leased_in, depreciated_in, book_value, int_sum}
 
 -- each row as it is added
 abbrev pub asset_changes : Plan → ℕ → ℕ → List Asset → AssetChanges

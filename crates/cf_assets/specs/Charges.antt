@@ -1,9 +1,7 @@
 -- What the close of a month charges, function by function.
 use Rattle.std.specs.Prelude.{◌≡◌, ◌≢◌, ℕ, ◌+◌, ◌==◌, ◌<◌, Bool, true, false, not, if◌then◌else◌, List, length, slice_index_or}
 use Rattle.std.specs.List.{filter}
-use Rattle.cf_chart.specs.declared.rows.Function.{Function}
-use Rattle.cf_model.specs.Assets.{Asset, charge, is_leased}
-use Rattle.cf_model.specs.Deeds.{function_charge}
+use Rattle.cf_model.specs.Common.{Function, Asset, charge, is_leased, function_charge}
 
 -- the assets that are leased, or those that aren't
 abbrev pub is_kind : Bool → Asset → Bool

@@ -1,8 +1,7 @@
 -- Where the assets of vouchers stand: those of each voucher one after another, in the order of
 -- their numbers.
 use Rattle.std.specs.Prelude.{◌≡◌, ℕ, ◌<◌, ◌≤◌, Bool, ◌&&◌, nat_le, nat_lt, List, length, slice_index_or}
-use Rattle.cf_model.specs.Assets.{Asset, voucher_of}
-use Rattle.cf_model.specs.Documents.{is_number}
+use Rattle.cf_model.specs.Common.{Asset, voucher_of, is_number}
 use Rattle.cf_register_parts.specs.Extents.{extent_at}
 use Rattle.cf_register_parts.specs.declared.extents.Extent.{Extent}
 

@@ -1,9 +1,10 @@
 -- What contracts see of the assets by number, and what they keep.
 use Rattle.std.specs.Prelude.{◌≡◌, ℕ, ◌+◌, ◌<◌, ◌≤◌, true, List, length, slice_index_or, slice_set, is_some, zero, suc}
-use Rattle.cf_base.specs.Limits.{last_fiscal_year, most_cents}
+use Rattle.cf_base.specs.Common.{last_fiscal_year, most_cents}
 use Rattle.cf_assets.specs.declared.rows.AssetRow.{AssetRow}
 use Rattle.cf_assets.specs.declared.rows.StageNow.TheVariants.{Held}
-use Rattle.cf_model.specs.Assets.{Asset, Stage, held, depreciation, voucher_of}
+use Rattle.cf_model.specs.Common.{Asset, Stage, depreciation, voucher_of}
+use Rattle.cf_model.specs.Assets.{held}
 
 pub record Inventory : Type 0 where
   pub assets : List Asset

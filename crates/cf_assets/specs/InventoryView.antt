@@ -1,12 +1,12 @@
 -- What the fields stand for.
 use Rattle.std.specs.Prelude.{◌≡◌, ℕ, ◌+◌, ◌-◌, ◌<◌, ◌≤◌, min, List, length, map, slice_index_or, sum_by}
 use Rattle.std.specs.Vec.{vec_capacity}
-use Rattle.cf_base.specs.Limits.{most_entries}
+use Rattle.cf_base.specs.Common.{most_entries}
 use Rattle.cf_assets.specs.declared.inventory.Inventory.TheInside.{Inside}
 use Rattle.cf_assets.specs.Inventory.{Inventory}
 use Rattle.cf_assets.specs.Rows.{view_asset, AreRows}
 use Rattle.cf_assets.specs.Serving.{ServeAll}
-use Rattle.cf_model.specs.Assets.{Asset, depreciation}
+use Rattle.cf_model.specs.Common.{Asset, depreciation}
 use Rattle.cf_assets.specs.Years.{bought_in, given_in, let_in, book_in}
 use Rattle.cf_register_parts.specs.Years.{AreYears}
 use Rattle.cf_register_parts.specs.Limits.{most_items}

@@ -1,6 +1,6 @@
 -- The amortization of leased assets, as a running number (GASB Statement 87).
 use Rattle.std.specs.Prelude.{◌≡◌, ℕ, ◌+◌, ◌<◌, if◌then◌else◌, List, length, slice_index_or, sum_by}
-use Rattle.cf_model.specs.Assets.{Asset, depreciation, is_leased}
+use Rattle.cf_model.specs.Common.{Asset, depreciation, is_leased}
 
 -- an asset's amortization over the first so many months, where it is leased
 abbrev pub amortization : ℕ → Asset → ℕ

@@ -1,12 +1,8 @@
 -- What the register tells of an asset.
 use Rattle.std.specs.Prelude.{ℕ, List, Option, None, option_map}
 use Rattle.cf_assets.specs.declared.assets.AssetNow.{AssetNow}
-use Rattle.cf_calls.specs.declared.read.Read.{Read}
+use Rattle.cf_model.specs.Common.{Read, Shown, Asset, depreciation, asset_shown, asset_at}
 use Rattle.cf_calls.specs.declared.read.Read.TheVariants as read
-use Rattle.cf_calls.specs.declared.shown.Shown.{Shown}
-use Rattle.cf_model.specs.Assets.{Asset, depreciation}
-use Rattle.cf_model.specs.AssetsShown.{asset_shown}
-use Rattle.cf_model.specs.RegisterRules.{asset_at}
 
 -- an asset's cost and function, and its depreciation over the closed months
 abbrev pub asset_now : ℕ → Asset → AssetNow

@@ -1,18 +1,9 @@
 -- What contracts see of the register.
 use Rattle.std.specs.Prelude.{◌≡◌, ℕ, ◌+◌, ◌≤◌, List, length}
-use Rattle.cf_base.specs.declared.calendar.Day.{Day}
-use Rattle.cf_calls.specs.declared.acts.Act.{Act}
+use Rattle.cf_model.specs.Common.{Day, Act, AssetAct, Donate, Dispose, Period, Drawn, Asset, document_year, number_of_day, Registers}
 use Rattle.cf_calls.specs.declared.acts.Act.TheVariants as act
-use Rattle.cf_calls.specs.declared.acts.AssetAct.{AssetAct}
-use Rattle.cf_calls.specs.declared.acts.AssetAct.TheVariants.{Donate, Dispose}
-use Rattle.cf_calls.specs.declared.acts.Period.{Period}
 use Rattle.cf_calls.specs.declared.acts.Period.TheVariants as period
-use Rattle.cf_calls.specs.declared.entry.Drawn.{Drawn}
-use Rattle.cf_chart.specs.Plan.{Plan}
-use Rattle.cf_model.specs.Assets.{Asset}
-use Rattle.cf_model.specs.Calendar.{document_year}
-use Rattle.cf_model.specs.Months.{number_of_day}
-use Rattle.cf_model.specs.Registers.{Registers}
+use Rattle.cf_chart.specs.Common.{Plan}
 
 -- for how many assets, vouchers and closes of a month there is memory
 pub record Room : Type 0 where

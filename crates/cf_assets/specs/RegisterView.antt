@@ -1,7 +1,7 @@
 -- What the register's fields stand for.
 use Rattle.std.specs.Prelude.{◌-◌, ◌*◌, ◌≤◌, min, length}
 use Rattle.std.specs.Vec.{vec_capacity}
-use Rattle.cf_base.specs.Limits.{most_entries}
+use Rattle.cf_base.specs.Common.{most_entries}
 use Rattle.cf_assets.specs.declared.assets.Assets.TheInside.{Inside}
 use Rattle.cf_assets.specs.Extents.{AreExtents}
 use Rattle.cf_assets.specs.Leases.{AreAmortized}

@@ -1,12 +1,13 @@
 -- What the register's rows stand for.
 use Rattle.std.specs.Prelude.{◌≡◌, ℕ, ◌+◌, ◌<◌, ◌≤◌, List, length, slice_index_or}
-use Rattle.cf_base.specs.Limits.{last_fiscal_year, most_cents}
+use Rattle.cf_base.specs.Common.{last_fiscal_year, most_cents}
 use Rattle.cf_assets.specs.declared.rows.AssetRow.{AssetRow}
 use Rattle.cf_assets.specs.declared.rows.Acquired.{Acquired}
 use Rattle.cf_assets.specs.declared.rows.Acquired.TheVariants.{Bought, Given, Leased}
 use Rattle.cf_assets.specs.declared.rows.StageNow.{StageNow}
 use Rattle.cf_assets.specs.declared.rows.StageNow.TheVariants.{Held, Void, Disposed}
-use Rattle.cf_model.specs.Assets.{Asset, Origin, purchase, gift, lease, Stage, held, void, disposed}
+use Rattle.cf_model.specs.Common.{Asset, Origin, purchase, gift, lease, Stage, void, disposed}
+use Rattle.cf_model.specs.Assets.{held}
 
 abbrev pub view_stage : StageNow → Stage
 view_stage Held = held

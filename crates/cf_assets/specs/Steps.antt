@@ -2,13 +2,9 @@
 use Rattle.std.specs.Prelude.{◌≡◌, ℕ, ◌<◌, ◌≤◌, true, if◌then◌else◌, ◌==◌, List, length, slice_index_or, is_some, None}
 use Rattle.cf_assets.specs.Inventory.{Inventory, staged}
 use Rattle.cf_assets.specs.declared.steps.Title.{Title}
-use Rattle.cf_calls.specs.declared.items.VoucherItem.{VoucherItem}
-use Rattle.cf_chart.specs.Plan.{Plan}
-use Rattle.cf_model.specs.Assets.{Asset, void, disposed, voucher_of}
-use Rattle.cf_model.specs.Documents.{is_number}
-use Rattle.cf_model.specs.Months.{number_of_day}
-use Rattle.cf_model.specs.RegisterRules.{voided_asset}
-use Rattle.cf_base.specs.Limits.{most_cents}
+use Rattle.cf_model.specs.Common.{VoucherItem, Asset, void, disposed, voucher_of, is_number, number_of_day, voided_asset}
+use Rattle.cf_chart.specs.Common.{Plan}
+use Rattle.cf_base.specs.Common.{most_cents}
 
 -- no amount is above the largest one
 abbrev pub AreMost : List VoucherItem → Type 0

@@ -3,8 +3,7 @@
 use Rattle.std.specs.Prelude.{ℕ, ◌+◌, ◌-◌, Bool, List, not, if◌then◌else◌, ◌==◌, ◌&&◌, is_some}
 use Rattle.cf_assets.specs.declared.rows.AssetRow.{AssetRow}
 use Rattle.cf_register_parts.specs.Years.{cell_of, with_cell}
-use Rattle.cf_model.specs.Assets.{Asset, depreciation, voucher_of, is_given, is_leased}
-use Rattle.cf_model.specs.Changes.{is_void, is_disposed_in}
+use Rattle.cf_model.specs.Common.{Asset, depreciation, voucher_of, is_given, is_leased, is_void, is_disposed_in}
 
 -- what a voucher bought in a year, if it isn't void
 abbrev pub bought_in : ℕ → Asset → ℕ

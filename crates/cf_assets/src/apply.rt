@@ -2,16 +2,10 @@
 
 ghost use Rattle.std.specs.Prelude.{◌≡◌, ◌<◌, ◌≤◌, ◌+◌, ◌++◌, None, true, map, OnOk};
 ghost use Rattle.cf_assets.specs.Register.{HasRoomFor, HasRoomForAsset, HasRoomForClose, IsNext, IsNextAsset, IsOf, IsTimely};
-ghost use Rattle.cf_base.specs.Calendar.{is_day};
-ghost use Rattle.cf_base.specs.Limits.{most_entries};
-ghost use Rattle.cf_calls.specs.Form.{IsActInForm};
+ghost use Rattle.cf_base.specs.Common.{is_day, most_entries};
+ghost use Rattle.cf_calls.specs.Common.{IsActInForm};
 ghost use Rattle.cf_calls.specs.declared.acts.Act.TheVariants as act;
-ghost use Rattle.cf_model.specs.Assets.{asset_step, assets_by};
-ghost use Rattle.cf_model.specs.Documents.{draws_voucher};
-ghost use Rattle.cf_model.specs.Months.{number_of_day};
-ghost use Rattle.cf_model.specs.RegisterRules.{asset_refusal};
-ghost use Rattle.cf_model.specs.Registers.{Registers, closed_after};
-ghost use Rattle.cf_model.specs.Rules.{amount_refusal};
+ghost use Rattle.cf_model.specs.Common.{asset_step, assets_by, draws_voucher, number_of_day, asset_refusal, Registers, closed_after, amount_refusal};
 
 use crate::assets::Assets;
 use cf_base::Day;

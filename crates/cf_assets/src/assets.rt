@@ -2,13 +2,13 @@
 
 ghost use Rattle.std.specs.Prelude.{true, false, Ok, ◌≡◌, ◌≤◌, ◌+◌, ℕ, [], length, slice_index_or, option_to_list, ◌==◌};
 ghost use Rattle.std.specs.List.{filter};
-ghost use Rattle.cf_base.specs.Limits.{most_entries};
+ghost use Rattle.cf_base.specs.Common.{most_entries};
 ghost use Rattle.cf_assets.specs.Readers.{asset_now_at, look_shown};
 ghost use Rattle.cf_assets.specs.Rows.{view_stage};
 ghost use Rattle.cf_model.specs.AssetsShown as shown;
 ghost use Rattle.cf_assets.specs.Charges.{AreCharges, of_kind};
 ghost use Rattle.cf_assets.specs.Register.{asset_draws};
-ghost use Rattle.cf_model.specs.RegisterRules.{asset_at};
+ghost use Rattle.cf_model.specs.Common.{asset_at};
 ghost use Rattle.cf_register_parts.specs.Limits.{most_items, most_total};
 
 use crate::charges::{MonthCharges, depreciation_of};

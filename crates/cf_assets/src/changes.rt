@@ -3,14 +3,12 @@
 
 ghost use Rattle.std.specs.Prelude.{◌≡◌, ◌≤◌, sum_by};
 ghost use Rattle.std.specs.List.{AllByRecursion};
-ghost use Rattle.cf_base.specs.Limits.{last_fiscal_year};
+ghost use Rattle.cf_base.specs.Common.{last_fiscal_year};
 ghost use Rattle.cf_assets.specs.Changes.{asset_changes};
-ghost use Rattle.cf_calls.specs.Form.{IsYear};
+ghost use Rattle.cf_calls.specs.Common.{IsYear};
 ghost use Rattle.cf_model.specs.Assets as spec;
-ghost use Rattle.cf_model.specs.Assets.{depreciation};
-ghost use Rattle.cf_model.specs.Months.{closed_to};
-ghost use Rattle.cf_model.specs.Sums.{int_sum};
-ghost use Rattle.cf_model.proofs.Depreciated.{IsSoundAsset};
+ghost use Rattle.cf_model.specs.Common.{depreciation, closed_to, int_sum};
+ghost use Rattle.cf_model.proofs.Common.{IsSoundAsset};
 ghost use Rattle.cf_register_parts.specs.Limits.{most_total};
 
 use crate::assets::Assets;

@@ -1,10 +1,10 @@
 //! Depreciation of assets, and what the close of a month charges.
 
 ghost use Rattle.std.specs.Prelude.{false, ◌≡◌, ◌≤◌, ◌<◌, ◌+◌, ℕ, map, sum_by, length, slice_index_or, ◌^◌, true, MatchOption, replicate};
-ghost use Rattle.cf_base.specs.Limits.{most_entries, most_cents};
-ghost use Rattle.cf_chart.specs.Rising.{is_rising};
+ghost use Rattle.cf_base.specs.Common.{most_entries, most_cents};
+ghost use Rattle.cf_chart.specs.Common.{is_rising};
 ghost use Rattle.cf_model.specs.Assets as spec;
-ghost use Rattle.cf_model.specs.Assets.{depreciation, charge};
+ghost use Rattle.cf_model.specs.Common.{depreciation, charge};
 ghost use Rattle.cf_assets.specs.Rows.{view_asset, AreRows};
 ghost use Rattle.cf_assets.specs.Serving.{ServeAll};
 ghost use Rattle.cf_assets.specs.Charges.{AddsTo, AreCharges, HasNot, StandsAt, charge_in, of_kind};

@@ -2,15 +2,15 @@
 
 ghost use Rattle.std.specs.Prelude.{false, ◌≡◌, ◌≤◌, ◌<◌, ◌+◌, ◌^◌, ◌∷◌, ◌++◌, ℕ, [], true, is_some, length, sum, sum_by, slice_index_or, OnOk, IfSome, option_map, option_to_list, ◌==◌};
 ghost use Rattle.std.specs.List.{filter};
-ghost use Rattle.cf_base.specs.Limits.{last_fiscal_year, most_entries, most_cents};
-ghost use Rattle.cf_chart.specs.Rising.{is_rising};
+ghost use Rattle.cf_base.specs.Common.{last_fiscal_year, most_entries, most_cents};
+ghost use Rattle.cf_chart.specs.Common.{is_rising};
 ghost use Rattle.cf_assets.specs.Charges.{AreCharges, charge_in, of_kind};
 ghost use Rattle.cf_assets.specs.Inventory.{AreCheap, AreNumbered, StagesOne, accumulated_at};
 ghost use Rattle.cf_assets.specs.Rows.{view_asset, view_origin, IsRow};
 ghost use Rattle.cf_assets.specs.Years.{with_cost};
 ghost use Rattle.cf_assets.specs.Inventory as spec;
-ghost use Rattle.cf_model.specs.Assets.{Asset, held, void, disposed, voucher_of, is_given, is_leased};
-ghost use Rattle.cf_model.specs.RegisterRules.{asset_at};
+ghost use Rattle.cf_model.specs.Common.{Asset, void, disposed, voucher_of, is_given, is_leased, asset_at};
+ghost use Rattle.cf_model.specs.Assets.{held};
 ghost use Rattle.cf_register_parts.specs.Limits.{most_items, most_total};
 
 use crate::charges::{MonthCharges, depreciation_of, function_charges, total_charges};

@@ -5,13 +5,9 @@ ghost use Rattle.std.specs.List.{filter};
 ghost use Rattle.cf_assets.specs.Extents.{AreExtents};
 ghost use Rattle.cf_assets.specs.Register.{IsOf};
 ghost use Rattle.cf_assets.specs.Rows.{view_asset};
-ghost use Rattle.cf_model.specs.Assets.{voucher_of};
-ghost use Rattle.cf_model.specs.Documents.{is_number};
-ghost use Rattle.cf_model.specs.Registers.{Registers};
+ghost use Rattle.cf_model.specs.Common.{voucher_of, is_number, Registers, asset_refusal, first_refusal};
 ghost use Rattle.cf_model.specs.RegisterRules as spec;
-ghost use Rattle.cf_model.specs.RegisterRules.{asset_refusal};
-ghost use Rattle.cf_model.specs.Rules.{first_refusal};
-ghost use Rattle.cf_base.specs.Limits.{most_cents};
+ghost use Rattle.cf_base.specs.Common.{most_cents};
 
 use crate::assets::Assets;
 use crate::charges::{depreciation_of, is_leased};

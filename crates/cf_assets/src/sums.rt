@@ -1,11 +1,11 @@
 //! The sums of assets by fiscal year and by closed month.
 
 ghost use Rattle.std.specs.Prelude.{◌≡◌, ◌≤◌, ◌*◌, ◌+◌, ◌-◌, sum_by};
-ghost use Rattle.cf_base.specs.Limits.{last_fiscal_year};
+ghost use Rattle.cf_base.specs.Common.{last_fiscal_year};
 ghost use Rattle.cf_assets.specs.Inventory.{AreKept};
 ghost use Rattle.cf_assets.specs.Years.{bought_in, given_in, let_in, book_in};
 ghost use Rattle.cf_register_parts.specs.Years.{sum_to};
-ghost use Rattle.cf_model.specs.Assets.{depreciation};
+ghost use Rattle.cf_model.specs.Common.{depreciation};
 ghost use Rattle.cf_register_parts.specs.Limits.{most_in_years, most_total};
 
 use crate::inventory::{Inventory, accumulated_after};

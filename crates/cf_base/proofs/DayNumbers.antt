@@ -11,7 +11,7 @@ use Rattle.jiff_core.proofs.MarchLemmas.{day_count-early}
 use Rattle.jiff_core.proofs.CalendarLemmas.{days_from_civil-day_count, days_in_month_bounds, day_count-day, day_count-next_month, day_count-next_year, day_count-last_of_year, day_count-lt_year, day_count-epoch}
 use Rattle.jiff_core.proofs.DateLemmas.{epoch_day_injective}
 use Rattle.cf_base.specs.declared.calendar.Day.{Day}
-use Rattle.cf_base.specs.Calendar.{is_day, next_day, day_number, day_of_number}
+use Rattle.cf_base.specs.Common.{is_day, next_day, day_number, day_of_number}
 
 -- what it takes to be a civil day from 1970 to the end of a year
 pub record Within (last : ℕ) (d : Day) : Type 0 where

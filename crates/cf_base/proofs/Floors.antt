@@ -3,7 +3,7 @@ use Rattle.std.proofs.Common.{◌≡◌, ◌∙◌, ◌+◌, ◌*◌, ◌<◌, �
 use Rattle.std.proofs.lemmas.Bool.{eq-eqb, eqb-true}
 use Rattle.std.proofs.lemmas.List.Sums.{sum_by-cons}
 use Rattle.std.proofs.Math.Nat.{div-add-mod, mod-lt}
-use Rattle.cf_base.specs.Shares.{AreFair, HasFloor, HasMore, IsAhead, floor_of, rest_of}
+use Rattle.cf_base.specs.Common.{AreFair, HasFloor, HasMore, IsAhead, floor_of, rest_of}
 
 eqb-false : (i j : ℕ) → eqb i j ≡ false → i ≢ j
 eqb-false i j e same = true≢false (sym (eq-eqb i j same) ∙ e)

@@ -1,6 +1,7 @@
 pub mod Amounts
 pub mod Calendar
 pub mod Causes
+pub mod Common
 pub mod Limits
 pub mod Memory
 pub mod Money

@@ -1,7 +1,6 @@
 -- Some bytes more of a source.
 use Rattle.std.proofs.Common.{◌≡◌, ◌≤◌, inl, ℕ, List, length, Option, Result, Err, ap, sym, subst}
-use Rattle.std.specs.Io.KnownBytes.{Consumes}
-use Rattle.std.proofs.KnownBytes.{Consumes-trans}
+use Rattle.cf_base.proofs.Common.{Consumes, Consumes-trans}
 use Rattle.cf_base_lines.specs.Reads.{IsRead, Takes}
 
 pub took_more : (first left left' : Option (List ℕ)) (old new : List ℕ) (count : ℕ) → Consumes first left old → Takes left left' old new count → Consumes first left' new

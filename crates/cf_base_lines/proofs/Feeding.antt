@@ -1,9 +1,6 @@
 -- A desk is fed.
 use Rattle.std.proofs.Common.{◌≡◌, ◌≢◌, ℕ, suc, ◌<◌, ◌≤◌, ◌+◌, List, [], ◌∷◌, ◌++◌, length, take, drop, slice_index, append_assoc, ap, ◌∙◌, sym, refl, subst, Option, drop-cons}
-use Rattle.std.specs.Io.KnownBytes.{Appends}
-use Rattle.std.proofs.KnownBytes.{Appends-trans}
-use Rattle.std.proofs.lemmas.List.{append-nil, take-append-drop}
-use Rattle.std.proofs.lemmas.List.Elements.{All-append, All-nil, All-cons}
+use Rattle.cf_base.proofs.Common.{Appends, Appends-trans, append-nil, take-append-drop, All-append, All-nil, All-cons}
 use Rattle.cf_base_lines.specs.Lines.{NoNewline, one_a_line, last_line, OfWholeLines, OfAllLines, OfFront}
 use Rattle.cf_base_lines.specs.Talk.{Rule, Talk}
 use Rattle.cf_base_lines.specs.Sinks.{Wrote}

@@ -1,10 +1,6 @@
 -- A desk reads on, and ends.
 use Rattle.std.proofs.Common.{◌≡◌, ℕ, suc, ◌<◌, ◌≤◌, ◌+◌, ◌-◌, ◌^◌, List, [], ◌∷◌, ◌++◌, length, take, slice_index, append_assoc, ap, ◌∙◌, sym, refl, arith, subst, Option, inr, length-append}
-use Rattle.std.specs.Io.KnownBytes.{Consumes}
-use Rattle.std.proofs.KnownBytes.{Consumes-nil, Consumes-trans, Appends-nil}
-use Rattle.std.proofs.lemmas.List.{append-nil, length-take-le}
-use Rattle.std.proofs.lemmas.List.Elements.{All-nil}
-use Rattle.std.proofs.Math.Seq.{take-suc}
+use Rattle.cf_base.proofs.Common.{Consumes, Consumes-nil, Consumes-trans, Appends-nil, append-nil, length-take-le, All-nil, take-suc}
 use Rattle.cf_base_lines.specs.Lines.{NoNewline, OfWholeLines, OfFront}
 use Rattle.cf_base_lines.specs.Talk.{Rule}
 use Rattle.cf_base_lines.specs.Run.{Moment, moment_of, GaveFront, Outcome}

@@ -1,8 +1,6 @@
 -- A talk goes on by a line.
 use Rattle.std.proofs.Common.{◌≡◌, ℕ, ◌<◌, ◌≤◌, List, [], ◌∷◌, ◌++◌, length, take, drop, append_assoc, ap, ◌∙◌, sym, refl, subst, Option}
-use Rattle.std.specs.Io.KnownBytes.{Appends}
-use Rattle.std.proofs.KnownBytes.{Appends-trans}
-use Rattle.std.proofs.lemmas.List.{append-nil, take-append-drop}
+use Rattle.cf_base.proofs.Common.{Appends, Appends-trans, append-nil, take-append-drop}
 use Rattle.cf_base_lines.specs.Lines.{one_a_line}
 use Rattle.cf_base_lines.specs.Talk.{Rule, Talk, Answers, Answered, long_text}
 use Rattle.cf_base_lines.specs.Sinks.{Wrote}

@@ -1,6 +1,6 @@
 -- Which answers were given whole.
 use Rattle.std.proofs.Common.{◌≡◌, ℕ, ◌+◌, ◌≤◌, List, [], ◌∷◌, ◌++◌, append_assoc, ap, ◌∙◌, sym, refl, arith}
-use Rattle.std.proofs.lemmas.List.{append-nil}
+use Rattle.cf_base.proofs.Common.{append-nil}
 use Rattle.cf_base_lines.specs.Lines.{one_a_line}
 use Rattle.cf_base_lines.specs.Talk.{Rule, Talk, Answers}
 use Rattle.cf_base_lines.specs.Run.{Told}

@@ -2,7 +2,7 @@
 
 ghost use Rattle.std.specs.Prelude.{◌≡◌, ◌<◌, ◌≤◌, length, take, IfOk, OnErr, OnOk};
 ghost use Rattle.std.specs.Io.KnownBytes.{Consumes, IsAtEnd, Keeps};
-ghost use Rattle.cf_base.specs.Causes.{HasCause};
+ghost use Rattle.cf_base.specs.Common.{HasCause};
 
 use cf_base::{Failed, Source};
 

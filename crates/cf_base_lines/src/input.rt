@@ -1,7 +1,7 @@
 //! Reads a source to its end, for those who need its bytes whole.
 
 ghost use Rattle.std.specs.Prelude.{◌≡◌, ◌<◌, ◌≤◌, length, vec_len, Err, IfOk, OnOk};
-ghost use Rattle.cf_base.specs.Causes.{Rose};
+ghost use Rattle.cf_base.specs.Common.{Rose};
 ghost use Rattle.cf_base_lines.specs.Reads.{IsRead, Takes};
 
 use crate::chunk::{CHUNK, read_chunk};

@@ -2,7 +2,7 @@
 
 ghost use Rattle.std.specs.Prelude.{◌≡◌, ◌+◌, ◌≤◌, ℕ, List, [], OnOk, OnErr, vec_len, vec_capacity};
 ghost use Rattle.std.specs.Io.KnownBytes.{Appends};
-ghost use Rattle.cf_base.specs.Causes.{HasCause};
+ghost use Rattle.cf_base.specs.Common.{HasCause};
 ghost use Rattle.cf_base_lines.specs.Sinks.{Wrote};
 
 use cf_base::{Failed, Sink};

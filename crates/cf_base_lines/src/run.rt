@@ -1,5 +1,5 @@
 ghost use Rattle.std.specs.Prelude.{◌≡◌, ◌≢◌, ◌+◌, ◌≤◌, ◌<◌, ◌∷◌, ℕ, List, [], length, vec_len, vec_capacity, OnOk, OnErr, IsTrue, false};
-ghost use Rattle.cf_base.specs.Causes.{HasCause, Rose};
+ghost use Rattle.cf_base.specs.Common.{HasCause, Rose};
 ghost use Rattle.cf_base_lines.specs.Lines.{OfAllLines, last_line};
 ghost use Rattle.cf_base_lines.specs.Run.{Moment, moment_of, Gave, GaveFront, Outcome};
 ghost use Rattle.cf_base_lines.specs.State.{IsLine, IsAt, state_of};

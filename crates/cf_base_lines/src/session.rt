@@ -1,7 +1,7 @@
 //! Bytes are taken piece by piece, and the lines that end in them are answered.
 
 ghost use Rattle.std.specs.Prelude.{◌≡◌, ◌≢◌, ◌≤◌, ◌∷◌, [], vec_capacity, OnOk, OnErr};
-ghost use Rattle.cf_base.specs.Causes.{HasCause};
+ghost use Rattle.cf_base.specs.Common.{HasCause};
 ghost use Rattle.cf_base_lines.specs.Run.{moment_of};
 ghost use Rattle.cf_base_lines.specs.State.{Feeds, Breaks, state_of};
 

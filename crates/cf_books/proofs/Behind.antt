@@ -1,6 +1,6 @@
 -- An entry that is looked for by its place in the file.
 use Rattle.std.proofs.Common.{◌≡◌, ◌+◌, ◌-◌, ℕ, zero, suc, List, ◌∷◌, refl}
-use Rattle.cf_calls.specs.declared.entry.Entry.{Entry}
+use Rattle.cf_model.specs.Common.{Entry}
 use Rattle.cf_journal.specs.Records.{record_len}
 use Rattle.cf_books.specs.Answers.{entry_behind}
 

@@ -1,9 +1,8 @@
 -- The calls of a legal history make that history again.
 use Rattle.std.proofs.Common.{◌≡◌, List, [], ◌∷◌, ◌++◌, ap, ◌∙◌, append_assoc, append-nil, sym}
 use Rattle.cf_calls.specs.declared.call.Call.TheVariants as call
-use Rattle.cf_calls.specs.declared.entry.Entry.{Entry}
-use Rattle.cf_chart.specs.Plan.{Plan}
-use Rattle.cf_model.specs.Step.{Adds, IsLegal, IsLegalAfter, next_of}
+use Rattle.cf_model.specs.Common.{Entry, Adds, IsLegal, IsLegalAfter, next_of}
+use Rattle.cf_chart.specs.Common.{Plan}
 use Rattle.cf_books.specs.Again.{calls_of, after_calls}
 
 -- the step adds an entry for its own change

@@ -1,11 +1,8 @@
 -- How a run ends.
-use Rattle.std.proofs.Common.{◌≡◌, ◌<◌, ◌-◌, ◌^◌, ◌&&◌, nat_le, Bool, true, false, if◌then◌else◌, ℕ, List, [], ◌++◌, length, Option, Some, None, Result, Ok, Err, inl, inr, refl, sym, subst, ◌∙◌, append-nil, arith}
-use Rattle.std.specs.Io.KnownBytes.{Appends, IsAtEnd}
-use Rattle.std.specs.Prelude.{Vec}
-use Rattle.std.specs.declared.alloc.Global.{Global}
-use Rattle.cf_base.specs.Limits.{last_year}
-use Rattle.cf_base.specs.declared.calendar.Day.{Day}
-use Rattle.cf_base.specs.declared.calendar.Month.{Month}
+use Rattle.std.proofs.Common.{◌≡◌, ◌<◌, ◌-◌, ◌^◌, ◌&&◌, nat_le, Bool, true, false, if◌then◌else◌, ℕ, List, [], ◌++◌, length, Option, Some, None, Result, Ok, Err, inl, inr, refl, sym, subst, ◌∙◌, append-nil, arith, Vec, Global}
+use Rattle.cf_base.proofs.Common.{Appends, IsAtEnd}
+use Rattle.cf_base.specs.Common.{last_year}
+use Rattle.cf_model.specs.Common.{Day, Month, Entry, ChartFault, OfficeState}
 use Rattle.cf_journal_book.specs.Recovery.{recovered}
 use Rattle.cf_books_days.specs.declared.statement.DatedKind.{DatedKind}
 use Rattle.cf_journal_book.specs.declared.refused.BookRefused.{BookRefused}
@@ -18,10 +15,7 @@ use Rattle.cf_books_words.specs.Words.{Asked}
 use Rattle.cf_books_words.specs.declared.words.Command.{Command}
 use Rattle.cf_books_words.specs.declared.words.DocumentFilter.{DocumentFilter}
 use Rattle.cf_books_words.specs.declared.words.Command.TheVariants as asked
-use Rattle.cf_chart.specs.Plan.{Plan}
-use Rattle.cf_chart.specs.Reading.{chart_of}
-use Rattle.cf_calls.specs.declared.entry.Entry.{Entry}
-use Rattle.cf_chart.specs.declared.fault.ChartFault.{ChartFault}
+use Rattle.cf_chart.specs.Common.{Plan, chart_of}
 use Rattle.cf_chart.specs.declared.fault.ChartFault.TheVariants as chart_fault
 use Rattle.cf_claims.specs.Standing.{vouchers_of_grant}
 use Rattle.cf_claims.specs.declared.standing.GrantVoucher.{GrantVoucher}
@@ -32,7 +26,6 @@ use Rattle.cf_grants.specs.declared.grant.Grant.{Grant}
 use Rattle.cf_journal.specs.Frames.{frames}
 use Rattle.cf_journal.specs.declared.refused.OpenRefused.{OpenRefused}
 use Rattle.cf_journal.specs.declared.refused.OpenRefused.TheVariants as open_refused
-use Rattle.cf_model.specs.State.{OfficeState}
 use Rattle.cf_run_words.specs.declared.words.ReportKind.{ReportKind}
 use Rattle.cf_books.specs.declared.status.Status.{Status}
 use Rattle.cf_books.specs.declared.status.Status.TheVariants.{Done, BadWords, ChartRefused, GrantsRefused, ReadFault, WriteFault, NotFounded, Damaged, NoMemory, Cut, NoSuchDay, NotInChart, EntriesRefused}

@@ -1,8 +1,8 @@
 -- A month that can be asked for is one that a call may state.
 use Rattle.std.proofs.Common.{◌≡◌, ◌≤◌, true, arith}
-use Rattle.std.proofs.lemmas.Bool.Decides.{nat_tests}
-use Rattle.cf_base.specs.Calendar.{is_call_month}
-use Rattle.cf_base.specs.declared.calendar.Month.{Month}
+use Rattle.cf_base.proofs.Common.{nat_tests}
+use Rattle.cf_base.specs.Common.{is_call_month}
+use Rattle.cf_model.specs.Common.{Month}
 use Rattle.cf_books.specs.Answers.{is_asked_month}
 
 pub asked_call : (m : Month) → is_asked_month m ≡ true → is_call_month m ≡ true

@@ -1,7 +1,6 @@
 -- One step of a loop over a list.
-use Rattle.std.proofs.Common.{◌≡◌, ℕ, zero, suc, ◌+◌, ◌<◌, Bool, refl, List, [], ◌∷◌, ◌++◌, length, drop, get_or, sym, ap, ◌∙◌, append_assoc, add-one, drop-cons, arith}
-use Rattle.std.specs.Prelude.{◌-◌, codes, decimal, slice_index_or}
-use Rattle.cf_calls.specs.Refusals.{refusal_names}
+use Rattle.std.proofs.Common.{◌≡◌, ℕ, zero, suc, ◌+◌, ◌<◌, Bool, refl, List, [], ◌∷◌, ◌++◌, length, drop, get_or, sym, ap, ◌∙◌, append_assoc, add-one, drop-cons, arith, ◌-◌, codes, decimal, slice_index_or}
+use Rattle.cf_calls.specs.Common.{refusal_names}
 use Rattle.cf_books.specs.Notices.{refusal_text}
 use Rattle.cf_books_lists.specs.Records.{record_text, rows_text}
 use Rattle.cf_books_lists.specs.Rows.{Written, added}

@@ -1,9 +1,8 @@
 -- What is said of the front of a journal that has no more entries.
-use Rattle.std.proofs.Common.{◌≡◌, ◌∙◌, ℕ, ◌≤◌, Bool, true, false, if◌then◌else◌, nat_le, List, length, Option, Some, None, Result, Ok, Err, refl, sym, ap, arith}
-use Rattle.std.proofs.lemmas.Bool.Decides.{nat_tests}
-use Rattle.std.specs.Prelude.{◌&&◌, IfOk}
-use Rattle.cf_base.specs.Limits.{last_year}
-use Rattle.cf_base.specs.declared.calendar.Day.{Day}
+use Rattle.std.proofs.Common.{◌≡◌, ◌∙◌, ℕ, ◌≤◌, Bool, true, false, if◌then◌else◌, nat_le, List, length, Option, Some, None, Result, Ok, Err, refl, sym, ap, arith, ◌&&◌, IfOk}
+use Rattle.cf_base.proofs.Common.{nat_tests}
+use Rattle.cf_base.specs.Common.{last_year}
+use Rattle.cf_model.specs.Common.{Day, Entry, OfficeState}
 use Rattle.cf_books_days.specs.declared.statement.DatedKind.{DatedKind}
 use Rattle.cf_journal_book.specs.Recovery.{of_frames, recovered}
 use Rattle.cf_journal_book.specs.declared.refused.BookRefused.{BookRefused}
@@ -14,11 +13,9 @@ use Rattle.cf_books_front.specs.declared.front.FrontRefused.{FrontRefused}
 use Rattle.cf_books_front.specs.declared.front.FrontRefused.TheVariants.{Fewer}
 use Rattle.cf_books_words.specs.declared.words.Command.{Command}
 use Rattle.cf_books_words.specs.declared.words.Command.TheVariants as asked
-use Rattle.cf_calls.specs.declared.entry.Entry.{Entry}
 use Rattle.cf_journal.specs.Frames.{frames}
 use Rattle.cf_journal.specs.declared.refused.OpenRefused.{OpenRefused}
 use Rattle.cf_journal.specs.declared.refused.OpenRefused.TheVariants.{Damaged, Disk, NoMemory, NotFounded}
-use Rattle.cf_model.specs.State.{OfficeState}
 use Rattle.cf_books.specs.Answers.{Answers, IsToday, Said, dated_kind, dated_said, dated_told, is_of_entries, lines_said, nothing, office_said, over_office, refused_in, refused_said, said, view, whole_said, is_asked_month, month_told}
 use Rattle.cf_books.specs.declared.answers.Answer.{Answer}
 use Rattle.cf_books.specs.declared.status.Status.TheVariants.{BadWords}

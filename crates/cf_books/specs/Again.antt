@@ -1,10 +1,8 @@
 -- The calls of a history, taken one after another.
 use Rattle.std.specs.Prelude.{List, [], ◌∷◌, map}
-use Rattle.cf_calls.specs.declared.call.Call.{Call}
+use Rattle.cf_model.specs.Common.{Call, Entry, next_of}
 use Rattle.cf_calls.specs.declared.call.Call.TheVariants as call
-use Rattle.cf_calls.specs.declared.entry.Entry.{Entry}
-use Rattle.cf_chart.specs.Plan.{Plan}
-use Rattle.cf_model.specs.Step.{next_of}
+use Rattle.cf_chart.specs.Common.{Plan}
 
 -- the calls of entries, in order
 abbrev pub calls_of : List Entry → List Call

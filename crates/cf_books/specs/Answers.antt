@@ -1,18 +1,14 @@
 -- What each command answers: a function of the bytes of its file.
 use Rattle.std.specs.Prelude.{◌≡◌, ⊤, ℕ, zero, suc, ◌+◌, ◌-◌, ◌&&◌, nat_le, Bool, true, false, if◌then◌else◌, List, [], ◌∷◌, ◌++◌, length, Option, Some, None, Result, Ok, Err}
 use Rattle.std.specs.Io.KnownBytes.{Appends}
-use Rattle.cf_base.specs.Limits.{last_year}
-use Rattle.cf_base.specs.declared.calendar.Day.{Day}
-use Rattle.cf_base.specs.declared.calendar.Month.{Month as MonthOfYear}
+use Rattle.cf_base.specs.Common.{last_year}
+use Rattle.cf_model.specs.Common.{Day, Month as MonthOfYear, Entry, ChartFault, OfficeState}
 use Rattle.cf_journal_book.specs.DurableState.{DurableBook}
 use Rattle.cf_journal_book.specs.Recovery.{recovered}
 use Rattle.cf_journal_book.specs.declared.refused.BookRefused.{BookRefused}
 use Rattle.cf_journal_book.specs.declared.refused.BookRefused.TheVariants.{NotFounded, Damaged, Disk, NoMemory}
-use Rattle.cf_calls.specs.declared.entry.Entry.{Entry}
-use Rattle.cf_chart.specs.declared.fault.ChartFault.{ChartFault}
 use Rattle.cf_chart.specs.declared.fault.ChartFault.TheVariants as fault
-use Rattle.cf_chart.specs.Plan.{Plan}
-use Rattle.cf_chart.specs.Reading.{chart_of}
+use Rattle.cf_chart.specs.Common.{Plan, chart_of}
 use Rattle.cf_claims.specs.Standing.{vouchers_of_grant}
 use Rattle.cf_claims.specs.declared.standing.GrantVoucher.{GrantVoucher}
 use Rattle.cf_base_lines.specs.Sinks.{Wrote}
@@ -24,7 +20,6 @@ use Rattle.cf_journal.specs.Frames.{frames}
 use Rattle.cf_journal.specs.Records.{record_len}
 use Rattle.cf_journal.specs.declared.refused.OpenRefused.{OpenRefused}
 use Rattle.cf_journal.specs.declared.refused.OpenRefused.TheVariants as open_refused
-use Rattle.cf_model.specs.State.{OfficeState}
 use Rattle.cf_run_words.specs.declared.words.ReportKind.{ReportKind}
 use Rattle.cf_run_words.specs.declared.words.ReportKind.TheVariants.{Look}
 use Rattle.cf_base.specs.declared.statement.Kind.TheVariants as kind

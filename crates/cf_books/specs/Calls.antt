@@ -1,7 +1,7 @@
 -- The entries of a journal as calls.
 use Rattle.std.specs.Prelude.{◌≡◌, ℕ, List, [], ◌∷◌, ◌++◌, flat_map, Ok}
 use Rattle.cf_calls.specs.declared.call.Call.TheVariants as call
-use Rattle.cf_calls.specs.declared.entry.Entry.{Entry}
+use Rattle.cf_model.specs.Common.{Entry}
 use Rattle.cf_json.specs.Calls.{call_of}
 use Rattle.cf_json_calls.specs.CallText.{call_text}
 

@@ -2,13 +2,10 @@
 use Rattle.std.specs.Prelude.{ℕ, Bool, true, false, ◌&&◌, not, if◌then◌else◌, List, codes, Option, Some, None, option_and_then, Ok, Err}
 use Rattle.std.specs.Str.{bytes_eq}
 use Rattle.toml.specs.Data.{Data, at as item_at, get}
-use Rattle.cf_chart.specs.declared.fault.ChartFault.{ChartFault}
+use Rattle.cf_model.specs.Common.{ChartFault, KeyName, TableName}
 use Rattle.cf_chart.specs.declared.fault.ChartFault.TheVariants as fault
-use Rattle.cf_chart.specs.declared.fault.KeyName.{KeyName}
-use Rattle.cf_chart.specs.declared.fault.TableName.{TableName}
 use Rattle.cf_chart.specs.declared.fault.TableName.TheVariants as table
-use Rattle.cf_chart.specs.Faults.{Checked, table_word, word_of}
-use Rattle.cf_chart.specs.Reading.{value_of}
+use Rattle.cf_chart.specs.Common.{Checked, table_word, word_of, value_of}
 use Rattle.cf_books_grants.specs.FaultIds.{id_in}
 use Rattle.cf_books.specs.declared.fault_rows.FaultRow.{FaultRow}
 

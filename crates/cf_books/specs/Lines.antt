@@ -1,8 +1,8 @@
 -- A row a control line: its number, its fund and department with their names, and what part of the
 -- objects it has, with the fiscal years that it is of where its fund has a later level of control.
 use Rattle.std.specs.Prelude.{ℕ, ◌+◌, false, List, [], ◌∷◌, decimal}
-use Rattle.cf_chart.specs.Plan.{Plan, fund_at, department_at}
-use Rattle.cf_chart.specs.declared.rows.Line.{Line}
+use Rattle.cf_chart.specs.Common.{Plan, fund_at, department_at}
+use Rattle.cf_model.specs.Common.{Line}
 use Rattle.cf_books_lists.specs.LineNames.{later_of, part_and_years, part_name}
 use Rattle.cf_books_lists.specs.Names.{department_name, fund_name}
 use Rattle.cf_books_lists.specs.Records.{rows_text}

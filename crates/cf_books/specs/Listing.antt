@@ -1,7 +1,7 @@
 -- A row an entry: its place, day, desk, key and call, its amount, and the numbers that it drew.
 use Rattle.std.specs.Prelude.{ℕ, ◌+◌, ℤ, Bool, List, [], ◌∷◌, ◌++◌, Option, codes, decimal}
-use Rattle.cf_base.specs.Calendar.{day_text}
-use Rattle.cf_calls.specs.declared.entry.Entry.{Entry}
+use Rattle.cf_base.specs.Common.{day_text}
+use Rattle.cf_model.specs.Common.{Entry}
 use Rattle.cf_json_calls.specs.CallText.{call_word}
 use Rattle.cf_books_payments.specs.Payments.{Payable, amount_after, none_payable, payable_after}
 use Rattle.cf_books_lists.specs.Records.{drawn_text, head_text, money_if, rows_text}

@@ -1,11 +1,10 @@
 -- The exit code of the program, and what it says on standard error.
 use Rattle.std.specs.Prelude.{ℕ, zero, suc, ◌+◌, List, [], ◌∷◌, ◌++◌, slice_index_or, codes, decimal, Option, Some, None}
-use Rattle.cf_chart.specs.Faults.{table_word, word_of}
-use Rattle.cf_chart.specs.declared.fault.ChartFault.{ChartFault}
+use Rattle.cf_chart.specs.Common.{table_word, word_of}
+use Rattle.cf_model.specs.Common.{ChartFault, TableName}
 use Rattle.cf_chart.specs.declared.fault.ChartFault.TheVariants as fault
-use Rattle.cf_chart.specs.declared.fault.TableName.{TableName}
-use Rattle.cf_base.specs.Calendar.{day_text}
-use Rattle.cf_calls.specs.Refusals.{refusal_names}
+use Rattle.cf_base.specs.Common.{day_text}
+use Rattle.cf_calls.specs.Common.{refusal_names}
 use Rattle.cf_books_grants.specs.FaultIds.{id_text}
 use Rattle.cf_books_grants.specs.Faults.{fault_text as grant_fault_text}
 use Rattle.cf_books.specs.declared.status.RefusedEntry.{RefusedEntry}

@@ -1,7 +1,7 @@
 -- Which bytes of a journal's file are in use, and which are room.
 use Rattle.std.specs.Prelude.{ℕ, ◌+◌, ◌-◌, nat_lt, if◌then◌else◌, List, [], ◌∷◌, length, take, drop, sum_by, codes}
 use Rattle.std.specs.Int.{w32, from_be_bytes}
-use Rattle.cf_calls.specs.declared.entry.Entry.{Entry}
+use Rattle.cf_model.specs.Common.{Entry}
 use Rattle.cf_journal.specs.Records.{record_len}
 use Rattle.cf_books.specs.Summary.{counts_text}
 

@@ -1,15 +1,11 @@
 -- What a chart has, and what a journal has.
 use Rattle.std.specs.Prelude.{ℕ, ◌-◌, Bool, true, false, not, List, [], ◌∷◌, ◌++◌, length, slice_get, count_by, flat_map, Option, Some, None, codes, decimal}
 use Rattle.std.specs.Borrow.{Bor}
-use Rattle.cf_base.specs.Calendar.{day_text}
-use Rattle.cf_calls.specs.declared.acts.Act.{Act}
-use Rattle.cf_calls.specs.declared.acts.Act.TheVariants.{Close}
+use Rattle.cf_base.specs.Common.{day_text}
+use Rattle.cf_model.specs.Common.{Act, Close, Entry, LaterLevel, Level}
 use Rattle.cf_calls.specs.declared.acts.Period.TheVariants as period
-use Rattle.cf_calls.specs.declared.entry.Entry.{Entry}
-use Rattle.cf_chart.specs.Plan.{Plan}
+use Rattle.cf_chart.specs.Common.{Plan}
 use Rattle.cf_chart.specs.declared.rows.Fund.{Fund}
-use Rattle.cf_chart.specs.declared.rows.LaterLevel.{LaterLevel}
-use Rattle.cf_chart.specs.declared.rows.Level.{Level}
 use Rattle.cf_chart.specs.declared.rows.Level.TheVariants as level
 
 -- a fact with its name, on a line

@@ -2,13 +2,12 @@
 -- rows.
 use Rattle.std.specs.Prelude.{ℕ, Bool, ◌==◌, nat_lt, if◌then◌else◌, Option, Some, None, is_some}
 use Rattle.std.specs.Option.{option_or}
-use Rattle.cf_base.specs.declared.calendar.Day.{Day}
+use Rattle.cf_model.specs.Common.{Day, year_of_day}
 use Rattle.cf_books_words.specs.declared.words.Command.{Command}
 use Rattle.cf_books_words.specs.declared.words.Command.TheVariants as asked
 use Rattle.cf_books_words.specs.declared.words.LedgerFilter.{LedgerFilter}
 use Rattle.cf_books_words.specs.declared.words.PostFilter.{PostFilter}
-use Rattle.cf_chart.specs.Plan.{Plan, department_at, fund_at, line_at, object_at, source_at}
-use Rattle.cf_model.specs.Calendar.{year_of_day}
+use Rattle.cf_chart.specs.Common.{Plan, department_at, fund_at, line_at, object_at, source_at}
 use Rattle.cf_books.specs.declared.unknown.NameKind.{NameKind}
 use Rattle.cf_books.specs.declared.unknown.NameKind.TheVariants as kind
 use Rattle.cf_books.specs.declared.unknown.Unknown.{Unknown}

@@ -2,7 +2,7 @@
 
 ghost use Rattle.std.specs.Prelude.{◌≡◌, ℕ, List, Option, Some, None, Result, Err, IfOk, length, option_map};
 ghost use Rattle.std.specs.List.{All};
-ghost use Rattle.cf_chart.specs.Reading.{chart_of};
+ghost use Rattle.cf_chart.specs.Common.{chart_of};
 ghost use Rattle.cf_journal.specs.Records.{HasRecord};
 ghost use Rattle.cf_books.specs.Answers as spec;
 ghost use Rattle.cf_books.specs.Answers.{Answers, IsToday};

@@ -2,10 +2,10 @@
 
 ghost use Rattle.std.specs.Prelude.{◌≡◌, [], ◌++◌, OnOk};
 ghost use Rattle.std.specs.List.{All};
-ghost use Rattle.cf_calls.specs.Form.{IsChangeInForm};
-ghost use Rattle.cf_chart.specs.Plan.{Plan};
+ghost use Rattle.cf_calls.specs.Common.{IsChangeInForm};
+ghost use Rattle.cf_chart.specs.Common.{Plan};
 ghost use Rattle.cf_journal.specs.Records.{HasRecord};
-ghost use Rattle.cf_model.specs.Step.{IsLegal};
+ghost use Rattle.cf_model.specs.Common.{IsLegal};
 ghost use Rattle.cf_books.specs.Again.{after_calls, calls_of};
 ghost use Rattle.cf_books.specs.Calls.{ReadsBack, call_line, calls_text};
 

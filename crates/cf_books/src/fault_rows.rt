@@ -3,7 +3,7 @@
 
 ghost use Rattle.std.specs.Prelude.{◌≡◌, IfOk};
 ghost use Rattle.toml.specs.View.{view};
-ghost use Rattle.cf_chart.specs.Reading.{value_of};
+ghost use Rattle.cf_chart.specs.Common.{value_of};
 ghost use Rattle.cf_books.specs.FaultRows as spec;
 
 use cf_books_grants::id_in;

@@ -1,7 +1,7 @@
 //! What is said of a document of grants, under the chart or over the history of a journal.
 
 ghost use Rattle.cf_journal_book.specs.Recovery.{recovered};
-ghost use Rattle.cf_chart.specs.Reading.{chart_of};
+ghost use Rattle.cf_chart.specs.Common.{chart_of};
 ghost use Rattle.cf_claims.specs.Standing.{vouchers_of_grant as rows_of_grant};
 ghost use Rattle.cf_grants.specs.Reading.{grants_of};
 ghost use Rattle.cf_books.specs.Answers as spec;

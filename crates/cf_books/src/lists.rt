@@ -4,7 +4,7 @@
 ghost use Rattle.std.specs.Prelude.{◌≡◌, false, true, IfOk, None};
 ghost use Rattle.cf_journal_book.specs.Recovery.{recovered};
 ghost use Rattle.cf_journal_book.specs.Watching.{all_posted};
-ghost use Rattle.cf_calls.specs.Form.{IsYear};
+ghost use Rattle.cf_calls.specs.Common.{IsYear};
 ghost use Rattle.cf_books.specs.Answers as spec;
 ghost use Rattle.cf_books.specs.Answers.{Answers, OpensWith};
 ghost use Rattle.cf_books.specs.Unknown as named;

@@ -1,7 +1,7 @@
 //! A month of a journal whose entries the office takes again.
 
 ghost use Rattle.std.specs.Prelude.{◌≡◌, ◌≤◌, true, IfOk};
-ghost use Rattle.cf_base.specs.Calendar.{is_call_month};
+ghost use Rattle.cf_base.specs.Common.{is_call_month};
 ghost use Rattle.cf_journal_book.specs.Recovery.{recovered};
 ghost use Rattle.cf_journal_book.specs.Watching.{all_posted};
 ghost use Rattle.cf_books.specs.Answers as spec;

@@ -1,8 +1,8 @@
 //! What is said on standard error.
 
 ghost use Rattle.std.specs.Prelude.{◌≡◌, ◌++◌, Some, OnOk};
-ghost use Rattle.cf_base.specs.Calendar.{day_text as day_words};
-ghost use Rattle.cf_chart.specs.Faults.{word_of};
+ghost use Rattle.cf_base.specs.Common.{day_text as day_words};
+ghost use Rattle.cf_chart.specs.Common.{word_of};
 ghost use Rattle.cf_books.specs.Notices as spec;
 
 use crate::status::{RefusedEntry, Status};

@@ -6,7 +6,7 @@ ghost use Rattle.cf_journal_book.specs.declared.refused.BookRefused.{BookRefused
 ghost use Rattle.cf_books_words.specs.declared.words.Command.TheVariants.{Check};
 ghost use Rattle.cf_books.specs.Answers as spec;
 ghost use Rattle.cf_books.specs.Answers.{Answers, Opens, Refuses, opened};
-ghost use Rattle.cf_model.specs.State.{OfficeState};
+ghost use Rattle.cf_model.specs.Common.{OfficeState};
 
 use crate::answers::{Answer, damaged, nothing};
 use crate::refused::refused_at;

@@ -2,7 +2,7 @@
 
 ghost use Rattle.std.specs.Prelude.{◌≡◌, ◌≢◌, ◌⊎◌, false, Err, IfOk, OnOk};
 ghost use Rattle.std.specs.Io.KnownBytes.{Appends};
-ghost use Rattle.cf_base.specs.Causes.{Rose};
+ghost use Rattle.cf_base.specs.Common.{Rose};
 ghost use Rattle.cf_books.specs.Answers as spec;
 ghost use Rattle.cf_books.specs.Answers.{Ends, IsBeside};
 ghost use Rattle.cf_books.specs.Notices.{notice_of};

@@ -11,7 +11,7 @@ ghost use Rattle.cf_books_days.specs.Gathered.{IsOf};
 ghost use Rattle.cf_books_days.specs.Posts.{posts_text_through};
 ghost use Rattle.cf_books_lists.specs.Posts.{placed_in};
 ghost use Rattle.cf_books_words.specs.declared.words.Command.TheVariants.{Balances, Posts};
-ghost use Rattle.cf_calls.specs.Form.{IsYear};
+ghost use Rattle.cf_calls.specs.Common.{IsYear};
 
 use crate::answers::{Answer, nothing};
 use crate::lists::{done, open_posts};

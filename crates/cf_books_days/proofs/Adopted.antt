@@ -1,16 +1,10 @@
 -- What adoptions estimate that are dated through a day.
 use Rattle.std.proofs.Common.{◌≡◌, ℕ, ◌+◌, ◌≤◌, ◌&&◌, Bool, true, false, cond, is_some, List, [], ◌∷◌, Option, Some, None, refl, sym, ap, ◌∙◌, arith}
-use Rattle.std.proofs.lemmas.List.Sums.{sum_by-cons}
-use Rattle.cf_base.specs.declared.calendar.Day.{Day}
+use Rattle.cf_base.proofs.Common.{sum_by-cons}
+use Rattle.cf_model.specs.Common.{Day, Act, Adopt, Adoption, Entry, estimate, estimated_by, Registers, no_registers, registers_step}
 use Rattle.cf_journal_book.specs.Watching.{Posted, posted_after, posted_over}
-use Rattle.cf_calls.specs.Acts.{adoption_of}
-use Rattle.cf_calls.specs.declared.acts.Act.{Act}
-use Rattle.cf_calls.specs.declared.acts.Act.TheVariants.{Adopt}
-use Rattle.cf_calls.specs.declared.acts.Adoption.{Adoption}
-use Rattle.cf_calls.specs.declared.entry.Entry.{Entry}
-use Rattle.cf_chart.specs.Plan.{Plan}
-use Rattle.cf_model.specs.Estimates.{estimate, estimated_by}
-use Rattle.cf_model.specs.Registers.{Registers, no_registers, registers_step}
+use Rattle.cf_calls.specs.Common.{adoption_of}
+use Rattle.cf_chart.specs.Common.{Plan}
 use Rattle.cf_books_days.specs.Adoptions.{adoptions_through, estimate_in as in_adoption, is_adoption_through}
 use Rattle.cf_books_days.specs.Through.{dated_through, estimate_in, is_through, seen_through}
 

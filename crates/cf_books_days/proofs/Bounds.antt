@@ -1,26 +1,17 @@
 -- What is posted through a day is in the years of the books, and far smaller than 128 bits allow.
-use Rattle.std.proofs.Common.{◌≡◌, ℕ, ◌+◌, ◌<◌, ◌≤◌, ◌*◌, ◌^◌, ◌==◌, ◌&&◌, nat_le, Bool, true, false, cond, if◌then◌else◌, List, [], ◌∷◌, ◌++◌, flat_map, map, length, ℤ, pos, ◌+ℤ◌, unsigned_abs, refl, sym, ap, subst, ◌∙◌, arith}
-use Rattle.std.specs.List.{All, AllByRecursion, filter}
-use Rattle.std.proofs.lemmas.Int.{ints}
-use Rattle.std.proofs.lemmas.List.Sums.{sum_by-append, sum_by-cons}
-use Rattle.std.proofs.lemmas.List.Elements.{All-from_recursion, recursion_from_All}
-use Rattle.cf_base.specs.declared.calendar.Day.{Day}
-use Rattle.cf_base.specs.Limits.{most_entries}
+use Rattle.std.proofs.Common.{◌≡◌, ℕ, ◌+◌, ◌<◌, ◌≤◌, ◌*◌, ◌^◌, ◌==◌, ◌&&◌, nat_le, Bool, true, false, cond, if◌then◌else◌, List, [], ◌∷◌, ◌++◌, flat_map, map, length, ℤ, pos, ◌+ℤ◌, unsigned_abs, refl, sym, ap, subst, ◌∙◌, arith, All, filter}
+use Rattle.cf_base.proofs.Common.{AllByRecursion, ints, sum_by-append, sum_by-cons, All-from_recursion, recursion_from_All}
+use Rattle.cf_model.specs.Common.{Day, Entry, Basis, Gov as GovBasis, Adds, IsLegal}
+use Rattle.cf_base.specs.Common.{most_entries}
 use Rattle.cf_journal_book.proofs.Watched.{posted_push}
 use Rattle.cf_journal_book.specs.Watching.{Posted, all_posted, next_posted}
-use Rattle.cf_calls.specs.declared.entry.Entry.{Entry}
-use Rattle.cf_calls.specs.declared.read.Basis.{Basis}
-use Rattle.cf_calls.specs.declared.read.Basis.TheVariants.{Fund as FundBasis, Gov as GovBasis}
-use Rattle.cf_chart.specs.Plan.{Plan}
+use Rattle.cf_calls.specs.declared.read.Basis.TheVariants.{Fund as FundBasis}
+use Rattle.cf_chart.specs.Common.{Plan}
 use Rattle.cf_ledger.specs.declared.post.Post.{Post}
 use Rattle.cf_ledger.specs.Books.{Books, posts_of}
 use Rattle.cf_ledger.specs.Posts.{balance, is_in_total, is_of, sizes, sum_where, IsInYears}
 use Rattle.cf_ledger.proofs.Sums.{within_sizes}
-use Rattle.cf_model.specs.Step.{Adds, IsLegal}
-use Rattle.cf_model.proofs.Lawful.{IsWhole}
-use Rattle.cf_model.proofs.Legal.{legal_induction, legal_push}
-use Rattle.cf_model.proofs.PostedYears.{posts_years}
-use Rattle.cf_model.proofs.Sized.{posts_small}
+use Rattle.cf_model.proofs.Common.{IsWhole, legal_induction, legal_push, posts_years, posts_small}
 use Rattle.cf_books_days.specs.Through.{fund_balance_in, fund_posts, gov_posts, is_through, posts_by, seen_through}
 use Rattle.cf_books_days.specs.Ledgers.{as_balance, in_balance}
 use Rattle.cf_books_days.proofs.Whole.{fund_all, gov_all}

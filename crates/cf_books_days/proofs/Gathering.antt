@@ -1,15 +1,14 @@
 -- What is gathered of one entry more, and what of it is dated through a day.
-use Rattle.std.proofs.Common.{◌≡◌, ℕ, Bool, true, false, cond, if◌then◌else◌, List, [], ◌∷◌, ◌++◌, map, refl, sym, ap, ◌∙◌, append-nil}
-use Rattle.std.specs.List.{filter}
-use Rattle.std.proofs.lemmas.Grind.{flat_map-append}
-use Rattle.cf_base.specs.declared.calendar.Day.{Day}
+use Rattle.std.proofs.Common.{◌≡◌, ℕ, Bool, true, false, cond, if◌then◌else◌, List, [], ◌∷◌, ◌++◌, map, refl, sym, ap, ◌∙◌, append-nil, filter}
+use Rattle.cf_base.proofs.Common.{flat_map-append}
+use Rattle.cf_model.specs.Common.{Day}
 use Rattle.cf_journal_book.specs.Watching.{Posted}
 use Rattle.cf_budget.specs.declared.changes.LineChange.{LineChange}
 use Rattle.cf_budget.specs.declared.row.Row.{Row}
 use Rattle.cf_budget.specs.Changes.{change_at, changes_at}
 use Rattle.cf_budget.specs.Tables.{row_plus, zero_row}
 use Rattle.cf_budget.proofs.Rows.{plus_regroup, plus_zero, zero_plus}
-use Rattle.cf_chart.specs.Plan.{Plan}
+use Rattle.cf_chart.specs.Common.{Plan}
 use Rattle.cf_ledger.specs.declared.post.Post.{Post}
 use Rattle.cf_registers.specs.Moved.{moved_by}
 use Rattle.cf_books_days.specs.declared.gathered.DatedChange.{DatedChange}

@@ -1,14 +1,11 @@
 -- The posts of the entries that are dated through a day are those whose entries are.
 use Rattle.std.proofs.Common.{◌≡◌, ℕ, ◌+◌, ◌-◌, Bool, true, false, cond, List, [], ◌∷◌, ◌++◌, length, Some, slice_get, refl, sym, ap, ◌∙◌, append_assoc, length-append, arith}
-use Rattle.std.proofs.lemmas.List.Elements.{filter-append}
-use Rattle.cf_base.specs.declared.calendar.Day.{Day}
+use Rattle.cf_base.proofs.Common.{filter-append}
+use Rattle.cf_model.specs.Common.{Day, Entry, Basis, Gov as GovBasis, Registers, no_registers, registers_step}
 use Rattle.cf_journal_book.specs.Watching.{Posted, all_posted, posted_after, posted_over}
-use Rattle.cf_calls.specs.declared.entry.Entry.{Entry}
-use Rattle.cf_calls.specs.declared.read.Basis.{Basis}
-use Rattle.cf_calls.specs.declared.read.Basis.TheVariants.{Fund as FundBasis, Gov as GovBasis}
-use Rattle.cf_chart.specs.Plan.{Plan}
+use Rattle.cf_calls.specs.declared.read.Basis.TheVariants.{Fund as FundBasis}
+use Rattle.cf_chart.specs.Common.{Plan}
 use Rattle.cf_ledger.specs.declared.post.Post.{Post}
-use Rattle.cf_model.specs.Registers.{Registers, no_registers, registers_step}
 use Rattle.cf_books_lists.specs.declared.posts.PlacedPost.{PlacedPost}
 use Rattle.cf_books_lists.specs.Posts.{placed, placed_in, placed_of}
 use Rattle.cf_books_days.specs.Posts.{is_dated, kept}

@@ -1,8 +1,7 @@
 -- The running numbers of control lines, change by change.
 use Rattle.std.proofs.Common.{◌≡◌, ℕ, ◌==◌, ◌&&◌, Bool, true, false, if◌then◌else◌, ℤ, ◌+ℤ◌, ◌-ℤ◌, neg_ℤ, arith, sym, ap, ◌∙◌}
-use Rattle.std.specs.Int.{int_wrap, w128}
-use Rattle.std.proofs.lemmas.Int.{int_wrap-add_left, int_wrap-add_right, int_wrap-sub_right, ints}
-use Rattle.cf_base.specs.declared.calendar.Day.{Day}
+use Rattle.cf_base.proofs.Common.{int_wrap, w128, int_wrap-add_left, int_wrap-add_right, int_wrap-sub_right, ints}
+use Rattle.cf_model.specs.Common.{Day}
 use Rattle.cf_budget.specs.declared.changes.LineChange.{LineChange}
 use Rattle.cf_budget.specs.declared.row.Row.{Row}
 use Rattle.cf_budget.specs.Changes.{change_at}

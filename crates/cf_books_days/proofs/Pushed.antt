@@ -1,11 +1,11 @@
 -- What is dated through a day, of one entry more.
 use Rattle.std.proofs.Common.{◌≡◌, ℕ, ◌+◌, cond, List, [], ◌∷◌, ◌++◌, sym, ap, ◌∙◌}
-use Rattle.std.proofs.lemmas.List.Elements.{filter-append}
-use Rattle.cf_base.specs.declared.calendar.Day.{Day}
+use Rattle.cf_base.proofs.Common.{filter-append}
+use Rattle.cf_model.specs.Common.{Day}
 use Rattle.cf_journal_book.specs.Watching.{Posted}
 use Rattle.cf_budget.specs.Tables.{row_plus}
 use Rattle.cf_budget.proofs.Rows.{plus_regroup, plus_zero, zero_plus}
-use Rattle.cf_chart.specs.Plan.{Plan}
+use Rattle.cf_chart.specs.Common.{Plan}
 use Rattle.cf_registers.specs.Moved.{moved_by}
 use Rattle.cf_books_days.specs.Through.{dated_through, is_through, moved_in}
 

@@ -1,17 +1,11 @@
 -- Where no entry is dated later, a statement through a day is that of the history.
 use Rattle.std.proofs.Common.{◌≡◌, ℕ, ◌+◌, ◌<◌, ◌≤◌, ◌==◌, ◌&&◌, true, if◌then◌else◌, List, [], ◌∷◌, ◌++◌, flat_map, length, decimal, codes, refl, ap, ◌∙◌, arith}
-use Rattle.std.specs.List.{AllByRecursion}
-use Rattle.cf_base.specs.declared.calendar.Day.{Day}
-use Rattle.cf_base.specs.Limits.{most_entries}
+use Rattle.cf_base.proofs.Common.{AllByRecursion}
+use Rattle.cf_model.specs.Common.{Day, Entry, Row, LineNumbers, Line, sums_of, IsLegal}
+use Rattle.cf_base.specs.Common.{most_entries}
 use Rattle.cf_journal_book.specs.Watching.{all_posted}
-use Rattle.cf_calls.specs.declared.entry.Entry.{Entry}
-use Rattle.cf_calls.specs.declared.reply.Row.{Row}
-use Rattle.cf_calls.specs.declared.shown.LineNumbers.{LineNumbers}
 use Rattle.cf_chart.specs.declared.rows.Fund.{Fund}
-use Rattle.cf_chart.specs.declared.rows.Line.{Line}
-use Rattle.cf_chart.specs.Plan.{Plan, is_of_year}
-use Rattle.cf_model.specs.Report.{sums_of}
-use Rattle.cf_model.specs.Step.{IsLegal}
+use Rattle.cf_chart.specs.Common.{Plan, is_of_year}
 use Rattle.cf_statements.specs.Budget.{budget_rows, fund_rows, line_rows, source_rows}
 use Rattle.cf_statements.specs.Sums.{Sums, heading}
 use Rattle.cf_books_days.specs.declared.statement.DatedKind.{DatedKind}

@@ -1,12 +1,9 @@
 -- Where no entry is dated later, the text of a statement through a day is that of the history.
 use Rattle.std.proofs.Common.{◌≡◌, ℕ, ◌<◌, ◌≤◌, Bool, true, List, length, refl, ap, ◌∙◌}
-use Rattle.std.specs.List.{AllByRecursion}
-use Rattle.cf_base.specs.declared.calendar.Day.{Day}
-use Rattle.cf_base.specs.Limits.{most_entries}
-use Rattle.cf_calls.specs.declared.entry.Entry.{Entry}
-use Rattle.cf_chart.specs.Plan.{Plan}
-use Rattle.cf_model.specs.Report.{sums_of}
-use Rattle.cf_model.specs.Step.{IsLegal}
+use Rattle.cf_base.proofs.Common.{AllByRecursion}
+use Rattle.cf_model.specs.Common.{Day, Entry, sums_of, IsLegal}
+use Rattle.cf_base.specs.Common.{most_entries}
+use Rattle.cf_chart.specs.Common.{Plan}
 use Rattle.cf_books_lists.specs.Statement.{rows_of, statement_text, text_of}
 use Rattle.cf_books_days.specs.declared.statement.DatedKind.{DatedKind}
 use Rattle.cf_books_days.specs.declared.statement.DatedKind.TheVariants as dated

@@ -1,26 +1,17 @@
 -- Where no entry is dated later, what a history comes to through a day is what it comes to.
 use Rattle.std.proofs.Common.{◌≡◌, ℕ, ◌+◌, ◌<◌, ◌≤◌, FitsSigned, true, cond, List, [], ◌∷◌, ◌++◌, length, refl, sym, ap, ◌∙◌, arith}
-use Rattle.std.specs.Int.{w128}
-use Rattle.std.specs.List.{AllByRecursion}
-use Rattle.std.proofs.lemmas.Int.{int_wrap_fits, ints}
-use Rattle.std.proofs.lemmas.List.Sums.{sum_by-cons}
-use Rattle.cf_base.specs.declared.calendar.Day.{Day}
+use Rattle.cf_base.proofs.Common.{w128, AllByRecursion, int_wrap_fits, ints, sum_by-cons}
+use Rattle.cf_model.specs.Common.{Day, Entry, Gov as GovBasis, estimate, estimated_by, act_posts, posts_after, posts_in, Registers, no_registers, registers_step, sums_of, Adds, IsLegal}
 use Rattle.cf_journal_book.proofs.Watched.{posted_push}
 use Rattle.cf_journal_book.specs.Watching.{Posted, all_posted, next_posted, posted_after, posted_over}
-use Rattle.cf_base.specs.Limits.{most_entries}
+use Rattle.cf_base.specs.Common.{most_entries}
 use Rattle.cf_budget.specs.declared.row.Row.{Row}
 use Rattle.cf_budget.specs.Tables.{Fits, numbers_of, room_of, row_plus}
 use Rattle.cf_budget.proofs.Rows.{fit_held}
-use Rattle.cf_calls.specs.declared.entry.Entry.{Entry}
-use Rattle.cf_calls.specs.declared.read.Basis.TheVariants.{Fund as FundBasis, Gov as GovBasis}
-use Rattle.cf_chart.specs.Plan.{Plan}
+use Rattle.cf_calls.specs.declared.read.Basis.TheVariants.{Fund as FundBasis}
+use Rattle.cf_chart.specs.Common.{Plan}
 use Rattle.cf_ledger.specs.Posts.{balance, total}
-use Rattle.cf_model.specs.Estimates.{estimate, estimated_by}
-use Rattle.cf_model.specs.Postings.{act_posts, posts_after, posts_in}
-use Rattle.cf_model.specs.Registers.{Registers, no_registers, registers_step}
-use Rattle.cf_model.specs.Report.{sums_of}
-use Rattle.cf_model.specs.Step.{Adds, IsLegal}
-use Rattle.cf_model.proofs.Legal.{legal_induction, legal_push}
+use Rattle.cf_model.proofs.Common.{legal_induction, legal_push}
 use Rattle.cf_office_history.proofs.Numbers.{numbers_are_of}
 use Rattle.cf_registers.specs.Moved.{row_of}
 use Rattle.cf_office.proofs.Tied.{row_fits, row_push}

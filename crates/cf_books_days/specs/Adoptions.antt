@@ -1,11 +1,8 @@
 -- The adoptions of budgets that are dated through a day.
 use Rattle.std.specs.Prelude.{ℕ, Bool, ◌&&◌, ◌==◌, if◌then◌else◌, is_some, List}
 use Rattle.std.specs.List.{filter}
-use Rattle.cf_base.specs.declared.calendar.Day.{Day}
-use Rattle.cf_calls.specs.Acts.{adoption_of}
-use Rattle.cf_calls.specs.declared.acts.Adoption.{Adoption}
-use Rattle.cf_calls.specs.declared.entry.Entry.{Entry}
-use Rattle.cf_model.specs.Estimates.{estimate_for}
+use Rattle.cf_model.specs.Common.{Day, Adoption, Entry, estimate_for}
+use Rattle.cf_calls.specs.Common.{adoption_of}
 use Rattle.cf_books_days.specs.Through.{is_through}
 
 -- what an adoption estimates of a source for a fiscal year

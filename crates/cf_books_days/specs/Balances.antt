@@ -2,12 +2,10 @@
 -- with its balance through a fiscal year.
 use Rattle.std.specs.Prelude.{ℕ, Bool, List, ◌++◌, flat_map}
 use Rattle.cf_model_articulation.specs.TrialBalances.{fund_accounts, gov_accounts}
-use Rattle.cf_base.specs.declared.calendar.Day.{Day}
-use Rattle.cf_calls.specs.declared.entry.Entry.{Entry}
-use Rattle.cf_calls.specs.declared.read.Basis.{Basis}
-use Rattle.cf_calls.specs.declared.read.Basis.TheVariants.{Fund as FundBasis, Gov as GovBasis}
+use Rattle.cf_model.specs.Common.{Day, Entry, Basis, Gov as GovBasis}
+use Rattle.cf_calls.specs.declared.read.Basis.TheVariants.{Fund as FundBasis}
 use Rattle.cf_chart.specs.declared.rows.Fund.{Fund}
-use Rattle.cf_chart.specs.Plan.{Plan}
+use Rattle.cf_chart.specs.Common.{Plan}
 use Rattle.cf_ledger.specs.Posts.{balance}
 use Rattle.cf_books_lists.specs.Balances.{balance_text, head}
 use Rattle.cf_books_lists.specs.Records.{head_text}

@@ -2,13 +2,13 @@
 -- day of its entry.
 use Rattle.std.specs.Prelude.{◌≡◌, ℕ, if◌then◌else◌, List, [], ◌∷◌, flat_map, map}
 use Rattle.std.specs.List.{filter}
-use Rattle.cf_base.specs.declared.calendar.Day.{Day}
+use Rattle.cf_model.specs.Common.{Day}
 use Rattle.cf_journal_book.specs.Watching.{Posted}
 use Rattle.cf_budget.specs.declared.changes.LineChange.{LineChange}
 use Rattle.cf_budget.specs.declared.row.Row.{Row}
 use Rattle.cf_budget.specs.Changes.{change_at}
 use Rattle.cf_budget.specs.Tables.{row_plus, zero_row}
-use Rattle.cf_chart.specs.Plan.{Plan}
+use Rattle.cf_chart.specs.Common.{Plan}
 use Rattle.cf_ledger.specs.declared.post.Post.{Post}
 use Rattle.cf_books_days.specs.declared.gathered.Dated.{Dated}
 use Rattle.cf_books_days.specs.declared.gathered.DatedChange.{DatedChange}

@@ -1,9 +1,8 @@
 -- The posts of the entries that are dated through a day, as records.
 use Rattle.std.specs.Prelude.{ℕ, ◌-◌, Bool, false, List, Option, Some, None, slice_get}
 use Rattle.std.specs.List.{filter}
-use Rattle.cf_base.specs.declared.calendar.Day.{Day}
-use Rattle.cf_calls.specs.declared.entry.Entry.{Entry}
-use Rattle.cf_chart.specs.Plan.{Plan}
+use Rattle.cf_model.specs.Common.{Day, Entry}
+use Rattle.cf_chart.specs.Common.{Plan}
 use Rattle.cf_books_words.specs.declared.words.PostFilter.{PostFilter}
 use Rattle.cf_books_lists.specs.declared.posts.PlacedPost.{PlacedPost}
 use Rattle.cf_books_lists.specs.Posts.{placed_in, text_of}

@@ -1,10 +1,8 @@
 -- A statement of a fiscal year, made of the entries that are dated through a day.
 use Rattle.std.specs.Prelude.{ℕ, Bool, List}
-use Rattle.cf_base.specs.declared.calendar.Day.{Day}
+use Rattle.cf_model.specs.Common.{Day, Entry, Row}
 use Rattle.cf_base.specs.declared.statement.Kind.TheVariants as kind
-use Rattle.cf_calls.specs.declared.entry.Entry.{Entry}
-use Rattle.cf_calls.specs.declared.reply.Row.{Row}
-use Rattle.cf_chart.specs.Plan.{Plan}
+use Rattle.cf_chart.specs.Common.{Plan}
 use Rattle.cf_statements.specs.Activities.{activities_rows}
 use Rattle.cf_statements.specs.Balance.{balance_rows}
 use Rattle.cf_statements.specs.Budget.{budget_rows}

@@ -3,19 +3,14 @@
 use Rattle.std.specs.Prelude.{ℕ, ℤ, ◌&&◌, ◌==◌, nat_le, Bool, not, List, [], ◌∷◌, flat_map, sum_by}
 use Rattle.std.specs.Int.{int_wrap, w128}
 use Rattle.std.specs.List.{filter}
-use Rattle.cf_base.specs.declared.calendar.Day.{Day}
+use Rattle.cf_model.specs.Common.{Day, Entry, Basis, LineNumbers, Gov as GovBasis, is_before, estimated_by}
 use Rattle.cf_journal_book.specs.Watching.{Posted, all_posted}
 use Rattle.cf_budget.specs.declared.row.Row.{Row}
 use Rattle.cf_budget.specs.Tables.{room_of, row_plus, zero_row}
-use Rattle.cf_calls.specs.declared.entry.Entry.{Entry}
-use Rattle.cf_calls.specs.declared.read.Basis.{Basis}
-use Rattle.cf_calls.specs.declared.shown.LineNumbers.{LineNumbers}
-use Rattle.cf_calls.specs.declared.read.Basis.TheVariants.{Fund as FundBasis, Gov as GovBasis}
-use Rattle.cf_chart.specs.Plan.{Plan}
+use Rattle.cf_calls.specs.declared.read.Basis.TheVariants.{Fund as FundBasis}
+use Rattle.cf_chart.specs.Common.{Plan}
 use Rattle.cf_ledger.specs.declared.post.Post.{Post}
 use Rattle.cf_ledger.specs.Posts.{balance, is_in_total, sum_where, total}
-use Rattle.cf_model.specs.Calendar.{is_before}
-use Rattle.cf_model.specs.Estimates.{estimated_by}
 use Rattle.cf_registers.specs.Moved.{moved_by}
 use Rattle.cf_statements.specs.Sums.{Sums}
 

@@ -2,7 +2,8 @@
 
 ghost use Rattle.std.specs.Prelude.{◌≡◌, ◌<◌, ◌^◌, IfOk};
 ghost use Rattle.std.specs.List.{All};
-ghost use Rattle.cf_calls.specs.declared.read.Basis.TheVariants.{Fund as FundBasis, Gov as GovBasis};
+ghost use Rattle.cf_model.specs.Common.{Gov as GovBasis};
+ghost use Rattle.cf_calls.specs.declared.read.Basis.TheVariants.{Fund as FundBasis};
 ghost use Rattle.cf_ledger.specs.Books.{posts_of};
 ghost use Rattle.cf_ledger.specs.Posts.{is_in_total, sizes, IsInYears};
 ghost use Rattle.cf_books_days.specs.Gathered as gathered;

@@ -4,7 +4,7 @@ ghost use Rattle.std.specs.Prelude.{◌≡◌, true, IfOk};
 ghost use Rattle.std.specs.List.{AllByRecursion};
 ghost use Rattle.cf_journal_book.specs.Watching.{all_posted};
 ghost use Rattle.cf_books_lists.specs.Statement.{statement_text};
-ghost use Rattle.cf_calls.specs.Form.{IsYear};
+ghost use Rattle.cf_calls.specs.Common.{IsYear};
 ghost use Rattle.cf_books_days.specs.Gathered.{IsOf};
 ghost use Rattle.cf_books_days.specs.Statement as spec;
 ghost use Rattle.cf_books_days.specs.Through.{is_through, sums_through};

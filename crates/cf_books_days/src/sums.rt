@@ -2,7 +2,8 @@
 
 ghost use Rattle.std.specs.Prelude.{◌≡◌, ◌<◌, ◌^◌, ℕ, true, map, IfOk, unsigned_abs};
 ghost use Rattle.cf_journal_book.specs.Watching.{all_posted};
-ghost use Rattle.cf_calls.specs.declared.read.Basis.TheVariants.{Fund as FundBasis, Gov as GovBasis};
+ghost use Rattle.cf_model.specs.Common.{Gov as GovBasis};
+ghost use Rattle.cf_calls.specs.declared.read.Basis.TheVariants.{Fund as FundBasis};
 ghost use Rattle.cf_ledger.specs.Books.{posts_of};
 ghost use Rattle.cf_ledger.specs.Posts.{balance};
 ghost use Rattle.cf_books_days.specs.Adoptions.{adoptions_through};

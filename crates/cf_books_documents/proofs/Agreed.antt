@@ -1,7 +1,6 @@
 -- What items have in common.
-use Rattle.std.proofs.Common.{◌≡◌, ◌∙◌, ◌==◌, ℕ, Bool, if◌then◌else◌, List, Some, None, ap, sym}
-use Rattle.std.specs.List.{list_all}
-use Rattle.std.specs.Prelude.{slice_get}
+use Rattle.std.proofs.Common.{◌≡◌, ◌∙◌, ◌==◌, ℕ, Bool, if◌then◌else◌, List, Some, None, ap, sym, slice_get}
+use Rattle.cf_base.proofs.Common.{list_all}
 use Rattle.cf_books_documents.specs.Accounts.{agreed, shared}
 
 pub agreed_is : {A : Type 0} (f : A → ℕ) (items : List A) (x : A) (id : ℕ) (all test : Bool) → Some x ≡ slice_get items 0 → id ≡ f x

@@ -1,10 +1,10 @@
 -- The entries of each legal history are dated, and their acts are in form.
 use Rattle.std.proofs.Common.{List, [], ◌∷◌}
-use Rattle.std.specs.List.{AllByRecursion}
-use Rattle.cf_calls.specs.declared.entry.Entry.{Entry}
-use Rattle.cf_chart.specs.Plan.{Plan}
-use Rattle.cf_model.specs.Step.{IsLegal}
-use Rattle.cf_model.proofs.Bounds.{IsSound, all_sound}
+use Rattle.cf_base.proofs.Common.{AllByRecursion}
+use Rattle.cf_model.specs.Common.{Entry, IsLegal}
+use Rattle.cf_chart.specs.Common.{Plan}
+use Rattle.cf_model.proofs.Common.{all_sound}
+use Rattle.cf_model.proofs.Bounds.{IsSound}
 use Rattle.cf_books_documents.specs.Dated.{IsDated}
 
 all_dated : (plan : Plan) (history : List Entry) → AllByRecursion (IsSound plan) history → AllByRecursion IsDated history

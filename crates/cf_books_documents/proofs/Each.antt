@@ -1,20 +1,10 @@
 -- Each number stands once among the documents.
 use Rattle.std.proofs.Common.{◌≡◌, ◌∙◌, ◌+◌, ℕ, Bool, true, false, if◌then◌else◌, List, [], ◌∷◌, ◌++◌, Option, map, refl, ap, ap₂}
-use Rattle.std.proofs.lemmas.List.{map-append}
-use Rattle.cf_calls.specs.declared.acts.Act.{Act}
+use Rattle.cf_base.proofs.Common.{map-append}
+use Rattle.cf_model.specs.Common.{Act, AssetAct, Donate, Dispose, FundMove, FundMoveKind, Entry, AccountItem, VoucherItem, Shown, is_capital, Registers, registers_of}
 use Rattle.cf_calls.specs.declared.acts.Act.TheVariants as act
-use Rattle.cf_calls.specs.declared.acts.AssetAct.{AssetAct}
-use Rattle.cf_calls.specs.declared.acts.AssetAct.TheVariants.{Donate, Dispose}
-use Rattle.cf_calls.specs.declared.acts.FundMove.{FundMove}
-use Rattle.cf_calls.specs.declared.acts.FundMoveKind.{FundMoveKind}
 use Rattle.cf_calls.specs.declared.acts.FundMoveKind.TheVariants as move
-use Rattle.cf_calls.specs.declared.entry.Entry.{Entry}
-use Rattle.cf_calls.specs.declared.items.AccountItem.{AccountItem}
-use Rattle.cf_calls.specs.declared.items.VoucherItem.{VoucherItem}
-use Rattle.cf_calls.specs.declared.shown.Shown.{Shown}
-use Rattle.cf_chart.specs.Plan.{Plan, object_at}
-use Rattle.cf_model.specs.Charted.{is_capital}
-use Rattle.cf_model.specs.Registers.{Registers, registers_of}
+use Rattle.cf_chart.specs.Common.{Plan, object_at}
 use Rattle.cf_books_documents.specs.Accounts as accounts
 use Rattle.cf_books_documents.specs.Documents.{asset, bought, documents_by, gift, items_from, loan}
 use Rattle.cf_books_documents.specs.Once.{EachOnce, Number, assets_drawn, documents_from, drawn_by, drawn_from, gift_drawn, items_drawn, loan_drawn, number_of}

@@ -1,7 +1,6 @@
 -- The places of vouchers, entry by entry.
-use Rattle.std.proofs.Common.{◌≡◌, ◌<◌, ℕ, zero, suc, Bool, true, false, if◌then◌else◌, List, [], ◌∷◌, length, get_or, Option, Some, ap, sym, arith}
-use Rattle.std.specs.Prelude.{option_and_then, slice_get}
-use Rattle.cf_calls.specs.declared.entry.Entry.{Entry}
+use Rattle.std.proofs.Common.{◌≡◌, ◌<◌, ℕ, zero, suc, Bool, true, false, if◌then◌else◌, List, [], ◌∷◌, length, get_or, Option, Some, ap, sym, arith, option_and_then, slice_get}
+use Rattle.cf_model.specs.Common.{Entry}
 
 pub noted_if : (test : Bool) (history : List Entry) (at : ℕ) (e : Entry) (x : Option ℕ) (y : Option Entry) → slice_get history at ≡ Some e
     → option_and_then (slice_get history) x ≡ y → option_and_then (slice_get history) (if test then Some at else x) ≡ (if test then Some e else y)

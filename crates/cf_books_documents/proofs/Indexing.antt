@@ -1,9 +1,8 @@
 -- Events by number, entry by entry.
-use Rattle.std.proofs.Common.{◌≡◌, ◌∙◌, ◌+◌, ◌==◌, ℕ, List, ◌∷◌, ◌++◌, ap, sym, append_assoc}
-use Rattle.std.proofs.lemmas.List.Elements.{filter-append}
-use Rattle.std.specs.Prelude.{Option}
-use Rattle.cf_calls.specs.declared.entry.Entry.{Entry}
-use Rattle.cf_chart.specs.Plan.{Plan}
+use Rattle.std.proofs.Common.{◌≡◌, ◌∙◌, ◌+◌, ◌==◌, ℕ, List, ◌∷◌, ◌++◌, ap, sym, append_assoc, Option}
+use Rattle.cf_base.proofs.Common.{filter-append}
+use Rattle.cf_model.specs.Common.{Entry}
+use Rattle.cf_chart.specs.Common.{Plan}
 use Rattle.cf_books_documents.specs.Events.{events_by, events_from, lent_after}
 use Rattle.cf_books_documents.specs.Indexed.{numbered}
 use Rattle.cf_books_documents.specs.declared.event.Event.{Event}

@@ -1,7 +1,6 @@
 -- A text within another, place by place.
 use Rattle.std.proofs.Common.{◌≡◌, ◌∙◌, ◌<◌, ◌+◌, ◌-◌, ◌==◌, ◌||◌, ℕ, Bool, false, List, ◌∷◌, length, take, drop, get_or, sym, ap, add-one, drop-cons}
-use Rattle.std.proofs.lemmas.List.{take_rest}
-use Rattle.std.specs.List.{starts_with}
+use Rattle.cf_base.proofs.Common.{take_rest, starts_with}
 use Rattle.cf_books_documents.specs.Wanted.{has_within}
 
 pub within_more : (part text : List ℕ) (at : ℕ) → at < length text → starts_with ◌==◌ (take (length text - at) (drop at text)) part ≡ false → has_within part (drop (at + 1) text) ≡ has_within part (drop at text)

@@ -1,7 +1,7 @@
 -- The account of a document's items: what they have in common.
 use Rattle.std.specs.Prelude.{ℕ, ◌==◌, if◌then◌else◌, List, Option, Some, None, slice_get}
 use Rattle.std.specs.List.{list_all}
-use Rattle.cf_calls.specs.declared.items.AccountItem.{AccountItem}
+use Rattle.cf_model.specs.Common.{AccountItem}
 use Rattle.cf_books_documents.specs.declared.accounts.Part.{Part}
 use Rattle.cf_books_documents.specs.declared.accounts.Part.TheVariants.{Fund, Dept, Object}
 use Rattle.cf_books_documents.specs.declared.facts.Account.{Account}

@@ -1,8 +1,8 @@
 -- What is needed of an entry.
 use Rattle.std.specs.Prelude.{◌≡◌, true}
-use Rattle.cf_base.specs.Calendar.{is_day}
-use Rattle.cf_calls.specs.Form.{IsActInForm}
-use Rattle.cf_calls.specs.declared.entry.Entry.{Entry}
+use Rattle.cf_base.specs.Common.{is_day}
+use Rattle.cf_calls.specs.Common.{IsActInForm}
+use Rattle.cf_model.specs.Common.{Entry}
 
 -- its day is one, and its act is in form
 pub record IsDated (e : Entry) : Type 0 where

@@ -1,29 +1,11 @@
 -- The documents that entries entered, as they stand: by what looks at them show in the registers of
 -- the whole history.
 use Rattle.std.specs.Prelude.{ℕ, ◌+◌, nat_lt, if◌then◌else◌, List, [], ◌∷◌, Option, Some, None, sum_by, pos}
-use Rattle.cf_calls.specs.declared.acts.Act.{Act}
+use Rattle.cf_model.specs.Common.{Act, AssetAct, Donate, Dispose, BondIssue, FundMove, FundMoveKind, NewBill, NewLease, NewOrder, NewRequisition, NewVoucher, Entry, AccountItem, VoucherItem, Shown, document_year, fund_of, is_capital, owed, Registers}
 use Rattle.cf_calls.specs.declared.acts.Act.TheVariants as act
-use Rattle.cf_calls.specs.declared.acts.AssetAct.{AssetAct}
-use Rattle.cf_calls.specs.declared.acts.AssetAct.TheVariants.{Donate, Dispose}
-use Rattle.cf_calls.specs.declared.acts.BondIssue.{BondIssue}
-use Rattle.cf_calls.specs.declared.acts.FundMove.{FundMove}
-use Rattle.cf_calls.specs.declared.acts.FundMoveKind.{FundMoveKind}
 use Rattle.cf_calls.specs.declared.acts.FundMoveKind.TheVariants as move
-use Rattle.cf_calls.specs.declared.acts.NewBill.{NewBill}
-use Rattle.cf_calls.specs.declared.acts.NewLease.{NewLease}
-use Rattle.cf_calls.specs.declared.acts.NewOrder.{NewOrder}
-use Rattle.cf_calls.specs.declared.acts.NewRequisition.{NewRequisition}
-use Rattle.cf_calls.specs.declared.acts.NewVoucher.{NewVoucher}
-use Rattle.cf_calls.specs.declared.entry.Entry.{Entry}
-use Rattle.cf_calls.specs.declared.items.AccountItem.{AccountItem}
-use Rattle.cf_calls.specs.declared.items.VoucherItem.{VoucherItem}
 use Rattle.cf_calls.specs.declared.read.Read.TheVariants as read
-use Rattle.cf_calls.specs.declared.shown.Shown.{Shown}
-use Rattle.cf_chart.specs.Plan.{Plan, object_at}
-use Rattle.cf_model.specs.Calendar.{document_year}
-use Rattle.cf_model.specs.Charted.{fund_of, is_capital}
-use Rattle.cf_model.specs.Receivables.{owed}
-use Rattle.cf_model.specs.Registers.{Registers}
+use Rattle.cf_chart.specs.Common.{Plan, object_at}
 use Rattle.cf_registers.specs.RegistersState.{register_shown}
 use Rattle.cf_books_documents.specs.Accounts.{alone, common, of_fund}
 use Rattle.cf_books_documents.specs.Standing.{asset_now, bill_now, debt_now, item_now, item_shown, loan_now, requisition_now, unseen, voucher_now}

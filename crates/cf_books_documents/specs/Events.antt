@@ -1,21 +1,11 @@
 -- What each entry of a history does to documents: one list of all that entries do, in the order of
 -- the entries.
 use Rattle.std.specs.Prelude.{ℕ, ◌+◌, ◌==◌, ◌&&◌, Bool, true, false, if◌then◌else◌, List, [], ◌∷◌, ◌++◌, Option, Some, None, codes, flat_map, fold, map}
-use Rattle.cf_calls.specs.Acts.{voucher_items}
-use Rattle.cf_calls.specs.declared.acts.Act.{Act}
+use Rattle.cf_calls.specs.Common.{voucher_items}
+use Rattle.cf_model.specs.Common.{Act, AssetAct, Donate, Dispose, FundMove, FundMoveKind, Drawn, Entry, Charge, Direct, OnOrder, VoucherItem, is_capital}
 use Rattle.cf_calls.specs.declared.acts.Act.TheVariants as act
-use Rattle.cf_calls.specs.declared.acts.AssetAct.{AssetAct}
-use Rattle.cf_calls.specs.declared.acts.AssetAct.TheVariants.{Donate, Dispose}
-use Rattle.cf_calls.specs.declared.acts.FundMove.{FundMove}
-use Rattle.cf_calls.specs.declared.acts.FundMoveKind.{FundMoveKind}
 use Rattle.cf_calls.specs.declared.acts.FundMoveKind.TheVariants as move
-use Rattle.cf_calls.specs.declared.entry.Drawn.{Drawn}
-use Rattle.cf_calls.specs.declared.entry.Entry.{Entry}
-use Rattle.cf_calls.specs.declared.items.Charge.{Charge}
-use Rattle.cf_calls.specs.declared.items.Charge.TheVariants.{Direct, OnOrder}
-use Rattle.cf_calls.specs.declared.items.VoucherItem.{VoucherItem}
-use Rattle.cf_chart.specs.Plan.{Plan, object_at}
-use Rattle.cf_model.specs.Charted.{is_capital}
+use Rattle.cf_chart.specs.Common.{Plan, object_at}
 use Rattle.cf_books_documents.specs.declared.event.Deed.{Deed}
 use Rattle.cf_books_documents.specs.declared.event.Deed.TheVariants as deed
 use Rattle.cf_books_documents.specs.declared.event.Event.{Event}

@@ -5,7 +5,7 @@ use Rattle.std.specs.Global.{Global}
 use Rattle.std.specs.List.{filter}
 use Rattle.std.specs.Ordering.{nat_cmp}
 use Rattle.std.specs.declared.collections.BTreeMap.{BTreeMap}
-use Rattle.cf_calls.specs.declared.entry.Entry.{Entry}
+use Rattle.cf_model.specs.Common.{Entry}
 use Rattle.cf_books_documents.specs.declared.event.Event.{Event}
 use Rattle.cf_books_documents.specs.declared.rolls.Roll.{Roll}
 use Rattle.cf_books_documents.specs.Events.{is_voucher, voucher_in}

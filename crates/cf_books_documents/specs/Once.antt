@@ -1,18 +1,9 @@
 -- That each number which entries drew stands exactly once among the documents.
 use Rattle.std.specs.Prelude.{◌≡◌, ℕ, ◌+◌, if◌then◌else◌, List, [], ◌∷◌, ◌++◌, map}
-use Rattle.cf_calls.specs.declared.acts.Act.{Act}
+use Rattle.cf_model.specs.Common.{Act, AssetAct, Donate, Dispose, FundMoveKind, Drawn, Entry, AccountItem, VoucherItem, is_capital, Registers, registers_of}
 use Rattle.cf_calls.specs.declared.acts.Act.TheVariants as act
-use Rattle.cf_calls.specs.declared.acts.AssetAct.{AssetAct}
-use Rattle.cf_calls.specs.declared.acts.AssetAct.TheVariants.{Donate, Dispose}
-use Rattle.cf_calls.specs.declared.acts.FundMoveKind.{FundMoveKind}
 use Rattle.cf_calls.specs.declared.acts.FundMoveKind.TheVariants as move
-use Rattle.cf_calls.specs.declared.entry.Drawn.{Drawn}
-use Rattle.cf_calls.specs.declared.entry.Entry.{Entry}
-use Rattle.cf_calls.specs.declared.items.AccountItem.{AccountItem}
-use Rattle.cf_calls.specs.declared.items.VoucherItem.{VoucherItem}
-use Rattle.cf_chart.specs.Plan.{Plan, object_at}
-use Rattle.cf_model.specs.Charted.{is_capital}
-use Rattle.cf_model.specs.Registers.{Registers, registers_of}
+use Rattle.cf_chart.specs.Common.{Plan, object_at}
 use Rattle.cf_books_documents.specs.Documents.{documents_by}
 use Rattle.cf_books_documents.specs.declared.facts.Facts.{Facts}
 use Rattle.cf_books_words.specs.declared.words.DocumentKind.{DocumentKind}

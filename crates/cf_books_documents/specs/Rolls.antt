@@ -1,9 +1,8 @@
 -- The rolls of fiscal years (GASB Codification 1700: the fiscal period), and what they do to
 -- documents.
 use Rattle.std.specs.Prelude.{ℕ, Bool, false, ◌+◌, ◌==◌, ◌&&◌, nat_lt, nat_le, if◌then◌else◌, List, [], ◌∷◌, ◌++◌, Option, Some, None, insert, fold, length, position}
-use Rattle.cf_calls.specs.declared.entry.Entry.{Entry}
-use Rattle.cf_chart.specs.Plan.{Plan}
-use Rattle.cf_model.specs.Calendar.{rolled_year}
+use Rattle.cf_model.specs.Common.{Entry, rolled_year}
+use Rattle.cf_chart.specs.Common.{Plan}
 use Rattle.cf_books_documents.specs.declared.event.Deed.{Deed}
 use Rattle.cf_books_documents.specs.declared.event.Deed.TheVariants as deed
 use Rattle.cf_books_documents.specs.declared.event.Event.{Event}

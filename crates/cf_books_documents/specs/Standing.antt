@@ -1,15 +1,10 @@
 -- How documents stand, by what looks at them show.
 use Rattle.std.specs.Prelude.{ℕ, min, ◌-◌, ◌==◌, if◌then◌else◌, Option, Some, None, is_some, slice_get, ℤ, pos}
-use Rattle.cf_calls.specs.declared.shown.AssetState.{AssetState}
+use Rattle.cf_model.specs.Common.{AssetState, ItemState, OrderItemShown, RequisitionState, Shown, VoucherState}
 use Rattle.cf_calls.specs.declared.shown.AssetState.TheVariants as asset
-use Rattle.cf_calls.specs.declared.shown.ItemState.{ItemState}
 use Rattle.cf_calls.specs.declared.shown.ItemState.TheVariants as item
-use Rattle.cf_calls.specs.declared.shown.OrderItemShown.{OrderItemShown}
-use Rattle.cf_calls.specs.declared.shown.RequisitionState.{RequisitionState}
 use Rattle.cf_calls.specs.declared.shown.RequisitionState.TheVariants as requisition
-use Rattle.cf_calls.specs.declared.shown.Shown.{Shown}
 use Rattle.cf_calls.specs.declared.shown.Shown.TheVariants as shown
-use Rattle.cf_calls.specs.declared.shown.VoucherState.{VoucherState}
 use Rattle.cf_calls.specs.declared.shown.VoucherState.TheVariants as voucher
 use Rattle.cf_books_documents.specs.declared.facts.State.{State}
 use Rattle.cf_books_documents.specs.declared.facts.State.TheVariants as state

@@ -1,11 +1,9 @@
 -- The documents of a history as records, a row for each.
 use Rattle.std.specs.Prelude.{ℕ, ◌+◌, Bool, if◌then◌else◌, List, [], ◌∷◌, ◌++◌, Option, Some, None, codes, decimal, flat_map}
-use Rattle.cf_base.specs.Amounts.{money_of}
-use Rattle.cf_base.specs.Calendar.{day_text}
-use Rattle.cf_calls.specs.declared.entry.Entry.{Entry}
+use Rattle.cf_base.specs.Common.{money_of, day_text}
+use Rattle.cf_model.specs.Common.{Entry, Registers, registers_of}
 use Rattle.cf_chart.specs.Plan as plan
-use Rattle.cf_chart.specs.Plan.{Plan}
-use Rattle.cf_model.specs.Registers.{Registers, registers_of}
+use Rattle.cf_chart.specs.Common.{Plan}
 use Rattle.cf_books_documents.specs.Documents.{documents_by}
 use Rattle.cf_books_documents.specs.Facts.{kind_word, state_word}
 use Rattle.cf_books_documents.specs.Indexed.{Known}

@@ -1,7 +1,7 @@
 -- Texts of the fields of a row.
 use Rattle.std.specs.Prelude.{ℕ, ◌+◌, ◌==◌, if◌then◌else◌, List, [], ◌∷◌, ◌++◌, Option, Some, None, codes, decimal}
-use Rattle.cf_base.specs.Calendar.{day_text}
-use Rattle.cf_calls.specs.declared.entry.Entry.{Entry}
+use Rattle.cf_base.specs.Common.{day_text}
+use Rattle.cf_model.specs.Common.{Entry}
 use Rattle.cf_books_documents.specs.Events.{deed_word}
 use Rattle.cf_books_documents.specs.declared.event.Event.{Event}
 

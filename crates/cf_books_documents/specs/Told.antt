@@ -1,8 +1,8 @@
 -- What a history did to each of its documents.
 use Rattle.std.specs.Prelude.{ℕ, Bool, ◌==◌, ◌&&◌, ◌||◌, List}
 use Rattle.std.specs.List.{filter}
-use Rattle.cf_calls.specs.declared.entry.Entry.{Entry}
-use Rattle.cf_chart.specs.Plan.{Plan}
+use Rattle.cf_model.specs.Common.{Entry}
+use Rattle.cf_chart.specs.Common.{Plan}
 use Rattle.cf_books_documents.specs.Events.{events_of, is_same}
 use Rattle.cf_books_documents.specs.Facts.{subject_of}
 use Rattle.cf_books_documents.specs.Indexed.{Known, numbered}

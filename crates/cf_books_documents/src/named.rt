@@ -4,7 +4,7 @@ ghost use Rattle.std.specs.Prelude.{◌≡◌, ◌++◌, ◌∷◌, [], map, OnO
 ghost use Rattle.std.specs.Option.{option_copied};
 ghost use Rattle.cf_books_documents.specs.Events as spec;
 ghost use Rattle.cf_books_documents.specs.Indexed.{KnowsVouchers};
-ghost use Rattle.cf_calls.specs.Acts.{voucher_items};
+ghost use Rattle.cf_calls.specs.Common.{voucher_items};
 ghost use Rattle.cf_register_parts.specs.Pairs.{amount_at};
 
 use crate::event::{Deed, Event, Subject};

@@ -3,7 +3,7 @@
 ghost use Rattle.std.specs.Prelude.{◌≡◌, option_map, string_bytes, IfOk, OnOk};
 ghost use Rattle.std.specs.List.{AllByRecursion};
 ghost use Rattle.std.specs.Option.{option_copied};
-ghost use Rattle.cf_base.specs.Amounts.{money_of};
+ghost use Rattle.cf_base.specs.Common.{money_of};
 ghost use Rattle.cf_books_documents.specs.Dated.{IsDated};
 ghost use Rattle.cf_books_documents.specs.KnownIn.{known_in};
 ghost use Rattle.cf_books_documents.specs.Once.{EachOnce};

@@ -1,9 +1,6 @@
 -- What the front of a journal reads as.
-use Rattle.std.proofs.Common.{◌≡◌, ◌∙◌, ℕ, ◌+◌, ◌≤◌, List, [], ◌∷◌, ◌++◌, length, take, drop, Option, Some, None, Ok, refl, sym, subst, ap, arith, append_assoc, length-append, take-append-drop}
-use Rattle.std.specs.Prelude.{All}
-use Rattle.std.specs.Int.{w32, to_be_bytes}
-use Rattle.std.proofs.lemmas.List.{take_at, take_all, take-take, take-append-le, length-take}
-use Rattle.std.proofs.lemmas.List.Elements.{All-take}
+use Rattle.std.proofs.Common.{◌≡◌, ◌∙◌, ℕ, ◌+◌, ◌≤◌, List, [], ◌∷◌, ◌++◌, length, take, drop, Option, Some, None, Ok, refl, sym, subst, ap, arith, append_assoc, length-append, take-append-drop, All, w32}
+use Rattle.cf_base.proofs.Common.{to_be_bytes, take_at, take_all, take-take, take-append-le, length-take, All-take}
 use Rattle.cf_calls.specs.declared.entry.Entry.{Entry}
 use Rattle.cf_codec.specs.Entries.{IsOf}
 use Rattle.cf_journal.specs.Frames.{frames}

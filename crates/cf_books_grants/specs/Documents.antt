@@ -1,6 +1,6 @@
 -- What a document of grants has.
 use Rattle.std.specs.Prelude.{ℕ, pos, List, [], ◌∷◌, ◌++◌, length, flat_map, codes, decimal}
-use Rattle.cf_base.specs.Amounts.{money_of}
+use Rattle.cf_base.specs.Common.{money_of}
 use Rattle.cf_grants.specs.declared.grant.Grant.{Grant}
 
 -- a grant, on a line

@@ -1,7 +1,7 @@
 -- The id of the grant that a fault is in.
 use Rattle.std.specs.Prelude.{ℕ, Bool, true, false, if◌then◌else◌, List, [], ◌++◌, codes, decimal, Option, Some, None, option_and_then, Ok, Err}
 use Rattle.toml.specs.Data.{Data, at as item_at, get}
-use Rattle.cf_chart.specs.Values.{within}
+use Rattle.cf_chart.specs.Common.{within}
 use Rattle.cf_grants.specs.declared.fault.GrantFault.{GrantFault}
 use Rattle.cf_grants.specs.declared.fault.GrantFault.TheVariants.{Missing, Bad, Twice}
 use Rattle.cf_grants.specs.declared.fault.GrantKey.{GrantKey}

@@ -2,8 +2,7 @@
 -- grantor's share, how it stands, what can be claimed or which bill claims it, and what is then
 -- left of the award.
 use Rattle.std.specs.Prelude.{ℕ, pos, Bool, List, [], ◌∷◌, ◌++◌, flat_map, codes, decimal}
-use Rattle.cf_base.specs.Amounts.{money_of}
-use Rattle.cf_base.specs.Calendar.{day_text}
+use Rattle.cf_base.specs.Common.{money_of, day_text}
 use Rattle.cf_claims.specs.declared.standing.ClaimState.{ClaimState}
 use Rattle.cf_claims.specs.declared.standing.ClaimState.TheVariants.{Claimable, Claimed, Unpaid, YearClosed, NothingLeft}
 use Rattle.cf_claims.specs.declared.standing.GrantVoucher.{GrantVoucher}

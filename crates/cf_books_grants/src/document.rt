@@ -1,7 +1,7 @@
 //! What a document of grants has.
 
 ghost use Rattle.std.specs.Prelude.{◌≡◌, ◌++◌, decimal, pos, string_bytes, IfOk, OnOk};
-ghost use Rattle.cf_base.specs.Amounts.{money_of};
+ghost use Rattle.cf_base.specs.Common.{money_of};
 ghost use Rattle.cf_books_grants.specs.Documents as spec;
 
 use cf_base::money_text;

@@ -2,7 +2,7 @@
 
 ghost use Rattle.std.specs.Prelude.{◌≡◌, ◌++◌, IfOk, OnOk};
 ghost use Rattle.toml.specs.View.{view};
-ghost use Rattle.cf_chart.specs.Values.{natural as a_natural};
+ghost use Rattle.cf_chart.specs.Common.{natural as a_natural};
 ghost use Rattle.cf_grants.specs.Reading.{value_of};
 ghost use Rattle.cf_books_grants.specs.FaultIds as spec;
 

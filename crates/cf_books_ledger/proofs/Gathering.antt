@@ -1,22 +1,13 @@
 -- What is gathered of one entry more, and of a whole history.
-use Rattle.std.proofs.Common.{◌≡◌, ℕ, ◌+◌, ◌<◌, ◌≤◌, ◌^◌, List, [], ◌∷◌, ◌++◌, length, length-append, unsigned_abs, refl, sym, ap, subst, ◌∙◌, arith, append-nil}
-use Rattle.std.specs.List.{All, AllByRecursion}
-use Rattle.std.proofs.lemmas.Grind.{flat_map-append}
-use Rattle.std.proofs.lemmas.List.Elements.{All-from_recursion}
-use Rattle.std.proofs.lemmas.List.Sums.{sum_by-append, sum_by-cons}
+use Rattle.std.proofs.Common.{◌≡◌, ℕ, ◌+◌, ◌<◌, ◌≤◌, ◌^◌, List, [], ◌∷◌, ◌++◌, length, length-append, unsigned_abs, refl, sym, ap, subst, ◌∙◌, arith, append-nil, All}
+use Rattle.cf_base.proofs.Common.{AllByRecursion, flat_map-append, All-from_recursion, sum_by-append, sum_by-cons}
 use Rattle.cf_journal_book.specs.Watching.{Posted, all_posted, posted_after}
-use Rattle.cf_calls.specs.declared.entry.Entry.{Entry}
+use Rattle.cf_model.specs.Common.{Entry, act_posts, posts_in, Registers, no_registers, registers_of, registers_step, Adds, IsLegal}
 use Rattle.cf_calls.specs.declared.read.Basis.TheVariants.{Fund as FundBasis}
-use Rattle.cf_chart.specs.Plan.{Plan}
+use Rattle.cf_chart.specs.Common.{Plan}
 use Rattle.cf_ledger.specs.declared.post.Post.{Post}
 use Rattle.cf_ledger.specs.Posts.{sizes}
-use Rattle.cf_model.specs.Postings.{act_posts, posts_in}
-use Rattle.cf_model.specs.Registers.{Registers, no_registers, registers_of, registers_step}
-use Rattle.cf_model.specs.Step.{Adds, IsLegal}
-use Rattle.cf_model.proofs.Accepted.{accepted_fits}
-use Rattle.cf_model.proofs.Legal.{legal_push}
-use Rattle.cf_model.proofs.Posted.{posts_push}
-use Rattle.cf_model.proofs.Sized.{posts_small}
+use Rattle.cf_model.proofs.Common.{accepted_fits, legal_push, posts_push, posts_small}
 use Rattle.cf_office_rows.specs.declared.rows.LedgerRow.{LedgerRow}
 use Rattle.cf_office_rows.specs.Entries.{entry_rows}
 use Rattle.cf_office_rows.specs.History.{AddUp, history_rows, rows_after}

@@ -1,10 +1,8 @@
 -- The parties of one entry more.
 use Rattle.std.proofs.Common.{◌≡◌, ℕ, ◌+◌, ◌<◌, List, [], ◌∷◌, ◌++◌, length, take, get_or, flat_map, sym, ap, ◌∙◌, append-nil}
-use Rattle.std.proofs.lemmas.Grind.{flat_map-append}
-use Rattle.std.proofs.lemmas.List.{take_more}
-use Rattle.cf_calls.specs.declared.acts.Act.{Act}
-use Rattle.cf_calls.specs.declared.acts.Act.TheVariants.{Order, Voucher, Bill, Issue, Lease}
-use Rattle.cf_calls.specs.declared.entry.Entry.{Entry}
+use Rattle.cf_base.proofs.Common.{flat_map-append, take_more}
+use Rattle.cf_model.specs.Common.{Act, Order, Voucher, Issue, Lease, Entry}
+use Rattle.cf_calls.specs.declared.acts.Act.TheVariants.{Bill}
 use Rattle.cf_books_ledger.specs.Parties.{PartyLists, bill_party, bond_party, order_party, parties_of, voucher_party, with_act}
 
 one_more : (party : Act → List ℕ) (before : List Entry) (e : Entry) → flat_map (λ e. party e.change.act) before ++ party e.change.act ≡ flat_map (λ e. party e.change.act) (before ++ e ∷ [])

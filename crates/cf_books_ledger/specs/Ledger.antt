@@ -1,14 +1,11 @@
 -- The ledger as records: the rows of a history that are asked for, each with its entry, and what
 -- was spent and received so far.
 use Rattle.std.specs.Prelude.{ℕ, ◌+◌, ◌-◌, Bool, true, false, not, if◌then◌else◌, ◌==◌, ◌&&◌, List, [], ◌∷◌, ◌++◌, Option, Some, None, codes, decimal, nat_lt, slice_get, ℤ, pos, ◌+ℤ◌, unsigned_abs}
-use Rattle.cf_base.specs.declared.calendar.Day.{Day}
-use Rattle.cf_base.specs.Amounts.{money_of}
-use Rattle.cf_base.specs.Calendar.{day_text}
+use Rattle.cf_model.specs.Common.{Day, Entry, is_before}
+use Rattle.cf_base.specs.Common.{money_of, day_text}
 use Rattle.cf_books_lists.specs.Posts.{is_asked}
 use Rattle.cf_books_lists.specs.Records.{drawn_text, head_text, money_if, number_text, record_text}
 use Rattle.cf_json_calls.specs.CallText.{call_word}
-use Rattle.cf_calls.specs.declared.entry.Entry.{Entry}
-use Rattle.cf_model.specs.Calendar.{is_before}
 use Rattle.cf_office_rows.specs.declared.rows.LedgerRow.{LedgerRow}
 use Rattle.cf_books_words.specs.declared.words.LedgerFilter.{LedgerFilter}
 use Rattle.cf_books_ledger.specs.declared.ledger.Totals.{Totals}

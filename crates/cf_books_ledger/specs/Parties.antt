@@ -2,9 +2,8 @@
 -- bills.
 use Rattle.std.specs.Prelude.{ℕ, ◌-◌, if◌then◌else◌, ◌==◌, List, [], ◌∷◌, ◌++◌, flat_map, slice_index_or, pos}
 use Rattle.std.specs.Ordering.{int_eq}
-use Rattle.cf_calls.specs.declared.acts.Act.{Act}
-use Rattle.cf_calls.specs.declared.acts.Act.TheVariants.{Order, ChangeOrder, CancelOrder, Voucher, VoidVoucher, Bill, Collect, WriteOff, Issue, PayDue, Close, Lease}
-use Rattle.cf_calls.specs.declared.entry.Entry.{Entry}
+use Rattle.cf_model.specs.Common.{Act, Order, ChangeOrder, CancelOrder, Voucher, VoidVoucher, Collect, WriteOff, Issue, PayDue, Close, Lease, Entry}
+use Rattle.cf_calls.specs.declared.acts.Act.TheVariants.{Bill}
 use Rattle.cf_office_rows.specs.declared.rows.LedgerRow.{LedgerRow}
 
 -- documents of each kind have the numbers 1, 2, 3 .., and so stand in these lists: an order's

@@ -1,7 +1,7 @@
 -- The rows of entries that were seen.
 use Rattle.std.specs.Prelude.{List, flat_map}
 use Rattle.cf_journal_book.specs.Watching.{Posted}
-use Rattle.cf_chart.specs.Plan.{Plan}
+use Rattle.cf_chart.specs.Common.{Plan}
 use Rattle.cf_office_rows.specs.declared.rows.LedgerRow.{LedgerRow}
 use Rattle.cf_office_rows.specs.Entries.{entry_rows}
 

@@ -1,7 +1,7 @@
 //! The ledger as records.
 
 ghost use Rattle.std.specs.Prelude.{◌≡◌, ◌<◌, ◌^◌, ◌+ℤ◌, true, decimal, string_bytes, unsigned_abs, IfOk, OnOk};
-ghost use Rattle.cf_base.specs.Amounts.{money_of};
+ghost use Rattle.cf_base.specs.Common.{money_of};
 ghost use Rattle.std.specs.Option.{option_copied};
 ghost use Rattle.cf_books_lists.specs.Records.{drawn_text as drawn, head_text, money_if, number_text, record_text};
 ghost use Rattle.cf_books_lists.specs.Rows.{added};

@@ -1,7 +1,7 @@
 -- An amount of money, piece by piece.
 use Rattle.std.proofs.Common.{◌≡◌, ◌∙◌, ◌<◌, ◌+◌, ◌/◌, ◌%◌, ℕ, ℤ, List, [], ◌∷◌, ◌++◌, refl, sym, ap, ap₂, arith, append_assoc, unsigned_abs, decimal}
-use Rattle.std.proofs.lemmas.Fmt.{decimal_digit}
-use Rattle.cf_base.specs.Amounts.{money_of, sign_text, size_text}
+use Rattle.cf_base.proofs.Common.{decimal_digit}
+use Rattle.cf_base.specs.Common.{money_of, sign_text, size_text}
 
 -- the hundredths are two digits
 hundredths : (n : ℕ) → size_text n ≡ decimal (n / 100) ++ 46 ∷ (48 + n % 100 / 10) ∷ (48 + n % 10) ∷ []

@@ -1,11 +1,7 @@
 -- An amount of money is no formula.
-use Rattle.std.proofs.Common.{◌≡◌, ◌<◌, ◌+◌, ◌/◌, ◌%◌, ◌^◌, ◌∙◌, ℕ, ℤ, suc, Bool, true, false, List, [], ◌∷◌, ◌++◌, refl, ap, ap₂, arith, decimal, if◌then◌else◌, pos, negsuc, unsigned_abs}
-use Rattle.std.specs.Prelude.{◌&&◌, ◌||◌, ◌==◌, not}
-use Rattle.std.specs.List.{list_all}
-use Rattle.std.proofs.lemmas.Bool.Decides.{nat_tests}
-use Rattle.std.proofs.lemmas.Fmt.{decimal_by_steps_wide}
-use Rattle.std.proofs.lemmas.List.Folds.{list_all-append}
-use Rattle.cf_base.specs.Amounts.{money_of, size_text}
+use Rattle.std.proofs.Common.{◌≡◌, ◌<◌, ◌+◌, ◌/◌, ◌%◌, ◌^◌, ◌∙◌, ℕ, ℤ, suc, Bool, true, false, List, [], ◌∷◌, ◌++◌, refl, ap, ap₂, arith, decimal, if◌then◌else◌, pos, negsuc, unsigned_abs, ◌&&◌, ◌||◌, ◌==◌, not}
+use Rattle.cf_base.proofs.Common.{list_all, nat_tests, decimal_by_steps_wide, list_all-append}
+use Rattle.cf_base.specs.Common.{money_of, size_text}
 use Rattle.cf_books_lists.specs.Records.{begins_formula, guarded, is_formula, is_unsigned_byte}
 
 -- ---- digits and a point

@@ -1,8 +1,6 @@
 -- What a loop made of an element, before what is still to come.
-use Rattle.std.proofs.Common.{◌≡◌, ◌∙◌, ℕ, ◌+◌, ◌<◌, Bool, true, false, cond, List, [], ◌∷◌, ◌++◌, length, get_or, drop, map, append_assoc, ap, sym, refl}
-use Rattle.std.specs.Prelude.{flat_map}
-use Rattle.std.specs.List.{filter}
-use Rattle.std.proofs.lemmas.List.{at_drop_more}
+use Rattle.std.proofs.Common.{◌≡◌, ◌∙◌, ℕ, ◌+◌, ◌<◌, Bool, true, false, cond, List, [], ◌∷◌, ◌++◌, length, get_or, drop, map, append_assoc, ap, sym, refl, flat_map, filter}
+use Rattle.cf_base.proofs.Common.{at_drop_more}
 use Rattle.cf_books_lists.specs.Rows.{Written, added}
 use Rattle.cf_books_lists.proofs.Adding.{added_two}
 

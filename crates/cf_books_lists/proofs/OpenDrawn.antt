@@ -1,34 +1,15 @@
 -- The numbers of bills, orders and vouchers: each is drawn by one entry. The items of a voucher
 -- have one state, and those of an order have lines.
 use Rattle.std.proofs.Common.{◌≡◌, ℕ, zero, ◌+◌, ◌≤◌, Bool, true, false, eq-eqb, ne_eqb, not, if◌then◌else◌, ◌==◌, ◌&&◌, ◌||◌, List, [], ◌∷◌, ◌++◌, map, length, None, is_some, refl, sym, ap, subst, ◌∙◌, arith}
-use Rattle.std.specs.List.{list_any, AllByRecursion}
-use Rattle.std.proofs.lemmas.Grind.{common_steps}
-use Rattle.std.proofs.lemmas.List.{length-append}
-use Rattle.std.proofs.lemmas.List.Sums.{sum_by_push}
-use Rattle.cf_base.specs.declared.calendar.Day.{Day}
-use Rattle.cf_calls.specs.Acts.{voucher_items}
-use Rattle.cf_calls.specs.declared.acts.Act.{Act}
+use Rattle.cf_base.proofs.Common.{list_any, AllByRecursion, common_steps, length-append, sum_by_push}
+use Rattle.cf_model.specs.Common.{Day, Act, Entry, AccountItem, VoucherState, document_year, rolls, Documents, Expenditure, draws_order, draws_voucher, expenditure_of, expenditure_step, is_drawn, paid_after, OrderItem, has_line, is_live, item_step, items_by, items_from, lapsed, lapses, may_carry, carries_fund, open_of, rolled, bills_by, Registers, no_registers, registers_of, registers_step, draws, account_name, first_refusal, is_spending, name_refusal, requisition_names, unknown, unknown_if, Adds, IsLegal}
+use Rattle.cf_calls.specs.Common.{voucher_items}
 use Rattle.cf_calls.specs.declared.acts.Act.TheVariants as act
-use Rattle.cf_calls.specs.declared.entry.Entry.{Entry}
-use Rattle.cf_calls.specs.declared.items.AccountItem.{AccountItem}
 use Rattle.cf_calls.specs.declared.names.NameKind.TheVariants as kind
-use Rattle.cf_calls.specs.declared.shown.VoucherState.{VoucherState}
 use Rattle.cf_calls.specs.declared.shown.VoucherState.TheVariants as voucher
-use Rattle.cf_chart.specs.Plan.{Plan, department_at, fund_at, line_of, object_at}
-use Rattle.cf_model.specs.Calendar.{document_year, rolls}
-use Rattle.cf_model.specs.Documents.{Documents, Expenditure, draws_order, draws_voucher, expenditure_of, expenditure_step, is_drawn, paid_after}
-use Rattle.cf_model.specs.OrderItems.{OrderItem, has_line, is_live, item_step, items_by, items_from, lapsed, lapses, may_carry, carries_fund, open_of, rolled}
-use Rattle.cf_model.specs.Receivables.{Bill, bills_by}
-use Rattle.cf_model.specs.Registers.{Registers, no_registers, registers_of, registers_step}
-use Rattle.cf_model.specs.Results.{draws}
-use Rattle.cf_model.specs.Rules.{account_name, first_refusal, is_spending, name_refusal, requisition_names, unknown, unknown_if}
-use Rattle.cf_model.specs.Step.{Adds, IsLegal}
-use Rattle.cf_model.proofs.Accepted.{accepted}
-use Rattle.cf_model.proofs.First.{first_refusal-append, or_else_none}
-use Rattle.cf_model.proofs.Legal.{legal_induction}
-use Rattle.cf_model.proofs.Pushes.{documents_are, registers_push}
-use Rattle.cf_model.proofs.Tidy.{all_append, all_map, all_new, IsSameItem, step_place, step_same}
-use Rattle.cf_model.proofs.Totals.{passing}
+use Rattle.cf_chart.specs.Common.{Plan, department_at, fund_at, line_of, object_at}
+use Rattle.cf_model.specs.Receivables.{Bill}
+use Rattle.cf_model.proofs.Common.{accepted, first_refusal-append, or_else_none, legal_induction, documents_are, registers_push, all_append, all_map, all_new, IsSameItem, step_place, step_same, passing}
 
 -- ---- each number is drawn by one entry
 

@@ -1,20 +1,12 @@
 -- What is due next of a bond or a lease, as `open` has it, is what its payment takes and makes.
 use Rattle.std.proofs.Common.{◌≡◌, ℕ, ◌+◌, eq-eqb, if◌then◌else◌, ◌==◌, List, [], ◌∷◌, Option, Some, None, option_map, sum_by, refl, ap, ◌∙◌, arith, option_to_list}
-use Rattle.std.specs.List.{AllByRecursion}
-use Rattle.cf_calls.specs.declared.acts.Act.{Act}
+use Rattle.cf_base.proofs.Common.{AllByRecursion}
+use Rattle.cf_model.specs.Common.{Act, Entry, Bond, Due, next_due, due_cash, accrued_by, outstanding, due_day, Registers, registers_of, bond_at, made_paid, made_payment, IsLegal}
 use Rattle.cf_calls.specs.declared.acts.Act.TheVariants as act
-use Rattle.cf_calls.specs.declared.entry.Entry.{Entry}
 use Rattle.cf_calls.specs.declared.shown.Shown.TheVariants as shown
-use Rattle.cf_chart.specs.Plan.{Plan}
+use Rattle.cf_chart.specs.Common.{Plan}
 use Rattle.cf_debt.specs.Register.{due_if, due_now}
-use Rattle.cf_model.specs.Bonds.{Bond, Due, next_due}
-use Rattle.cf_model.specs.Cash.{due_cash}
-use Rattle.cf_model.specs.DebtShown.{accrued_by, outstanding}
-use Rattle.cf_model.specs.RegisterRules.{due_day}
-use Rattle.cf_model.specs.Registers.{Registers, registers_of}
-use Rattle.cf_model.specs.Results.{bond_at, made_paid, made_payment}
-use Rattle.cf_model.specs.Step.{IsLegal}
-use Rattle.cf_model.proofs.BondNumbers.{bonds_named}
+use Rattle.cf_model.proofs.Common.{bonds_named}
 use Rattle.cf_registers.specs.Dues.{due_amount}
 use Rattle.cf_books_lists.specs.declared.open.Section.TheVariants.{Debts}
 use Rattle.cf_books_lists.specs.Open.{look_by}

@@ -1,35 +1,18 @@
 -- What `open` lists of bills, vouchers and order items comes to the balances that have it, and to
 -- what is encumbered.
-use Rattle.std.proofs.Common.{◌≡◌, eqb-true, ℕ, ◌+◌, ◌-◌, ◌≤◌, Bool, true, false, if◌then◌else◌, ◌==◌, ◌&&◌, List, [], ◌∷◌, ◌++◌, flat_map, map, find, length, sum_by, Option, Some, None, option_map, is_some, ℤ, pos, ◌+ℤ◌, ◌-ℤ◌, refl, sym, ap, subst, ◌∙◌, arith, append-nil, append_assoc}
-use Rattle.std.specs.List.{filter, AllByRecursion}
-use Rattle.cf_base.specs.declared.calendar.Day.{Day}
-use Rattle.cf_calls.specs.declared.acts.Act.{Act}
+use Rattle.std.proofs.Common.{◌≡◌, eqb-true, ℕ, ◌+◌, ◌-◌, ◌≤◌, Bool, true, false, if◌then◌else◌, ◌==◌, ◌&&◌, List, [], ◌∷◌, ◌++◌, flat_map, map, find, length, sum_by, Option, Some, None, option_map, is_some, ℤ, pos, ◌+ℤ◌, ◌-ℤ◌, refl, sym, ap, subst, ◌∙◌, arith, append-nil, append_assoc, filter}
+use Rattle.cf_base.proofs.Common.{AllByRecursion}
+use Rattle.cf_model.specs.Common.{Day, Act, Entry, LineAmount, Read, ItemState, OrderItemShown, RequisitionState, Shown, VoucherState, fund_of, Documents, Expenditure, is_drawn, voucher_at, item_shown, or_zero, counts, encumbered_sum, is_line, OrderItem, going, lapsed, cancelled, has_line, is_finished, is_live_at, liquidated_sum, open_of, state_at, state_of, bill_at, left_of, Registers, registers_of, IsLegal, int_sum}
 use Rattle.cf_calls.specs.declared.acts.Act.TheVariants as act
-use Rattle.cf_calls.specs.declared.entry.Entry.{Entry}
-use Rattle.cf_calls.specs.declared.items.LineAmount.{LineAmount}
-use Rattle.cf_calls.specs.declared.read.Read.{Read}
-use Rattle.cf_calls.specs.declared.shown.ItemState.{ItemState}
 use Rattle.cf_calls.specs.declared.shown.ItemState.TheVariants as item
-use Rattle.cf_calls.specs.declared.shown.OrderItemShown.{OrderItemShown}
-use Rattle.cf_calls.specs.declared.shown.RequisitionState.{RequisitionState}
 use Rattle.cf_calls.specs.declared.shown.RequisitionState.TheVariants as requisition
-use Rattle.cf_calls.specs.declared.shown.Shown.{Shown}
 use Rattle.cf_calls.specs.declared.shown.Shown.TheVariants as shown
-use Rattle.cf_calls.specs.declared.shown.VoucherState.{VoucherState}
 use Rattle.cf_calls.specs.declared.shown.VoucherState.TheVariants as voucher
-use Rattle.cf_chart.specs.Plan.{Plan, line_of}
+use Rattle.cf_chart.specs.Common.{Plan, line_of}
 use Rattle.cf_debt.specs.declared.debt.Due.{Due}
-use Rattle.cf_model.specs.Charted.{fund_of}
-use Rattle.cf_model.specs.Documents.{Documents, Expenditure, is_drawn, voucher_at}
-use Rattle.cf_model.specs.DocumentsShown.{item_shown, or_zero}
-use Rattle.cf_model.specs.LineNumbers.{counts, encumbered_sum, is_line}
-use Rattle.cf_model.specs.OrderItems.{OrderItem, Stage, going, lapsed, cancelled, has_line, is_finished, is_live_at, liquidated_sum, open_of, state_at, state_of}
-use Rattle.cf_model.specs.Receivables.{Bill, bill_at, left_of}
-use Rattle.cf_model.specs.Registers.{Registers, registers_of}
-use Rattle.cf_model.specs.Step.{IsLegal}
-use Rattle.cf_model.specs.Sums.{int_sum}
-use Rattle.cf_model.proofs.Pushes.{documents_are}
-use Rattle.cf_model.proofs.Totals.{all_so, exchange, find_sum, found_passes, none_first, none_last, one_passes, passing, same_all, sum_append, sum_filter, sum_none, sum_pos, sum_same}
+use Rattle.cf_model.specs.OrderItems.{Stage}
+use Rattle.cf_model.specs.Receivables.{Bill}
+use Rattle.cf_model.proofs.Common.{documents_are, all_so, exchange, find_sum, found_passes, none_first, none_last, one_passes, passing, same_all, sum_append, sum_filter, sum_none, sum_pos, sum_same}
 use Rattle.cf_model_articulation.specs.OpenBills.{BillsAreReceivable, left_part}
 use Rattle.cf_model_articulation.specs.OpenVouchers.{VouchersAreOwed, open_amount, open_part}
 use Rattle.cf_registers.specs.RegistersState.{register_shown}

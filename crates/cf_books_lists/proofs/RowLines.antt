@@ -1,11 +1,8 @@
 -- Which lines the rows of the budgetary comparison are of.
-use Rattle.std.proofs.Common.{ℕ, ◌+◌, ◌==◌, ◌&&◌, Bool, true, false, if◌then◌else◌, List, [], ◌∷◌, ◌++◌, Option, Some, None, refl}
-use Rattle.std.specs.Prelude.{flat_map}
-use Rattle.cf_calls.specs.declared.reply.Row.{Row}
-use Rattle.cf_chart.specs.Plan.{Plan, is_of_year}
+use Rattle.std.proofs.Common.{ℕ, ◌+◌, ◌==◌, ◌&&◌, Bool, true, false, if◌then◌else◌, List, [], ◌∷◌, ◌++◌, Option, Some, None, refl, flat_map}
+use Rattle.cf_model.specs.Common.{Row, Line, RevenueSource}
+use Rattle.cf_chart.specs.Common.{Plan, is_of_year}
 use Rattle.cf_chart.specs.declared.rows.Fund.{Fund}
-use Rattle.cf_chart.specs.declared.rows.Line.{Line}
-use Rattle.cf_chart.specs.declared.rows.RevenueSource.{RevenueSource}
 use Rattle.cf_statements.specs.Budget.{budget_rows, fund_rows, line_row, line_rows, source_row, source_rows}
 use Rattle.cf_statements.specs.Sums.{Sums}
 use Rattle.cf_books_lists.specs.Statement.{AreOf, comparison_lines, fund_lines, section_lines, sections_lines, source_lines}

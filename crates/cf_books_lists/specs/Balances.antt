@@ -2,13 +2,11 @@
 -- (GASB Statement 34).
 use Rattle.std.specs.Prelude.{ℕ, Bool, ◌==◌, if◌then◌else◌, ℤ, unsigned_abs, List, [], ◌∷◌, ◌++◌, codes, decimal, flat_map}
 use Rattle.cf_model_articulation.specs.TrialBalances.{fund_accounts, gov_accounts}
-use Rattle.cf_base.specs.Amounts.{money_of}
-use Rattle.cf_calls.specs.declared.entry.Entry.{Entry}
-use Rattle.cf_calls.specs.declared.read.Basis.{Basis}
-use Rattle.cf_calls.specs.declared.read.Basis.TheVariants.{Fund as FundBasis, Gov as GovBasis}
+use Rattle.cf_base.specs.Common.{money_of}
+use Rattle.cf_model.specs.Common.{Entry, Basis, Gov as GovBasis, balance_of}
+use Rattle.cf_calls.specs.declared.read.Basis.TheVariants.{Fund as FundBasis}
 use Rattle.cf_chart.specs.declared.rows.Fund.{Fund}
-use Rattle.cf_chart.specs.Plan.{Plan, fund_at}
-use Rattle.cf_model.specs.Postings.{balance_of}
+use Rattle.cf_chart.specs.Common.{Plan, fund_at}
 use Rattle.cf_books_lists.specs.Names.{account_text as name_of, basis_word, fund_name}
 use Rattle.cf_books_lists.specs.Records.{head_text, record_text}
 

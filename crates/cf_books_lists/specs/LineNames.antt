@@ -1,13 +1,10 @@
 -- The names of a control line: what part of its department's objects it has, with the fiscal years
 -- that it is of where its fund has a later level of control.
 use Rattle.std.specs.Prelude.{ℕ, ◌-◌, Bool, true, false, List, [], ◌++◌, Option, Some, None, codes, decimal}
-use Rattle.cf_chart.specs.Plan.{Plan, object_at}
+use Rattle.cf_chart.specs.Common.{Plan, object_at}
 use Rattle.cf_chart.specs.declared.rows.Fund.{Fund}
-use Rattle.cf_chart.specs.declared.rows.LaterLevel.{LaterLevel}
-use Rattle.cf_chart.specs.declared.rows.Line.{Line}
-use Rattle.cf_chart.specs.declared.rows.LinePart.{LinePart}
+use Rattle.cf_model.specs.Common.{LaterLevel, Line, LinePart, Object}
 use Rattle.cf_chart.specs.declared.rows.LinePart.TheVariants as part
-use Rattle.cf_chart.specs.declared.rows.Object.{Object}
 
 abbrev pub object_name : Option Object → List ℕ
 object_name None = []

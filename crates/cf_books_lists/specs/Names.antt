@@ -1,13 +1,10 @@
 -- The words of bases, and the names of funds and of accounts (own rule: the words of the
 -- statements).
 use Rattle.std.specs.Prelude.{ℕ, ◌-◌, ◌==◌, ◌&&◌, nat_lt, if◌then◌else◌, List, [], ◌++◌, Option, Some, None, codes}
-use Rattle.cf_calls.specs.declared.read.Basis.{Basis}
+use Rattle.cf_model.specs.Common.{Basis, Department, Function, RevenueSource}
 use Rattle.cf_calls.specs.declared.read.Basis.TheVariants as basis
-use Rattle.cf_chart.specs.declared.rows.Department.{Department}
-use Rattle.cf_chart.specs.declared.rows.Function.{Function}
 use Rattle.cf_chart.specs.declared.rows.Fund.{Fund}
-use Rattle.cf_chart.specs.declared.rows.RevenueSource.{RevenueSource}
-use Rattle.cf_chart.specs.Plan.{Plan, function_at, source_at}
+use Rattle.cf_chart.specs.Common.{Plan, function_at, source_at}
 
 abbrev pub basis_word : Basis → List ℕ
 basis_word basis.Fund = codes "fund"

@@ -1,33 +1,19 @@
 -- What is open of a history, by what looks at its documents, bills and debt show, what is due next
 -- of debt, and which months and fiscal years are closed.
 use Rattle.std.specs.Prelude.{ℕ, Bool, ◌+◌, ◌==◌, if◌then◌else◌, pos, List, [], ◌∷◌, ◌++◌, Option, Some, None, codes, decimal, flat_map}
-use Rattle.cf_base.specs.declared.calendar.Day.{Day}
-use Rattle.cf_base.specs.Amounts.{money_of}
-use Rattle.cf_base.specs.Calendar.{day_text, month_text}
+use Rattle.cf_model.specs.Common.{Day, Act, Period, Entry, LineAmount, Read, ItemState, OrderItemShown, RequisitionState, Shown, VoucherState, Line, Registers, registers_of, bond_at}
+use Rattle.cf_base.specs.Common.{money_of, day_text, month_text}
 use Rattle.cf_json_calls.specs.CallText.{call_word}
-use Rattle.cf_calls.specs.declared.acts.Act.{Act}
 use Rattle.cf_calls.specs.declared.acts.Act.TheVariants as act
-use Rattle.cf_calls.specs.declared.acts.Period.{Period}
 use Rattle.cf_calls.specs.declared.acts.Period.TheVariants as period
-use Rattle.cf_calls.specs.declared.entry.Entry.{Entry}
-use Rattle.cf_calls.specs.declared.items.LineAmount.{LineAmount}
-use Rattle.cf_calls.specs.declared.read.Read.{Read}
 use Rattle.cf_calls.specs.declared.read.Read.TheVariants as read
-use Rattle.cf_calls.specs.declared.shown.ItemState.{ItemState}
 use Rattle.cf_calls.specs.declared.shown.ItemState.TheVariants as item
-use Rattle.cf_calls.specs.declared.shown.OrderItemShown.{OrderItemShown}
-use Rattle.cf_calls.specs.declared.shown.RequisitionState.{RequisitionState}
 use Rattle.cf_calls.specs.declared.shown.RequisitionState.TheVariants as requisition
-use Rattle.cf_calls.specs.declared.shown.Shown.{Shown}
 use Rattle.cf_calls.specs.declared.shown.Shown.TheVariants as shown
-use Rattle.cf_calls.specs.declared.shown.VoucherState.{VoucherState}
 use Rattle.cf_calls.specs.declared.shown.VoucherState.TheVariants as voucher
-use Rattle.cf_chart.specs.declared.rows.Line.{Line}
-use Rattle.cf_chart.specs.Plan.{Plan, department_at, fund_at, line_at}
+use Rattle.cf_chart.specs.Common.{Plan, department_at, fund_at, line_at}
 use Rattle.cf_debt.specs.declared.debt.Due.{Due}
 use Rattle.cf_debt.specs.Register.{due_now}
-use Rattle.cf_model.specs.Registers.{Registers, registers_of}
-use Rattle.cf_model.specs.Results.{bond_at}
 use Rattle.cf_registers.specs.RegistersState.{register_shown}
 use Rattle.cf_books_lists.specs.declared.open.Part.{Part}
 use Rattle.cf_books_lists.specs.declared.open.Section.{Section}

@@ -1,30 +1,16 @@
 -- What `open` lists, as parts of rows, and what those of bills, vouchers and order items come to.
 use Rattle.std.specs.Prelude.{◌≡◌, ℕ, ◌+◌, Bool, false, ◌==◌, ◌&&◌, if◌then◌else◌, List, [], ◌∷◌, ◌++◌, Option, Some, None, flat_map, ℤ, pos, ◌-ℤ◌}
 use Rattle.std.specs.List.{filter, AllByRecursion}
-use Rattle.cf_base.specs.declared.calendar.Day.{Day}
-use Rattle.cf_calls.specs.declared.entry.Entry.{Entry}
-use Rattle.cf_calls.specs.declared.items.LineAmount.{LineAmount}
+use Rattle.cf_model.specs.Common.{Day, Entry, LineAmount, Read, ItemState, OrderItemShown, RequisitionState, Shown, VoucherState, fund_of, Expenditure, is_number, encumbered, posts_in, bill_at, Registers, registers_of, int_sum}
 use Rattle.cf_calls.specs.declared.read.Basis.TheVariants.{Fund as FundBasis}
-use Rattle.cf_calls.specs.declared.read.Read.{Read}
-use Rattle.cf_calls.specs.declared.shown.ItemState.{ItemState}
 use Rattle.cf_calls.specs.declared.shown.ItemState.TheVariants as item
-use Rattle.cf_calls.specs.declared.shown.OrderItemShown.{OrderItemShown}
-use Rattle.cf_calls.specs.declared.shown.RequisitionState.{RequisitionState}
 use Rattle.cf_calls.specs.declared.shown.RequisitionState.TheVariants as requisition
-use Rattle.cf_calls.specs.declared.shown.Shown.{Shown}
 use Rattle.cf_calls.specs.declared.shown.Shown.TheVariants as shown
-use Rattle.cf_calls.specs.declared.shown.VoucherState.{VoucherState}
 use Rattle.cf_calls.specs.declared.shown.VoucherState.TheVariants as voucher
-use Rattle.cf_chart.specs.Plan.{Plan}
+use Rattle.cf_chart.specs.Common.{Plan}
 use Rattle.cf_debt.specs.declared.debt.Due.{Due}
 use Rattle.cf_ledger.specs.Posts.{is_of, sum_where}
-use Rattle.cf_model.specs.Charted.{fund_of}
-use Rattle.cf_model.specs.Documents.{Expenditure, is_number}
-use Rattle.cf_model.specs.LineNumbers.{encumbered}
-use Rattle.cf_model.specs.Postings.{posts_in}
-use Rattle.cf_model.specs.Receivables.{Bill, bill_at}
-use Rattle.cf_model.specs.Registers.{Registers, registers_of}
-use Rattle.cf_model.specs.Sums.{int_sum}
+use Rattle.cf_model.specs.Receivables.{Bill}
 use Rattle.cf_registers.specs.RegistersState.{register_shown}
 use Rattle.cf_books_lists.specs.declared.open.Part.{Part}
 use Rattle.cf_books_lists.specs.declared.open.Section.{Section}

@@ -1,14 +1,12 @@
 -- Each post of each entry of a history, on both bases of accounting (GASB Statement 34), as
 -- records.
 use Rattle.std.specs.Prelude.{ℕ, Bool, true, ◌-◌, ◌==◌, ◌&&◌, if◌then◌else◌, List, [], ◌∷◌, ◌++◌, Option, Some, None, codes, decimal, flat_map, map, slice_get}
-use Rattle.cf_base.specs.Amounts.{money_of}
-use Rattle.cf_base.specs.Calendar.{day_text}
+use Rattle.cf_base.specs.Common.{money_of, day_text}
 use Rattle.cf_journal_book.specs.Watching.{Posted, all_posted}
 use Rattle.cf_json_calls.specs.CallText.{call_word}
-use Rattle.cf_calls.specs.declared.entry.Entry.{Entry}
-use Rattle.cf_calls.specs.declared.read.Basis.{Basis}
+use Rattle.cf_model.specs.Common.{Entry, Basis}
 use Rattle.cf_calls.specs.declared.read.Basis.TheVariants as basis
-use Rattle.cf_chart.specs.Plan.{Plan, fund_at}
+use Rattle.cf_chart.specs.Common.{Plan, fund_at}
 use Rattle.cf_ledger.specs.declared.post.Post.{Post}
 use Rattle.cf_books_words.specs.declared.words.PostFilter.{PostFilter}
 use Rattle.cf_books_lists.specs.declared.posts.PlacedPost.{PlacedPost}

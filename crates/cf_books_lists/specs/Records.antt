@@ -2,8 +2,7 @@
 -- by default, or fields with tabs between them.
 use Rattle.std.specs.Prelude.{ℕ, ℤ, ◌==◌, ◌&&◌, ◌||◌, Bool, false, not, if◌then◌else◌, List, [], ◌∷◌, Option, Some, None, decimal, flat_map, map}
 use Rattle.std.specs.List.{list_all}
-use Rattle.cf_base.specs.Amounts.{money_of}
-use Rattle.cf_base.specs.Calendar.{is_digit}
+use Rattle.cf_base.specs.Common.{money_of, is_digit}
 use Rattle.csv.specs.Writing.{default_writer, row_text, with_delimiter}
 use Rattle.csv.specs.declared.WriterBuilder.{WriterBuilder}
 

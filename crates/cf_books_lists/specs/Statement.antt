@@ -2,15 +2,10 @@
 -- that it stands in, and a control line with its names.
 use Rattle.std.specs.Prelude.{◌≡◌, ⊤, ℕ, ℤ, Bool, false, ◌+◌, ◌==◌, ◌&&◌, if◌then◌else◌, List, [], ◌∷◌, ◌++◌, Option, Some, None, codes, flat_map, length, slice_get}
 use Rattle.std.specs.Str.{bytes_eq}
-use Rattle.cf_base.specs.declared.statement.Kind.TheVariants.{Balance, Budget, Activities}
-use Rattle.cf_calls.specs.declared.entry.Entry.{Entry}
-use Rattle.cf_calls.specs.declared.reply.Row.{Row}
-use Rattle.cf_chart.specs.Plan.{Plan, department_at, fund_at, is_of_year}
+use Rattle.cf_model.specs.Common.{Balance, Budget, Activities, Entry, Row, Line, RevenueSource, report_rows}
+use Rattle.cf_chart.specs.Common.{Plan, department_at, fund_at, is_of_year}
 use Rattle.cf_chart.specs.declared.rows.Fund.{Fund}
-use Rattle.cf_chart.specs.declared.rows.Line.{Line}
-use Rattle.cf_chart.specs.declared.rows.RevenueSource.{RevenueSource}
 use Rattle.cf_classes.specs.Statements.{class_rows, component_rows, major_rows}
-use Rattle.cf_model.specs.Report.{report_rows}
 use Rattle.cf_statements.specs.Budget.{line_row}
 use Rattle.cf_statements.specs.Sums.{Sums}
 use Rattle.cf_text.specs.Records.{field_at}

@@ -5,7 +5,7 @@ ghost use Rattle.cf_model_articulation.specs.TrialBalances.{Balances};
 ghost use Rattle.cf_books_lists.specs.Balances as spec;
 ghost use Rattle.cf_books_lists.specs.Records.{head_text, record_text};
 ghost use Rattle.cf_books_lists.specs.Rows.{added};
-ghost use Rattle.cf_chart.specs.Reading.{chart_of};
+ghost use Rattle.cf_chart.specs.Common.{chart_of};
 
 use crate::accounts::{fund_accounts, gov_accounts};
 use crate::names::{account_text, basis_word, fund_name};

@@ -8,8 +8,8 @@ ghost use Rattle.cf_books_lists.specs.OpenDues.{DuesAreAsked};
 ghost use Rattle.cf_books_lists.specs.OpenSums.{OpenAddsUp};
 ghost use Rattle.cf_books_lists.specs.Records.{head_text, record_text};
 ghost use Rattle.cf_books_lists.specs.Rows.{added};
-ghost use Rattle.cf_chart.specs.Reading.{chart_of};
-ghost use Rattle.cf_model.specs.Registers.{registers_of};
+ghost use Rattle.cf_chart.specs.Common.{chart_of};
+ghost use Rattle.cf_model.specs.Common.{registers_of};
 
 use crate::open_fields::{
     amount_text, due_text, interest_text, line_department, line_fund, line_of, next_text,

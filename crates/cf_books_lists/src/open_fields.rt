@@ -1,7 +1,7 @@
 //! The fields of a row of what is open.
 
 ghost use Rattle.std.specs.Prelude.{◌≡◌, pos, string_bytes, IfOk};
-ghost use Rattle.cf_base.specs.Amounts.{money_of};
+ghost use Rattle.cf_base.specs.Common.{money_of};
 ghost use Rattle.std.specs.Option.{option_copied};
 ghost use Rattle.cf_books_lists.specs.Open as spec;
 

@@ -1,7 +1,7 @@
 //! Each post of each entry, on both bases.
 
 ghost use Rattle.std.specs.Prelude.{◌≡◌, ◌++◌, Some, IfOk, IfErr, OnOk};
-ghost use Rattle.cf_base.specs.Amounts.{money_of};
+ghost use Rattle.cf_base.specs.Common.{money_of};
 ghost use Rattle.cf_journal_book.specs.Openings.{OpensBook, OpensNone};
 ghost use Rattle.cf_journal_book.specs.Watching.{all_posted};
 ghost use Rattle.cf_books_lists.specs.Posts as spec;

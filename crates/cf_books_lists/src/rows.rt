@@ -3,7 +3,7 @@
 ghost use Rattle.std.specs.Prelude.{◌≡◌, ◌<◌, ◌^◌, ℤ, unsigned_abs, [], ◌∷◌, ◌++◌, map, IfOk, OnOk};
 ghost use Rattle.std.specs.List.{list_all};
 ghost use Rattle.csv.specs.Records.{fields_of, partial_of};
-ghost use Rattle.cf_base.specs.Amounts.{money_of};
+ghost use Rattle.cf_base.specs.Common.{money_of};
 ghost use Rattle.cf_books_lists.specs.Records as spec;
 ghost use Rattle.cf_books_lists.specs.Records.{guarded, head_text, record_text};
 ghost use Rattle.cf_books_lists.specs.Rows.{StandsBefore, added, none_written, text_in};

@@ -2,14 +2,13 @@
 
 ghost use Rattle.std.specs.Prelude.{◌≡◌, ◌≤◌, ◌++◌, [], length, string_bytes, IfOk, OnOk};
 ghost use Rattle.std.specs.Option.{option_copied};
-ghost use Rattle.cf_base.specs.declared.statement.Kind.TheVariants.{Budget};
-ghost use Rattle.cf_calls.specs.Form.{IsYear};
+ghost use Rattle.cf_model.specs.Common.{Budget, report_rows, sums_of};
+ghost use Rattle.cf_calls.specs.Common.{IsYear};
 ghost use Rattle.cf_text.specs.Records.{field_at};
 ghost use Rattle.cf_books_lists.specs.Records.{head_text, record_text};
 ghost use Rattle.cf_books_lists.specs.Rows.{added};
 ghost use Rattle.cf_books_lists.specs.Statement as spec;
 ghost use Rattle.cf_books_lists.specs.Statement.{AreOf};
-ghost use Rattle.cf_model.specs.Report.{report_rows, sums_of};
 
 use crate::lines::{later_of, part_and_years, part_name};
 use crate::names::department_name;

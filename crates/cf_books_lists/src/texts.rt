@@ -1,7 +1,7 @@
 //! Texts of numbers and amounts.
 
 ghost use Rattle.std.specs.Prelude.{◌≡◌, ◌++◌, decimal, string_bytes, IfOk, OnOk};
-ghost use Rattle.cf_base.specs.Amounts.{money_of, sign_text};
+ghost use Rattle.cf_base.specs.Common.{money_of, sign_text};
 ghost use Rattle.cf_books_lists.specs.Records as spec;
 
 use cf_base::money_text;

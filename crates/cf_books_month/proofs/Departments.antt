@@ -1,17 +1,9 @@
 -- The rows of a fund's departments come to the fund's own row.
 use Rattle.std.proofs.Common.{◌≡◌, ℕ, ◌+◌, Ok, Bool, true, false, if◌then◌else◌, List, [], ◌∷◌, ℤ, pos, ◌+ℤ◌, refl, sym, ap, ◌∙◌, filter}
-use Rattle.std.specs.Int.{w128}
-use Rattle.std.specs.List.{AllByRecursion}
-use Rattle.std.proofs.lemmas.Int.{int_wrap-add_left, int_wrap-add_right, int_wrap-add_same}
-use Rattle.cf_base.specs.declared.calendar.Month.{Month}
-use Rattle.cf_calls.specs.declared.entry.Entry.{Entry}
-use Rattle.cf_chart.specs.declared.rows.Department.{Department}
-use Rattle.cf_chart.specs.declared.rows.Line.{Line}
-use Rattle.cf_chart.specs.Plan.{Plan}
-use Rattle.cf_chart.specs.Reading.{chart_of}
-use Rattle.cf_model.specs.Sums.{int_sum}
-use Rattle.cf_model.proofs.Tidy.{all_append}
-use Rattle.cf_model.proofs.Totals.{all_so, exchange, one_passes, passing, same_all, sum_append, sum_filter, sum_map, sum_same}
+use Rattle.cf_base.proofs.Common.{w128, AllByRecursion, int_wrap-add_left, int_wrap-add_right, int_wrap-add_same}
+use Rattle.cf_model.specs.Common.{Month, Entry, Department, Line, int_sum}
+use Rattle.cf_chart.specs.Common.{Plan, chart_of}
+use Rattle.cf_model.proofs.Common.{all_append, all_so, exchange, one_passes, passing, same_all, sum_append, sum_filter, sum_map, sum_same}
 use Rattle.cf_books_month.specs.declared.amounts.Amounts.{Amounts}
 use Rattle.cf_books_month.specs.declared.amounts.Column.{Column}
 use Rattle.cf_books_month.specs.declared.rows.MonthRow.{MonthRow}

@@ -1,13 +1,11 @@
 -- Months one after another come to what there is through the last of them, less what there was
 -- before the first.
 use Rattle.std.proofs.Common.{◌≡◌, ◌≤◌, ◌<◌, ◌+◌, ◌-◌, ◌==◌, ◌||◌, nat_lt, ℕ, zero, suc, Bool, true, false, if◌then◌else◌, ℤ, pos, ◌+ℤ◌, ◌-ℤ◌, refl, ap, ◌∙◌, arith}
-use Rattle.std.proofs.lemmas.Bool.Decides.{nat_tests}
-use Rattle.std.proofs.lemmas.Int.{ints}
+use Rattle.cf_base.proofs.Common.{nat_tests, ints}
 use Rattle.jiff_core.specs.Calendar.{days_in_month}
 use Rattle.jiff_core.proofs.CalendarLemmas.{days_in_month_bounds}
-use Rattle.cf_base.specs.Calendar.{is_call_month, is_day, year_of_month}
-use Rattle.cf_base.specs.declared.calendar.Day.{Day}
-use Rattle.cf_base.specs.declared.calendar.Month.{Month}
+use Rattle.cf_base.specs.Common.{is_call_month, is_day, year_of_month}
+use Rattle.cf_model.specs.Common.{Day, Month}
 use Rattle.cf_books_month.specs.Days.{AddUp, IsMonth, first_day, month_after, month_before, month_behind, through_month}
 
 abbrev made : ℕ → ℕ → Month

@@ -1,28 +1,15 @@
 -- Each control line of a chart that was read is of one department of it.
 use Rattle.std.proofs.Common.{◌≡◌, ℕ, ◌≤◌, ◌+◌, Bool, true, false, not, if◌then◌else◌, ◌==◌, ◌||◌, nat_le, nat_lt, List, [], ◌∷◌, ◌++◌, length, Option, Some, None, option_and_then, Ok, Err, refl, sym, ap, subst, ◌∙◌, arith}
-use Rattle.std.specs.List.{AllByRecursion, list_all, list_any}
-use Rattle.std.proofs.lemmas.Bool.{and_parts}
-use Rattle.std.proofs.lemmas.Bool.Decides.{nat_tests}
-use Rattle.std.proofs.lemmas.List.Sums.{sum_by-cons}
+use Rattle.cf_base.proofs.Common.{AllByRecursion, list_all, list_any, and_parts, nat_tests, sum_by-cons}
 use Rattle.toml.specs.Data.{Data, Items, get, item, no_items}
-use Rattle.cf_chart.specs.declared.fault.ChartFault.TheVariants.{Bad, TooLong, Twice}
+use Rattle.cf_model.specs.Common.{Bad, TooLong, Twice, Place, Department, Line, Object}
 use Rattle.cf_chart.specs.declared.fault.KeyName.TheVariants as key
-use Rattle.cf_chart.specs.declared.fault.Place.{Place}
 use Rattle.cf_chart.specs.declared.fault.TableName.TheVariants as table_name
-use Rattle.cf_chart.specs.declared.rows.Department.{Department}
 use Rattle.cf_chart.specs.declared.rows.Fund.{Fund}
-use Rattle.cf_chart.specs.declared.rows.Line.{Line}
-use Rattle.cf_chart.specs.declared.rows.Object.{Object}
-use Rattle.cf_chart.specs.Faults.{Checked, ◌>>=◌, must, or_fault, word_of}
-use Rattle.cf_chart.specs.Levels.{level_for, same_keys}
-use Rattle.cf_chart.specs.Plan.{Plan}
-use Rattle.cf_chart.specs.Reading.{chart_of, checked_plan, department_row, departments_of, desks_of, functions_of, funds_of, line_part, line_row, lines_after, lines_of, new_line, objects_of, one_general, plan_of, rows_of, sizes, sources_of, top, value_of}
-use Rattle.cf_chart.specs.Rising.{is_rising}
-use Rattle.cf_chart.specs.Values.{as_later, as_name, fund_levels, is_truth, kept, may, named, need, present, within}
+use Rattle.cf_chart.specs.Common.{Checked, ◌>>=◌, must, or_fault, word_of, level_for, same_keys, Plan, chart_of, checked_plan, department_row, departments_of, desks_of, functions_of, funds_of, line_part, line_row, lines_after, lines_of, new_line, objects_of, one_general, plan_of, rows_of, sizes, sources_of, top, value_of, is_rising, as_later, as_name, fund_levels, is_truth, kept, may, named, need, present, within}
 use Rattle.cf_chart.proofs.Steps.{bind_ok, ok_is, or_fault_ok}
 use Rattle.cf_chart.proofs.TableFacts.{table_rises}
-use Rattle.cf_model.proofs.Tidy.{all_append}
-use Rattle.cf_model.proofs.Totals.{all_so, passing}
+use Rattle.cf_model.proofs.Common.{all_append, all_so, passing}
 
 -- ---- a department that is there is there once
 

@@ -1,7 +1,6 @@
 -- Each amount of a total is the sum of those of its rows.
 use Rattle.std.proofs.Common.{◌≡◌, ℤ, ◌+ℤ◌, List, [], ◌∷◌, ◌++◌, pos, refl, ap, ◌∙◌, arith, append_assoc}
-use Rattle.std.specs.Int.{int_wrap, w128}
-use Rattle.std.proofs.lemmas.Int.{int_wrap-add_left, ints}
+use Rattle.cf_base.proofs.Common.{int_wrap, w128, int_wrap-add_left, ints}
 use Rattle.cf_books_month.specs.declared.amounts.Amounts.{Amounts}
 use Rattle.cf_books_month.specs.declared.amounts.Column.{Column}
 use Rattle.cf_books_month.specs.declared.amounts.Column.TheVariants as column

@@ -1,7 +1,7 @@
 -- The amounts of a row, and their totals.
 use Rattle.std.specs.Prelude.{ℤ, List}
 use Rattle.std.specs.Int.{int_wrap, w128}
-use Rattle.cf_model.specs.Sums.{int_sum}
+use Rattle.cf_model.specs.Common.{int_sum}
 use Rattle.cf_books_month.specs.declared.amounts.Amounts.{Amounts}
 use Rattle.cf_books_month.specs.declared.amounts.Column.{Column}
 use Rattle.cf_books_month.specs.declared.amounts.Column.TheVariants as column

@@ -2,9 +2,7 @@
 -- its last day, less what there was through the last day of the month before.
 use Rattle.std.specs.Prelude.{◌≡◌, ℕ, zero, suc, ◌+◌, ◌-◌, ◌≤◌, ◌==◌, if◌then◌else◌, ℤ, pos, ◌-ℤ◌, List, [], ◌∷◌}
 use Rattle.jiff_core.specs.Calendar.{days_in_month}
-use Rattle.cf_base.specs.declared.calendar.Day.{Day}
-use Rattle.cf_base.specs.declared.calendar.Month.{Month}
-use Rattle.cf_model.specs.Sums.{int_sum}
+use Rattle.cf_model.specs.Common.{Day, Month, int_sum}
 
 abbrev pub first_day : Month → Day
 first_day m = record { year = m.year; month = m.month; day = 1 }

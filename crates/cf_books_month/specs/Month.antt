@@ -1,11 +1,8 @@
 -- A month of a history as records.
 use Rattle.std.specs.Prelude.{◌≡◌, ℕ, Bool, true, false, List, [], ◌∷◌, ◌++◌, codes}
-use Rattle.cf_base.specs.Calendar.{month_text as text_of_month, year_of_month}
-use Rattle.cf_base.specs.declared.calendar.Month.{Month}
-use Rattle.cf_calls.specs.declared.entry.Entry.{Entry}
-use Rattle.cf_chart.specs.Plan.{Plan}
-use Rattle.cf_model.specs.Calendar.{is_month_closed}
-use Rattle.cf_model.specs.Sums.{int_sum}
+use Rattle.cf_base.specs.Common.{month_text as text_of_month, year_of_month}
+use Rattle.cf_model.specs.Common.{Month, Entry, is_month_closed, int_sum}
+use Rattle.cf_chart.specs.Common.{Plan}
 use Rattle.cf_books_lists.specs.Records.{head_text, record_text}
 use Rattle.cf_books_month.specs.declared.amounts.Amounts.{Amounts}
 use Rattle.cf_books_month.specs.declared.amounts.Column.{Column}

@@ -1,7 +1,7 @@
 -- The records of a month's rows.
 use Rattle.std.specs.Prelude.{ℕ, ℤ, pos, ◌*ℤ◌, Bool, ◌&&◌, if◌then◌else◌, nat_lt, int_lt, int_div, unsigned_abs, List, [], ◌∷◌, Option, Some, None, codes, decimal, flat_map}
-use Rattle.cf_base.specs.Amounts.{money_of}
-use Rattle.cf_chart.specs.Plan.{Plan, department_at, fund_at, source_at}
+use Rattle.cf_base.specs.Common.{money_of}
+use Rattle.cf_chart.specs.Common.{Plan, department_at, fund_at, source_at}
 use Rattle.cf_books_lists.specs.Names.{department_name, fund_name, source_name}
 use Rattle.cf_books_lists.specs.Open.{line_of}
 use Rattle.cf_books_lists.specs.Records.{number_text, record_text}

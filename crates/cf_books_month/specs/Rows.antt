@@ -2,13 +2,9 @@
 -- of the fund, its revenue sources by id, and their total.
 use Rattle.std.specs.Prelude.{ℕ, ◌+◌, ◌-◌, Bool, false, ◌==◌, ◌&&◌, ◌||◌, if◌then◌else◌, List, [], ◌∷◌, ◌++◌, Option, Some, None, flat_map, map}
 use Rattle.std.specs.List.{filter}
-use Rattle.cf_base.specs.declared.calendar.Month.{Month}
-use Rattle.cf_calls.specs.declared.entry.Entry.{Entry}
-use Rattle.cf_chart.specs.declared.rows.Department.{Department}
+use Rattle.cf_model.specs.Common.{Month, Entry, Department, Line, RevenueSource}
 use Rattle.cf_chart.specs.declared.rows.Fund.{Fund}
-use Rattle.cf_chart.specs.declared.rows.Line.{Line}
-use Rattle.cf_chart.specs.declared.rows.RevenueSource.{RevenueSource}
-use Rattle.cf_chart.specs.Plan.{Plan, is_of_year}
+use Rattle.cf_chart.specs.Common.{Plan, is_of_year}
 use Rattle.cf_books_month.specs.declared.amounts.Amounts.{Amounts}
 use Rattle.cf_books_month.specs.declared.rows.MonthRow.{MonthRow}
 use Rattle.cf_books_month.specs.declared.rows.Part.{Part}

@@ -1,12 +1,8 @@
 -- What control lines spent and revenue sources received in a month and in a fiscal year through it,
 -- as the entries that are dated through its last day entered it.
 use Rattle.std.specs.Prelude.{◌≡◌, ℕ, ◌-◌, ℤ, pos, ◌-ℤ◌, List}
-use Rattle.cf_base.specs.declared.calendar.Day.{Day}
-use Rattle.cf_base.specs.declared.calendar.Month.{Month}
-use Rattle.cf_calls.specs.declared.entry.Entry.{Entry}
-use Rattle.cf_calls.specs.declared.shown.LineNumbers.{LineNumbers}
-use Rattle.cf_chart.specs.declared.rows.RevenueSource.{RevenueSource}
-use Rattle.cf_chart.specs.Plan.{Plan}
+use Rattle.cf_model.specs.Common.{Day, Month, Entry, LineNumbers, RevenueSource}
+use Rattle.cf_chart.specs.Common.{Plan}
 use Rattle.cf_office_history.specs.RestState.{RestState}
 use Rattle.cf_statements.specs.Budget.{fund_revenue}
 use Rattle.cf_books_days.specs.declared.sums.DaySums.{DaySums}

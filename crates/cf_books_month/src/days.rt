@@ -1,7 +1,7 @@
 //! The months that a month is told with.
 
 ghost use Rattle.std.specs.Prelude.{◌≡◌, ◌≤◌, ◌+◌};
-ghost use Rattle.cf_base.specs.Limits.{last_year};
+ghost use Rattle.cf_base.specs.Common.{last_year};
 ghost use Rattle.cf_books_month.specs.Days as spec;
 
 use cf_base::{Day, Month};

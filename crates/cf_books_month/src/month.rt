@@ -1,8 +1,8 @@
 //! A month of a history as records.
 
 ghost use Rattle.std.specs.Prelude.{◌≡◌, ◌≤◌, ℕ, true, List, Ok, IfOk, OnOk};
-ghost use Rattle.cf_base.specs.Calendar.{is_call_month};
-ghost use Rattle.cf_base.specs.declared.calendar.Month.{Month};
+ghost use Rattle.cf_base.specs.Common.{is_call_month};
+ghost use Rattle.cf_model.specs.Common.{Month, RevenueSource};
 ghost use Rattle.cf_journal_book.specs.Watching.{all_posted};
 ghost use Rattle.cf_books_days.specs.Gathered.{IsOf};
 ghost use Rattle.cf_books_lists.specs.Records.{head_text, record_text};
@@ -12,8 +12,7 @@ ghost use Rattle.cf_books_month.specs.Sums.{received, spent};
 ghost use Rattle.cf_books_month.specs.Month as spec;
 ghost use Rattle.cf_books_month.specs.declared.amounts.Amounts.{Amounts};
 ghost use Rattle.cf_books_month.specs.declared.amounts.Column.{Column};
-ghost use Rattle.cf_chart.specs.declared.rows.RevenueSource.{RevenueSource};
-ghost use Rattle.cf_chart.specs.Reading.{chart_of};
+ghost use Rattle.cf_chart.specs.Common.{chart_of};
 
 use crate::days::first_day;
 use crate::records::put_rows;

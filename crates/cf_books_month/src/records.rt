@@ -1,7 +1,7 @@
 //! The records of a month's rows.
 
 ghost use Rattle.std.specs.Prelude.{◌≡◌, ◌<◌, ◌^◌, ◌<ℤ◌, int_lt, pos, decimal, string_bytes, unsigned_abs, true, IfOk, OnOk};
-ghost use Rattle.cf_base.specs.Amounts.{money_of};
+ghost use Rattle.cf_base.specs.Common.{money_of};
 ghost use Rattle.cf_books_lists.specs.Open.{line_of};
 ghost use Rattle.cf_books_lists.specs.Records.{number_text, record_text};
 ghost use Rattle.cf_books_lists.specs.Rows.{added};

@@ -2,7 +2,7 @@
 //! last of the month, the last of the month before, and those of a year before.
 
 ghost use Rattle.std.specs.Prelude.{◌≡◌, ◌≤◌, ◌<◌, length, IfOk};
-ghost use Rattle.cf_base.specs.Limits.{last_year};
+ghost use Rattle.cf_base.specs.Common.{last_year};
 ghost use Rattle.cf_journal_book.specs.Watching.{all_posted};
 ghost use Rattle.cf_books_days.specs.Gathered.{IsOf};
 ghost use Rattle.cf_books_month.specs.Days.{last_day, month_before, year_before};

@@ -1,7 +1,6 @@
 -- What a step of a loop adds.
-use Rattle.std.proofs.Common.{◌≡◌, ◌<◌, ◌≤◌, ◌+◌, ◌*◌, ◌^◌, ◌∙◌, ◌+ℤ◌, ℕ, ℤ, pos, Bool, true, false, if◌then◌else◌, List, ◌∷◌, ◌++◌, sym, ap, arith, append_assoc, add-one, drop, drop-cons, get_or, length, unsigned_abs}
-use Rattle.std.specs.Prelude.{◌==◌, flat_map}
-use Rattle.std.proofs.lemmas.Int.{ints}
+use Rattle.std.proofs.Common.{◌≡◌, ◌<◌, ◌≤◌, ◌+◌, ◌*◌, ◌^◌, ◌∙◌, ◌+ℤ◌, ℕ, ℤ, pos, Bool, true, false, if◌then◌else◌, List, ◌∷◌, ◌++◌, sym, ap, arith, append_assoc, add-one, drop, drop-cons, get_or, length, unsigned_abs, ◌==◌, flat_map}
+use Rattle.cf_base.proofs.Common.{ints}
 use Rattle.cf_books_payments.specs.Entering.{AreSmall}
 use Rattle.cf_books_payments.specs.Paid.{paid_to}
 use Rattle.cf_books_payments.specs.declared.entered.Paid.{Paid}

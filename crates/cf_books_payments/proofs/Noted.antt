@@ -1,16 +1,7 @@
 -- The tables of payments, entry by entry.
-use Rattle.std.proofs.Common.{◌≡◌, ◌<◌, ◌^◌, ◌==◌, ◌+◌, ◌-◌, ◌∙◌, ℕ, suc, Bool, true, false, if◌then◌else◌, List, ◌∷◌, Option, Some, sym, ap, arith}
-use Rattle.std.proofs.lemmas.Grind.{common_steps}
-use Rattle.std.specs.Prelude.{option_and_then, slice_get, sum_by}
-use Rattle.std.specs.Ordering.{nat_cmp, is_eq}
-use Rattle.std.specs.BTreeMap.{get}
-use Rattle.cf_calls.specs.declared.acts.Act.{Act}
-use Rattle.cf_calls.specs.declared.acts.Act.TheVariants.{Voucher, Issue, Lease}
-use Rattle.cf_calls.specs.declared.acts.BondIssue.{BondIssue}
-use Rattle.cf_calls.specs.declared.acts.NewVoucher.{NewVoucher}
-use Rattle.cf_calls.specs.declared.entry.Drawn.{Drawn}
-use Rattle.cf_calls.specs.declared.entry.Entry.{Entry}
-use Rattle.cf_model.specs.Bonds.{Due, dues_from}
+use Rattle.std.proofs.Common.{◌≡◌, ◌<◌, ◌^◌, ◌==◌, ◌+◌, ◌-◌, ◌∙◌, ℕ, suc, Bool, true, false, if◌then◌else◌, List, ◌∷◌, Option, Some, sym, ap, arith, option_and_then, slice_get, sum_by, nat_cmp, is_eq}
+use Rattle.cf_base.proofs.Common.{common_steps, get}
+use Rattle.cf_model.specs.Common.{Act, Voucher, Issue, Lease, BondIssue, NewVoucher, Drawn, Entry, Due, dues_from}
 use Rattle.cf_books_payments.specs.Payments.{Payable, debts_after, entered, payable_after, voucher_in, vouchers_after}
 use Rattle.cf_books_payments.specs.Tables.{AreSmall, Knows, NotesVoucher, debts_noted, schedule_at, schedule_in}
 use Rattle.cf_books_payments.specs.declared.payments.Tables.{Tables}

@@ -1,16 +1,9 @@
 -- What is listed of a calendar year's payments is all that they come to.
-use Rattle.std.proofs.Common.{◌≡◌, ◌∙◌, ◌+◌, ◌+ℤ◌, ◌==◌, nat_le, ℕ, zero, suc, ℤ, pos, Bool, true, false, if◌then◌else◌, List, [], ◌∷◌, Option, Some, None, refl, sym, ap, ap₂, arith, drop}
-use Rattle.std.specs.Prelude.{flat_map, option_and_then, option_map, option_to_list, slice_get, sum_by, unwrap_or}
-use Rattle.std.proofs.lemmas.Int.{ints}
-use Rattle.std.proofs.lemmas.List.Sums.{sum_by-cons}
-use Rattle.cf_calls.specs.Acts.{schedule_of}
-use Rattle.cf_calls.specs.declared.acts.Act.{Act}
-use Rattle.cf_calls.specs.declared.acts.Act.TheVariants.{Voucher, Pay, PayDue, Lease}
-use Rattle.cf_calls.specs.declared.acts.BondIssue.{BondIssue}
-use Rattle.cf_calls.specs.declared.entry.Drawn.{Drawn}
-use Rattle.cf_calls.specs.declared.entry.Entry.{Entry}
-use Rattle.cf_model.specs.Sums.{int_sum}
-use Rattle.cf_model.proofs.Totals.{sum_append}
+use Rattle.std.proofs.Common.{◌≡◌, ◌∙◌, ◌+◌, ◌+ℤ◌, ◌==◌, nat_le, ℕ, zero, suc, ℤ, pos, Bool, true, false, if◌then◌else◌, List, [], ◌∷◌, Option, Some, None, refl, sym, ap, ap₂, arith, drop, flat_map, option_and_then, option_map, option_to_list, slice_get, sum_by, unwrap_or}
+use Rattle.cf_base.proofs.Common.{ints, sum_by-cons}
+use Rattle.cf_calls.specs.Common.{schedule_of}
+use Rattle.cf_model.specs.Common.{Act, Voucher, Pay, PayDue, Lease, BondIssue, Drawn, Entry, int_sum}
+use Rattle.cf_model.proofs.Common.{sum_append}
 use Rattle.cf_books_payments.specs.Paid.{ListsAll, Places, by_vendor, enters_lease, is_lease, is_lease_at, lease_paid, no_places, paid_after, paid_at, paid_by, paid_if, paid_in, paid_voucher, payments_after, placed, places_after, vendors_share, voucher_paid, vouchers_noted}
 use Rattle.cf_books_payments.specs.Payments.{Payable, bond_of, due_amount, due_of, none_payable, payable_after, voucher_in, vouchers_after}
 use Rattle.cf_books_payments.specs.Tables.{schedule_at, schedule_in}

@@ -1,11 +1,6 @@
 -- Lists that rise by vendor: what each vendor was paid determines them.
-use Rattle.std.proofs.Common.{◌≡◌, ◌<◌, ◌≤◌, ◌+◌, ◌∙◌, ℕ, suc, Bool, true, false, if◌then◌else◌, ◌⊎◌, inl, inr, List, [], ◌∷◌, refl, sym, ap, ap₂, arith, length, get_or}
-use Rattle.std.specs.Prelude.{◌==◌, ◌&&◌, nat_le, not, pos}
-use Rattle.std.specs.List.{filter}
-use Rattle.std.specs.List.Sorted.{IsNonDecreasingBy, IsStableByKey, ties}
-use Rattle.std.specs.Ordering.{is_lt, nat_cmp}
-use Rattle.std.proofs.lemmas.Bool.{cases_lt, eq-eqb, eqb-true, leb-false, leb-true}
-use Rattle.std.proofs.lemmas.Bool.Decides.{nat_tests}
+use Rattle.std.proofs.Common.{◌≡◌, ◌<◌, ◌≤◌, ◌+◌, ◌∙◌, ℕ, suc, Bool, true, false, if◌then◌else◌, ◌⊎◌, inl, inr, List, [], ◌∷◌, refl, sym, ap, ap₂, arith, length, get_or, ◌==◌, ◌&&◌, nat_le, not, pos, filter, is_lt, nat_cmp}
+use Rattle.cf_base.proofs.Common.{IsNonDecreasingBy, IsStableByKey, ties, cases_lt, eq-eqb, eqb-true, leb-false, leb-true, nat_tests}
 use Rattle.cf_books_payments.specs.Paid.{by_vendor, placed}
 use Rattle.cf_books_payments.specs.declared.entered.Paid.{Paid}
 use Rattle.cf_books_payments.specs.declared.entered.PaidKind.TheVariants as kind

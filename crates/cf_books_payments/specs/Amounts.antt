@@ -1,11 +1,7 @@
 -- The amount that an act states itself.
 use Rattle.std.specs.Prelude.{ℕ, ℤ, pos, sum_by, Option, Some, None}
-use Rattle.cf_calls.specs.declared.acts.Act.{Act}
-use Rattle.cf_calls.specs.declared.acts.Act.TheVariants.{Adopt, Amend, Transfer, Requisition, Order, ChangeOrder, Voucher, Bill, Collect, Receive, WriteOff, Asset, Issue, Leave, Interfund, Lease}
-use Rattle.cf_calls.specs.declared.acts.AssetAct.{AssetAct}
-use Rattle.cf_calls.specs.declared.acts.AssetAct.TheVariants.{Donate, Dispose}
-use Rattle.cf_calls.specs.declared.acts.LeaveAct.{LeaveAct}
-use Rattle.cf_calls.specs.declared.acts.LeaveAct.TheVariants.{Earn, Use, Mature}
+use Rattle.cf_model.specs.Common.{Act, Adopt, Amend, Transfer, Requisition, Order, ChangeOrder, Voucher, Collect, Receive, WriteOff, Issue, Leave, Interfund, Lease, AssetAct, Donate, Dispose, LeaveAct, Earn, Use, Mature}
+use Rattle.cf_calls.specs.declared.acts.Act.TheVariants.{Bill, Asset}
 
 abbrev pub asset_amount : AssetAct → ℕ
 asset_amount (Donate d) = d.amount

@@ -3,8 +3,8 @@ use Rattle.std.specs.Prelude.{ℕ, ℤ, pos, ◌<◌, ◌^◌, List, unsigned_ab
 use Rattle.std.specs.BTreeMap.{get}
 use Rattle.std.specs.List.{All}
 use Rattle.std.specs.Ordering.{nat_cmp}
-use Rattle.cf_calls.specs.Form.{IsChangeInForm}
-use Rattle.cf_calls.specs.declared.entry.Entry.{Entry}
+use Rattle.cf_calls.specs.Common.{IsChangeInForm}
+use Rattle.cf_model.specs.Common.{Entry}
 use Rattle.cf_books_payments.specs.Paid.{Places}
 use Rattle.cf_books_payments.specs.declared.entered.Entered.{Entered}
 use Rattle.cf_books_payments.specs.declared.entered.Paid.{Paid}

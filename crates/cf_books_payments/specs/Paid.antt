@@ -1,11 +1,7 @@
 -- What was paid to vendors in a calendar year: vouchers, and payments of leases.
 use Rattle.std.specs.Prelude.{◌≡◌, ℕ, ◌+◌, ◌==◌, nat_le, Bool, true, false, if◌then◌else◌, ℤ, pos, ◌+ℤ◌, List, [], ◌∷◌, ◌++◌, Option, Some, None, option_and_then, option_map, option_to_list, unwrap_or, flat_map, slice_get, sum_by}
-use Rattle.cf_calls.specs.Acts.{schedule_of}
-use Rattle.cf_calls.specs.declared.acts.Act.{Act}
-use Rattle.cf_calls.specs.declared.acts.Act.TheVariants.{Voucher, Pay, PayDue, Lease}
-use Rattle.cf_calls.specs.declared.entry.Drawn.{Drawn}
-use Rattle.cf_calls.specs.declared.entry.Entry.{Entry}
-use Rattle.cf_model.specs.Sums.{int_sum}
+use Rattle.cf_calls.specs.Common.{schedule_of}
+use Rattle.cf_model.specs.Common.{Act, Voucher, Pay, PayDue, Lease, Drawn, Entry, int_sum}
 use Rattle.cf_books_payments.specs.Payments.{Payable, amount_after, bond_of, due_amount, entered, none_payable, payable_after}
 use Rattle.cf_books_payments.specs.Tables.{debts_noted}
 use Rattle.cf_books_payments.specs.declared.entered.Paid.{Paid}

@@ -1,12 +1,7 @@
 -- What payments come to, by the entries before them.
 use Rattle.std.specs.Prelude.{ℕ, ◌+◌, ◌-◌, ◌==◌, if◌then◌else◌, ℤ, pos, Option, Some, None, option_map, unwrap_or, false, slice_get, sum_by}
-use Rattle.cf_calls.specs.Acts.{schedule_of}
-use Rattle.cf_calls.specs.declared.acts.Act.{Act}
-use Rattle.cf_calls.specs.declared.acts.Act.TheVariants.{Voucher, Pay, Issue, PayDue, Lease}
-use Rattle.cf_calls.specs.declared.acts.BondIssue.{BondIssue}
-use Rattle.cf_calls.specs.declared.entry.Drawn.{Drawn}
-use Rattle.cf_calls.specs.declared.entry.Entry.{Entry}
-use Rattle.cf_model.specs.Bonds.{Bond, coupon, dues}
+use Rattle.cf_calls.specs.Common.{schedule_of}
+use Rattle.cf_model.specs.Common.{Act, Voucher, Pay, Issue, PayDue, Lease, BondIssue, Drawn, Entry, Bond, coupon, dues}
 use Rattle.cf_books_payments.specs.Amounts.{amount_of}
 
 -- what entries say of later payments: the amount of each voucher, and the schedule of each bond and

@@ -2,12 +2,8 @@
 use Rattle.std.specs.Prelude.{◌≡◌, ◌<◌, ◌^◌, ℕ, List, Option, Some, None, option_and_then, slice_get}
 use Rattle.std.specs.BTreeMap.{get}
 use Rattle.std.specs.Ordering.{nat_cmp}
-use Rattle.cf_calls.specs.Acts.{schedule_of}
-use Rattle.cf_calls.specs.declared.acts.Act.{Act}
-use Rattle.cf_calls.specs.declared.acts.Act.TheVariants.{Issue, Lease}
-use Rattle.cf_calls.specs.declared.acts.BondIssue.{BondIssue}
-use Rattle.cf_calls.specs.declared.entry.Drawn.{Drawn}
-use Rattle.cf_calls.specs.declared.entry.Entry.{Entry}
+use Rattle.cf_calls.specs.Common.{schedule_of}
+use Rattle.cf_model.specs.Common.{Act, Issue, Lease, BondIssue, Drawn, Entry}
 use Rattle.cf_books_payments.specs.Payments.{Payable, entered, voucher_in, vouchers_after}
 use Rattle.cf_books_payments.specs.declared.payments.Schedule.{Schedule}
 use Rattle.cf_books_payments.specs.declared.payments.Tables.{Tables}

@@ -1,7 +1,7 @@
 //! The amount of an act.
 
 ghost use Rattle.std.specs.Prelude.{◌≡◌, ◌≤◌, ◌<◌, ◌^◌, ℕ, length, sum_by};
-ghost use Rattle.cf_calls.specs.Form.{IsActInForm};
+ghost use Rattle.cf_calls.specs.Common.{IsActInForm};
 ghost use Rattle.cf_books_payments.specs.Amounts as spec;
 
 use cf_base::Day;

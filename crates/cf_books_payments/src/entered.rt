@@ -3,7 +3,7 @@
 ghost use Rattle.std.specs.Prelude.{◌≡◌, ℕ, IfSome, OnOk};
 ghost use Rattle.std.specs.Ordering.{nat_cmp};
 ghost use Rattle.std.specs.BTreeMap.{get};
-ghost use Rattle.cf_calls.specs.Form.{IsChangeInForm};
+ghost use Rattle.cf_calls.specs.Common.{IsChangeInForm};
 ghost use Rattle.cf_books_payments.specs.Paid as spec;
 ghost use Rattle.cf_books_payments.specs.Entering.{AreInForm, IsSmall, places_in};
 

@@ -3,8 +3,8 @@
 ghost use Rattle.std.specs.Prelude.{◌≡◌, ◌≤◌, ◌+◌, ◌*◌, ◌++◌, length, flat_map, option_to_list, IfOk, IfSome, OnOk};
 ghost use Rattle.std.specs.Ordering.{nat_cmp};
 ghost use Rattle.std.specs.BTreeMap.{get};
-ghost use Rattle.cf_base.specs.Limits.{most_entries};
-ghost use Rattle.cf_calls.specs.Form.{IsChangeInForm};
+ghost use Rattle.cf_base.specs.Common.{most_entries};
+ghost use Rattle.cf_calls.specs.Common.{IsChangeInForm};
 ghost use Rattle.cf_books_payments.specs.Entering.{AreInForm, AreSmall, IsSmall, places_in};
 ghost use Rattle.cf_books_payments.specs.Paid as spec;
 

@@ -3,8 +3,8 @@
 ghost use Rattle.std.specs.Prelude.{◌≡◌, ◌≤◌, ◌<◌, ◌+◌, ◌*◌, ◌/◌, ◌^◌, ℕ, List, length, option_and_then, option_map, sum_by, unsigned_abs, IfSome, OnOk};
 ghost use Rattle.std.specs.Ordering.{nat_cmp};
 ghost use Rattle.std.specs.BTreeMap.{get};
-ghost use Rattle.cf_calls.specs.Form.{IsChangeInForm};
-ghost use Rattle.cf_calls.specs.declared.entry.Entry.{Entry};
+ghost use Rattle.cf_calls.specs.Common.{IsChangeInForm};
+ghost use Rattle.cf_model.specs.Common.{Entry};
 ghost use Rattle.cf_books_payments.specs.Payments as spec;
 ghost use Rattle.cf_books_payments.specs.Payments.{Payable};
 ghost use Rattle.cf_books_payments.specs.Tables.{AreSmall, Knows, NotesVoucher, debts_noted, issue_of, schedule_at, schedule_in};

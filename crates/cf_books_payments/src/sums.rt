@@ -1,7 +1,7 @@
 //! What each vendor was paid.
 
 ghost use Rattle.std.specs.Prelude.{◌≡◌, ◌≤◌, ◌<◌, ◌+◌, ◌*◌, ◌^◌, ◌+ℤ◌, ◌==◌, if◌then◌else◌, ℕ, length, unsigned_abs, IfOk, OnOk};
-ghost use Rattle.cf_base.specs.Limits.{most_entries};
+ghost use Rattle.cf_base.specs.Common.{most_entries};
 ghost use Rattle.cf_books_payments.specs.Entering.{AreSmall, sum_at};
 ghost use Rattle.cf_books_payments.specs.Paid as spec;
 

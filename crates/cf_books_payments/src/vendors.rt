@@ -1,7 +1,7 @@
 //! What was paid, by vendor.
 
 ghost use Rattle.std.specs.Prelude.{◌≡◌, ℕ, List, OnOk};
-ghost use Rattle.cf_calls.specs.declared.entry.Entry.{Entry};
+ghost use Rattle.cf_model.specs.Common.{Entry};
 ghost use Rattle.cf_books_payments.specs.Paid as spec;
 ghost use Rattle.cf_books_payments.specs.Paid.{ListsAll};
 

@@ -1,9 +1,6 @@
 -- What holds of names, as lists of borrowed texts say it.
-use Rattle.std.specs.Prelude.{ℕ, ◌≡◌, ◌||◌, ◌&&◌, Bool, List, [], ◌∷◌, map}
-use Rattle.std.specs.Borrow.{Bor}
-use Rattle.std.specs.List.{list_all, list_any}
-use Rattle.std.specs.Str.{bytes_eq}
-use Rattle.std.proofs.Common.{refl, ap}
+use Rattle.cf_base.proofs.Common.{list_all, list_any}
+use Rattle.std.proofs.Common.{refl, ap, ℕ, ◌≡◌, ◌||◌, ◌&&◌, Bool, List, [], ◌∷◌, map, Bor, bytes_eq}
 
 pub listed_names : (names : List (Bor (List ℕ))) (k : List ℕ) → list_any (λ n. bytes_eq n k) (map (λ n. n.now) names) ≡ list_any (λ n. bytes_eq n.now k) names
 listed_names [] k = refl

@@ -2,7 +2,7 @@
 use Rattle.std.specs.Prelude.{ℕ, Bool, true, false, ◌||◌, not, if◌then◌else◌, List, Option, Some, None, is_some, option_map, codes}
 use Rattle.std.specs.Str.{bytes_eq}
 use Rattle.clap.specs.Words.{Row, Text, first_of}
-use Rattle.cf_base.specs.Limits.{last_year}
+use Rattle.cf_base.specs.Common.{last_year}
 use Rattle.cf_base.specs.declared.calendar.Day.{Day}
 use Rattle.cf_base.specs.declared.statement.Kind.TheVariants as kind
 use Rattle.cf_run_words.specs.Words.{◌>>=◌, is_set, number_in, report_kind_of}

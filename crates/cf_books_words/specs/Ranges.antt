@@ -1,7 +1,6 @@
 -- The ranges of a command's numbers and days.
 use Rattle.std.specs.Prelude.{ℕ, ◌≡◌, ◌≤◌, ⊤, true, Option, Some, None}
-use Rattle.cf_base.specs.Calendar.{is_call_month, is_day}
-use Rattle.cf_base.specs.Limits.{last_year, most_entries}
+use Rattle.cf_base.specs.Common.{is_call_month, is_day, last_year, most_entries}
 use Rattle.cf_base.specs.declared.calendar.Day.{Day}
 use Rattle.cf_base.specs.declared.calendar.Month.{Month}
 use Rattle.cf_run_words.specs.Ranges.{IsFrom}

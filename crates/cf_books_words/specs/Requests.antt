@@ -2,7 +2,7 @@
 use Rattle.std.specs.Prelude.{ℕ, zero, suc, Bool, ⊤, true, false, if◌then◌else◌, List, Option, Some, None, Ok, Err, codes}
 use Rattle.std.specs.Str.{bytes_eq}
 use Rattle.clap.specs.Words.{Row, Text, first_of}
-use Rattle.cf_base.specs.Limits.{most_entries}
+use Rattle.cf_base.specs.Common.{most_entries}
 use Rattle.cf_books_words.specs.declared.command_word.CommandWord.{CommandWord}
 use Rattle.cf_books_words.specs.declared.command_word.CommandWord.TheVariants as word
 use Rattle.cf_books_words.specs.declared.options.Days.{Days}

@@ -4,7 +4,7 @@ ghost use Rattle.std.specs.Prelude.{◌≡◌, IfOk, IfSome, map, option_map, tr
 ghost use Rattle.std.specs.List.{list_all, list_any};
 ghost use Rattle.std.specs.Str.{bytes_eq};
 ghost use Rattle.clap.specs.Words.{first_of, found_of, rows_of};
-ghost use Rattle.cf_base.specs.Calendar.{day_of_text, is_call_month, is_day, month_of_text};
+ghost use Rattle.cf_base.specs.Common.{day_of_text, is_call_month, is_day, month_of_text};
 ghost use Rattle.cf_run_words.specs.Words as read;
 ghost use Rattle.cf_books_words.specs.Options as spec;
 ghost use Rattle.cf_books_words.specs.Ranges.{IsAskedDay, IsAskedMonth, IsOptionDay, IsOptionFrom};

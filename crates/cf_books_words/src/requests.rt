@@ -2,7 +2,7 @@
 
 ghost use Rattle.std.specs.Prelude.{◌≡◌, ◌≤◌, IfOk, option_map};
 ghost use Rattle.clap.specs.Words.{found_of, rows_of};
-ghost use Rattle.cf_base.specs.Limits.{most_entries};
+ghost use Rattle.cf_base.specs.Common.{most_entries};
 ghost use Rattle.cf_books_words.specs.Ranges.{IsInRange, IsOptionDay, IsOptionFrom, IsRequestInRange};
 ghost use Rattle.cf_books_words.specs.Requests as spec;
 ghost use Rattle.cf_books_words.specs.Words.{Gives, texts};

@@ -1,11 +1,9 @@
 -- A trial balance has few accounts.
-use Rattle.std.proofs.Common.{◌≡◌, ◌≤◌, ◌+◌, ◌==◌, ℕ, Bool, true, false, if◌then◌else◌, List, [], ◌∷◌, ◌++◌, map, length, arith, length-append}
-use Rattle.std.specs.List.{filter}
-use Rattle.std.proofs.lemmas.List.{length-map}
+use Rattle.std.proofs.Common.{◌≡◌, ◌≤◌, ◌+◌, ◌==◌, ℕ, Bool, true, false, if◌then◌else◌, List, [], ◌∷◌, ◌++◌, map, length, arith, length-append, filter}
+use Rattle.cf_base.proofs.Common.{length-map}
 use Rattle.cf_model_articulation.specs.TrialBalances.{fund_accounts, gov_accounts}
-use Rattle.cf_chart.specs.Plan.{Plan}
-use Rattle.cf_chart.specs.declared.rows.Function.{Function}
-use Rattle.cf_chart.specs.declared.rows.RevenueSource.{RevenueSource}
+use Rattle.cf_chart.specs.Common.{Plan}
+use Rattle.cf_model.specs.Common.{Function, RevenueSource}
 use Rattle.cf_post.specs.Accounts.{asset_sales, capital_outlay, current_of, donated_to, gain, interest, leases_issued, principal, proceeds, revenue_of, transfers_in, transfers_out}
 
 filter_if : {A : Type 0} (b : Bool) (x : A) (ys xs : List A) → length ys ≤ length xs → length (if b then x ∷ ys else ys) ≤ length (x ∷ xs)

@@ -1,10 +1,9 @@
 -- Each entry of a legal history is in form.
 use Rattle.std.proofs.Common.{List, [], ◌∷◌, ◌++◌}
-use Rattle.std.proofs.lemmas.List.Elements.{All-cons, All-nil}
-use Rattle.cf_calls.specs.Form.{IsChangeInForm}
-use Rattle.cf_calls.specs.declared.entry.Entry.{Entry}
-use Rattle.cf_chart.specs.Plan.{Plan}
-use Rattle.cf_model.specs.Step.{IsLegal, IsLegalAfter}
+use Rattle.cf_base.proofs.Common.{All-cons, All-nil}
+use Rattle.cf_calls.specs.Common.{IsChangeInForm}
+use Rattle.cf_model.specs.Common.{Entry, IsLegal, IsLegalAfter}
+use Rattle.cf_chart.specs.Common.{Plan}
 use Rattle.cf_books_payments.specs.Entering.{AreInForm}
 
 forms_after : (plan : Plan) (seen later : List Entry) → IsLegalAfter plan seen later → AreInForm later

@@ -1,14 +1,11 @@
 -- The trial balance of a year alone balances, where that through the year does and that through the
 -- year before.
 use Rattle.std.proofs.Common.{◌≡◌, ◌<◌, ◌+◌, ◌∙◌, ◌+ℤ◌, ◌-ℤ◌, ◌-◌, ℕ, ℤ, pos, Bool, true, false, if◌then◌else◌, List, [], ◌∷◌, sym, ap, arith, add-one, drop, drop-cons, get_or, length}
-use Rattle.std.proofs.lemmas.Int.{ints}
+use Rattle.cf_base.proofs.Common.{ints}
 use Rattle.cf_model_articulation.specs.TrialBalances.{Balances, fund_accounts, gov_accounts}
-use Rattle.cf_calls.specs.declared.entry.Entry.{Entry}
-use Rattle.cf_calls.specs.declared.read.Basis.{Basis}
-use Rattle.cf_calls.specs.declared.read.Basis.TheVariants.{Fund as FundBasis, Gov as GovBasis}
-use Rattle.cf_chart.specs.Plan.{Plan}
-use Rattle.cf_model.specs.Postings.{balance_of}
-use Rattle.cf_model.specs.Sums.{int_sum}
+use Rattle.cf_model.specs.Common.{Entry, Basis, Gov as GovBasis, balance_of, int_sum}
+use Rattle.cf_calls.specs.declared.read.Basis.TheVariants.{Fund as FundBasis}
+use Rattle.cf_chart.specs.Common.{Plan}
 use Rattle.cf_books_year.specs.YearBalances.{YearBalances, goes_on, kept_balance, year_balance, year_sum}
 
 one_year : (b : Bool) (now was : ℤ) (rest all before kept : ℤ) → rest ≡ (all -ℤ before) +ℤ kept

@@ -1,8 +1,7 @@
 -- What each vendor was paid in a calendar year, as records.
 use Rattle.std.specs.Prelude.{ℕ, ℤ, ◌==◌, Bool, true, not, if◌then◌else◌, List, [], ◌∷◌, ◌++◌, Option, Some, None, codes, decimal, slice_get}
-use Rattle.cf_base.specs.Amounts.{money_of}
-use Rattle.cf_base.specs.Calendar.{day_text}
-use Rattle.cf_calls.specs.declared.entry.Entry.{Entry}
+use Rattle.cf_base.specs.Common.{money_of, day_text}
+use Rattle.cf_model.specs.Common.{Entry}
 use Rattle.cf_books_lists.specs.Records.{head_text, record_text}
 use Rattle.cf_books_payments.specs.Paid.{by_vendor, paid_in, paid_to}
 use Rattle.cf_books_payments.specs.declared.entered.Paid.{Paid}

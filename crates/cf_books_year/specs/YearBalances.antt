@@ -2,14 +2,11 @@
 -- revenues and expenditures in the year, and what they begin with (GASB Statement 34).
 use Rattle.std.specs.Prelude.{◌≡◌, ℕ, ◌-◌, nat_lt, ◌==◌, Bool, if◌then◌else◌, ℤ, pos, ◌+ℤ◌, ◌-ℤ◌, unsigned_abs, List, [], ◌∷◌, ◌++◌, codes, decimal, flat_map}
 use Rattle.cf_model_articulation.specs.TrialBalances.{fund_accounts, gov_accounts}
-use Rattle.cf_base.specs.Amounts.{money_of}
-use Rattle.cf_calls.specs.declared.entry.Entry.{Entry}
-use Rattle.cf_calls.specs.declared.read.Basis.{Basis}
-use Rattle.cf_calls.specs.declared.read.Basis.TheVariants.{Fund as FundBasis, Gov as GovBasis}
+use Rattle.cf_base.specs.Common.{money_of}
+use Rattle.cf_model.specs.Common.{Entry, Basis, Gov as GovBasis, balance_of, int_sum}
+use Rattle.cf_calls.specs.declared.read.Basis.TheVariants.{Fund as FundBasis}
 use Rattle.cf_chart.specs.declared.rows.Fund.{Fund}
-use Rattle.cf_chart.specs.Plan.{Plan, fund_at}
-use Rattle.cf_model.specs.Postings.{balance_of}
-use Rattle.cf_model.specs.Sums.{int_sum}
+use Rattle.cf_chart.specs.Common.{Plan, fund_at}
 use Rattle.cf_books_lists.specs.Balances.{balance_text, head}
 use Rattle.cf_books_lists.specs.Names.{basis_word, fund_name}
 use Rattle.cf_books_lists.specs.Records.{head_text, record_text}

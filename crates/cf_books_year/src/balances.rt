@@ -6,8 +6,9 @@ ghost use Rattle.cf_books_lists.specs.Records.{record_text};
 ghost use Rattle.cf_books_lists.specs.Rows.{added};
 ghost use Rattle.cf_books_year.specs.YearBalances as spec;
 ghost use Rattle.cf_books_year.specs.YearBalances.{YearBalances};
-ghost use Rattle.cf_calls.specs.declared.read.Basis.TheVariants.{Fund as OnFund, Gov as OnGov};
-ghost use Rattle.cf_chart.specs.Reading.{chart_of};
+ghost use Rattle.cf_model.specs.Common.{Gov as OnGov};
+ghost use Rattle.cf_calls.specs.declared.read.Basis.TheVariants.{Fund as OnFund};
+ghost use Rattle.cf_chart.specs.Common.{chart_of};
 
 use crate::sums::{goes_on, opening, year_balance};
 use cf_base::money_text;

@@ -1,7 +1,7 @@
 //! What each vendor was paid in a calendar year.
 
 ghost use Rattle.std.specs.Prelude.{◌≡◌, ◌≤◌, None, length, IfOk, OnOk};
-ghost use Rattle.cf_base.specs.Limits.{most_entries};
+ghost use Rattle.cf_base.specs.Common.{most_entries};
 ghost use Rattle.cf_books_lists.specs.Records.{head_text, record_text};
 ghost use Rattle.cf_books_lists.specs.Rows.{added};
 ghost use Rattle.cf_books_payments.specs.Entering.{AreInForm, sum_at};

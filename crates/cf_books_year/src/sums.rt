@@ -1,7 +1,7 @@
 //! The balances of a fiscal year alone, and what it begins with.
 
 ghost use Rattle.std.specs.Prelude.{◌≡◌, ◌≤◌, ◌<◌, ◌+◌, ◌*◌, ◌^◌, ◌+ℤ◌, length, unsigned_abs};
-ghost use Rattle.cf_model.specs.Postings.{balance_of};
+ghost use Rattle.cf_model.specs.Common.{balance_of};
 ghost use Rattle.cf_books_year.specs.YearBalances as spec;
 
 use cf_calls::Basis;

@@ -3,7 +3,7 @@
 
 ghost use Rattle.std.specs.Prelude.{◌≡◌, ◌<◌, ◌≤◌, ◌+◌, ℕ, Bool, true, false, length, OnOk, IfSome, IfNone, set, get_or};
 ghost use Rattle.std.specs.List.{All, list_all, list_any};
-ghost use Rattle.cf_calls.specs.Form.{is_distinct};
+ghost use Rattle.cf_calls.specs.Common.{is_distinct};
 ghost use Rattle.cf_budget.specs.Tables.{row_plus, has_line, has_row, AreHeld, KeepsRows, SameRows, SameStripes};
 ghost use Rattle.cf_budget.specs.declared.changes.LineChange.{LineChange as Change};
 ghost use Rattle.cf_budget.specs.Changes.{changes_at, same_place, added, IsPlaceOf, Adds, Applies, CanApply};

@@ -1,7 +1,7 @@
 //! Budgetary control: whether more is asked of a line than it has room for.
 
 ghost use Rattle.std.specs.Prelude.{◌≡◌};
-ghost use Rattle.cf_calls.specs.Refusals.{overspends};
+ghost use Rattle.cf_calls.specs.Common.{overspends};
 
 use cf_calls::Refusal;
 

@@ -1,9 +1,7 @@
 -- When no two elements of a list clash.
 use Rattle.std.proofs.Common.{◌≡◌, ℕ, ◌+◌, ◌<◌, Bool, true, false, not, ◌&&◌, ◌||◌, List, [], ◌∷◌, ◌++◌, length, take, drop, get_or, map, refl, sym, ap, ◌∙◌}
-use Rattle.std.specs.List.{list_any}
-use Rattle.std.proofs.lemmas.List.{take_more, take-append-drop}
-use Rattle.std.proofs.lemmas.List.Folds.{list_any-append}
-use Rattle.cf_calls.specs.Form.{is_distinct}
+use Rattle.cf_base.proofs.Common.{list_any, take_more, take-append-drop, list_any-append}
+use Rattle.cf_calls.specs.Common.{is_distinct}
 
 any_map : {A B : Type 0} (p : B → Bool) (q : A → Bool) (f : A → B) → ((x : A) → q x ≡ p (f x)) → (xs : List A) → list_any q xs ≡ list_any p (map f xs)
 any_map p q f same [] = refl

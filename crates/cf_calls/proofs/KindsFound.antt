@@ -1,10 +1,9 @@
 -- Each kind is found by its own number and by its own word, and by no other number.
-use Rattle.std.proofs.Common.{◌≡◌, ℕ, Bool, true, false, cond, eqb, List, [], ◌∷◌, Some, refl, sym}
-use Rattle.std.specs.Prelude.{find}
-use Rattle.std.proofs.lemmas.Bool.{eqb-true}
+use Rattle.std.proofs.Common.{◌≡◌, ℕ, Bool, true, false, cond, eqb, List, [], ◌∷◌, Some, refl, sym, find}
+use Rattle.cf_base.proofs.Common.{eqb-true}
 use Rattle.cf_calls.specs.declared.kind.ActKind.{ActKind}
 use Rattle.cf_calls.specs.declared.kind.ActKind.TheVariants as kind
-use Rattle.cf_calls.specs.Kinds.{kinds, kind_code, kind_named, kind_value, word_of}
+use Rattle.cf_calls.specs.Common.{kinds, kind_code, kind_named, kind_value, word_of}
 
 pub by_code : (k : ActKind) → kind_value (kind_code k) ≡ Some k
 unfolding kind_value

@@ -1,10 +1,6 @@
 -- Two changes are the same call exactly where they are equal but for `after`.
-use Rattle.std.proofs.Common.{◌≡◌, ℕ, Bool, true, false, ◌==◌, ◌&&◌, nat_eq, List, [], ◌∷◌, Option, Some, None, ℤ, refl, ap, subst}
-use Rattle.std.proofs.lemmas.Bool.{eqb-true, eq-eqb, and_from}
-use Rattle.std.proofs.lemmas.Bool.Decides.{Decides-int_eq}
-use Rattle.std.specs.Bool.{Decides}
-use Rattle.std.specs.Cmp.Lexicographic.{pointwise}
-use Rattle.std.specs.Ordering.{int_eq}
+use Rattle.std.proofs.Common.{◌≡◌, ℕ, Bool, true, false, ◌==◌, ◌&&◌, nat_eq, List, [], ◌∷◌, Option, Some, None, ℤ, refl, ap, subst, Decides, int_eq}
+use Rattle.cf_base.proofs.Common.{eqb-true, eq-eqb, and_from, Decides-int_eq, pointwise}
 use Rattle.cf_base.specs.declared.calendar.Day.{Day}
 use Rattle.cf_calls.specs.declared.acts.Act.{Act}
 use Rattle.cf_calls.specs.declared.acts.Act.TheVariants.{Adopt, Amend, Transfer, Requisition, Withdraw, Order, ChangeOrder, CancelOrder, Voucher, VoidVoucher, Pay, Bill, Collect, Receive, WriteOff, Asset, Issue, PayDue, Leave, Interfund, Close, Lease}
@@ -39,7 +35,7 @@ use Rattle.cf_calls.specs.declared.items.Charge.{Charge}
 use Rattle.cf_calls.specs.declared.items.Charge.TheVariants.{Direct, OnOrder}
 use Rattle.cf_calls.specs.declared.items.Liquidation.{Liquidation}
 use Rattle.cf_calls.specs.declared.items.Liquidation.TheVariants.{Lesser, Recorded, Final}
-use Rattle.cf_calls.specs.Same.{is_line_amount, is_source_amount, is_account_item, is_liquidation, is_charge, is_voucher_item, same_option, same_flag, same_adoption, same_amendment, same_transfer, same_order, same_order_change, same_voucher, same_bill, same_bill_amount, same_asset_act, same_terms, same_issue, same_debt_payment, same_leave_amount, same_leave_act, same_move_kind, same_fund_move, same_period, same_lease, same_act, same_day, same_call}
+use Rattle.cf_calls.specs.Common.{is_line_amount, is_source_amount, is_account_item, is_liquidation, is_charge, is_voucher_item, same_option, same_flag, same_adoption, same_amendment, same_transfer, same_order, same_order_change, same_voucher, same_bill, same_bill_amount, same_asset_act, same_terms, same_issue, same_debt_payment, same_leave_amount, same_leave_act, same_move_kind, same_fund_move, same_period, same_lease, same_act, same_day, same_call}
 
 -- ---- tests, one after another
 

@@ -1,8 +1,7 @@
 -- The keys that a loop has seen.
 use Rattle.std.proofs.Common.{◌≡◌, ℕ, ◌+◌, ◌<◌, Bool, true, false, not, cond, ◌||◌, List, [], ◌∷◌, length, take, get_or, Option, Some, None, refl, sym, ap, ◌∙◌}
-use Rattle.std.specs.List.{list_any}
-use Rattle.std.proofs.lemmas.List.Folds.{list_any_more}
-use Rattle.cf_calls.specs.Form.{is_distinct}
+use Rattle.cf_base.proofs.Common.{list_any, list_any_more}
+use Rattle.cf_calls.specs.Common.{is_distinct}
 use Rattle.cf_calls.specs.Keys.{same_key}
 use Rattle.cf_calls.proofs.Keys.{distinct_more, distinct_not}
 

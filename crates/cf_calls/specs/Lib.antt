@@ -1,5 +1,6 @@
 pub mod Acts
 pub mod Charges
+pub mod Common
 pub mod Form
 pub mod Keys
 pub mod Kinds

@@ -3,11 +3,10 @@ use Rattle.std.proofs.Common.{◌≡◌, ◌∙◌, ℕ, suc, ◌+◌, ◌<◌, 
 use Rattle.toml.specs.Data.{Data}
 use Rattle.toml.specs.View.{view, items_view}
 use Rattle.toml.specs.declared.value.Value.{Value}
-use Rattle.cf_chart.specs.Faults.{Checked, ◌>>=◌}
+use Rattle.cf_chart.specs.Common.{Checked, ◌>>=◌, new_line, new_row, lines_after, rows_after, placed}
 use Rattle.cf_chart.specs.declared.fault.Place.{Place}
 use Rattle.cf_chart.specs.declared.fault.TableName.{TableName}
 use Rattle.cf_chart.specs.declared.rows.Line.{Line}
-use Rattle.cf_chart.specs.Reading.{new_line, new_row, lines_after, rows_after, placed}
 
 next_value : (vs : List Value) (i : ℕ) (v : Value) → i < length vs → v ≡ get_or vs i v → drop i vs ≡ v ∷ drop (i + 1) vs
 next_value vs i v l is = rw (add-one i) (drop-cons vs i v l ∙ ap (λ w. w ∷ drop (suc i) vs) (sym is))

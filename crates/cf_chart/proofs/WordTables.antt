@@ -1,8 +1,6 @@
 -- A word in a table that borrows its words.
-use Rattle.std.proofs.Common.{◌≡◌, ℕ, List, [], ◌∷◌, Bool, true, false, Option, Some, option_map, find, refl, Bor, cond}
-use Rattle.std.specs.Str.{bytes_eq}
-use Rattle.cf_chart.specs.Values.{word_among}
-use Rattle.cf_chart.specs.Words.{plain_words}
+use Rattle.std.proofs.Common.{◌≡◌, ℕ, List, [], ◌∷◌, Bool, true, false, Option, Some, option_map, find, refl, Bor, cond, bytes_eq}
+use Rattle.cf_chart.specs.Common.{word_among, plain_words}
 
 step : {A : Type 0} → (b : Bool) (w : Bor (List ℕ) × A) (o : Option (List ℕ × A)) (u : Option (Bor (List ℕ) × A)) → option_map (λ p. p.1) o ≡ option_map (λ p. p.1) u → option_map (λ p. p.1) (cond b (Some ((w.0).now, w.1)) o) ≡ option_map (λ p. p.1) (cond b (Some w) u)
 step true w o u e = refl

@@ -1,10 +1,8 @@
 -- Claims, entry by entry.
 use Rattle.std.proofs.Common.{◌≡◌, ℕ, ◌+◌, ◌<◌, ◌≤◌, ◌^◌, take, Bool, true, false, if◌then◌else◌, List, get_or, length, sum_by, arith}
-use Rattle.std.proofs.lemmas.List.Sums.{sum_by_more_le_part}
-use Rattle.cf_base.specs.declared.calendar.Day.{Day}
-use Rattle.cf_calls.specs.declared.entry.Entry.{Entry}
-use Rattle.cf_calls.specs.declared.items.VoucherItem.{VoucherItem}
-use Rattle.cf_chart.specs.Plan.{Plan, line_of}
+use Rattle.cf_base.proofs.Common.{sum_by_more_le_part}
+use Rattle.cf_model.specs.Common.{Day, Entry, VoucherItem}
+use Rattle.cf_chart.specs.Common.{Plan, line_of}
 use Rattle.cf_claims.specs.Claims.{eligible_item, is_among, claim_lines, claims_from}
 use Rattle.cf_grants.specs.declared.grant.Grant.{Grant}
 

@@ -1,14 +1,11 @@
 -- What claims keep: the award, and each voucher's one claim.
 use Rattle.std.proofs.Common.{◌≡◌, ℕ, ◌-◌, ◌<◌, ◌≤◌, min, Bool, true, false, not, ◌&&◌, ◌==◌, nat_lt, if◌then◌else◌, List, [], ◌∷◌, ◌++◌, refl, sym, ap, ◌∙◌, arith, inl, inr, ⊎_elim}
-use Rattle.std.specs.List.{list_all}
-use Rattle.std.proofs.lemmas.Bool.{and_parts, cases_lt, eqb-true, eq-eqb, ltb-true, lt-ltb}
-use Rattle.std.proofs.lemmas.List.Sums.{sum_by-append}
-use Rattle.cf_calls.specs.declared.entry.Entry.{Entry}
-use Rattle.cf_chart.specs.Plan.{Plan}
+use Rattle.cf_base.proofs.Common.{list_all, and_parts, cases_lt, eqb-true, eq-eqb, ltb-true, lt-ltb, sum_by-append}
+use Rattle.cf_model.specs.Common.{Entry, is_year_closed}
+use Rattle.cf_chart.specs.Common.{Plan}
 use Rattle.cf_claims.specs.Claims.{Claim, amount_of, claim_if, claimed, claims_from, claims_of, eligible, has_number, is_claimable, is_claimed, is_voucher, left_of, paid_numbers, share_of, voucher_year}
 use Rattle.cf_claims.specs.Kept.{AreKept, KeepsAward, claim_sum, claims_rise, is_new, numbers_rise}
 use Rattle.cf_grants.specs.declared.grant.Grant.{Grant}
-use Rattle.cf_model.specs.Calendar.{is_year_closed}
 
 -- ---- the award
 

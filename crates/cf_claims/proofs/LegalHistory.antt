@@ -1,28 +1,14 @@
 -- What holds of the entries of each legal history.
 use Rattle.std.proofs.Common.{◌≡◌, ℕ, ◌+◌, ◌*◌, ◌<◌, ◌≤◌, ◌^◌, true, ◌&&◌, nat_lt, if◌then◌else◌, List, [], ◌∷◌, ◌++◌, length, map, None, sum_by, refl, subst, ap, ◌∙◌, arith, lt-ltb}
-use Rattle.std.specs.List.{AllByRecursion}
-use Rattle.std.proofs.lemmas.List.Sums.{sum_by-cons}
-use Rattle.cf_base.specs.Limits.{most_cents}
-use Rattle.cf_calls.specs.Acts.{voucher_items}
-use Rattle.cf_calls.specs.Form.{IsActInForm}
-use Rattle.cf_calls.specs.declared.acts.Act.{Act}
-use Rattle.cf_calls.specs.declared.acts.Act.TheVariants.{Voucher}
-use Rattle.cf_calls.specs.declared.entry.Entry.{Entry}
-use Rattle.cf_calls.specs.declared.items.VoucherItem.{VoucherItem}
-use Rattle.cf_base.specs.declared.calendar.Day.{Day}
-use Rattle.cf_chart.specs.Plan.{Plan}
+use Rattle.cf_base.proofs.Common.{AllByRecursion, sum_by-cons}
+use Rattle.cf_base.specs.Common.{most_cents}
+use Rattle.cf_calls.specs.Common.{voucher_items, IsActInForm}
+use Rattle.cf_model.specs.Common.{Act, Voucher, Entry, VoucherItem, Day, documents_of, no_documents, draws_voucher, Registers, registers_of, draws, amount, amount_refusal, bad_amount, first_refusal, IsLegal, IsLegalAfter}
+use Rattle.cf_chart.specs.Common.{Plan}
 use Rattle.cf_claims.specs.Claims.{is_voucher}
 use Rattle.cf_claims.specs.Kept.{IsReadable, numbers_rise}
-use Rattle.cf_model.specs.Documents.{documents_of, no_documents, draws_voucher}
-use Rattle.cf_model.specs.Registers.{Registers, registers_of}
-use Rattle.cf_model.specs.Results.{draws}
-use Rattle.cf_model.specs.Rules.{amount, amount_refusal, bad_amount, first_refusal}
-use Rattle.cf_model.specs.Step.{IsLegal, IsLegalAfter}
-use Rattle.cf_model.proofs.Accepted.{accepted}
-use Rattle.cf_model.proofs.Bounds.{IsSound, all_sound, small}
-use Rattle.cf_model.proofs.First.{or_else_none}
-use Rattle.cf_model.proofs.Pushes.{documents_are}
-use Rattle.cf_model.proofs.Tidy.{documents_push}
+use Rattle.cf_model.proofs.Common.{accepted, all_sound, small, or_else_none, documents_are, documents_push}
+use Rattle.cf_model.proofs.Bounds.{IsSound}
 
 -- ---- each entry is readable
 

@@ -1,9 +1,6 @@
 -- The number that a claim's key writes.
-use Rattle.std.proofs.Common.{◌≡◌, ℕ, ◌<◌, ◌^◌, Bool, true, false, List, ◌++◌, drop, decimal, codes, refl, sym, ap, ◌∙◌, arith, true≢false, eq-eqb, ◌==◌, Option, Some, None, IfSome}
-use Rattle.std.specs.Str.{bytes_eq}
-use Rattle.std.proofs.lemmas.Slice.Eq.{bytes_eq-Decides}
-use Rattle.std.proofs.lemmas.Bool.{eqb-true}
-use Rattle.std.proofs.lemmas.Fmt.{decimal_injective}
+use Rattle.std.proofs.Common.{◌≡◌, ℕ, ◌<◌, ◌^◌, Bool, true, false, List, ◌++◌, drop, decimal, codes, refl, sym, ap, ◌∙◌, arith, true≢false, eq-eqb, ◌==◌, Option, Some, None, IfSome, bytes_eq}
+use Rattle.cf_base.proofs.Common.{bytes_eq-Decides, eqb-true, decimal_injective}
 use Rattle.cf_claims.specs.Claims.{claim_key}
 use Rattle.cf_claims.specs.Marks.{IsClaimNumber, is_this}
 

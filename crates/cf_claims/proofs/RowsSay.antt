@@ -1,11 +1,9 @@
 -- The rows of vouchers, entry by entry, and the claims that they say.
-use Rattle.std.proofs.Common.{◌≡◌, ℕ, ◌+◌, ◌-◌, ◌==◌, ◌*◌, ◌/◌, min, Bool, true, false, if◌then◌else◌, List, [], ◌∷◌, ◌++◌, Option, Some, None, refl, sym, ap, ◌∙◌, arith}
-use Rattle.std.proofs.lemmas.Bool.{eqb-true}
-use Rattle.std.proofs.lemmas.Grind.{common_steps}
+use Rattle.std.proofs.Common.{◌≡◌, ℕ, ◌+◌, ◌-◌, ◌==◌, ◌*◌, ◌/◌, min, Bool, true, false, if◌then◌else◌, List, [], ◌∷◌, ◌++◌, Option, Some, None, refl, sym, ap, ◌∙◌, arith, nat_cmp, is_eq}
+use Rattle.cf_base.proofs.Common.{eqb-true, common_steps}
 use Rattle.std.proofs.lemmas.List.Concat.{flat_map-append}
-use Rattle.std.specs.Ordering.{nat_cmp, is_eq}
-use Rattle.cf_calls.specs.declared.entry.Entry.{Entry}
-use Rattle.cf_chart.specs.Plan.{Plan}
+use Rattle.cf_model.specs.Common.{Entry}
+use Rattle.cf_chart.specs.Common.{Plan}
 use Rattle.cf_claims.specs.Claims.{amount_of, claim_if, claims_from, claims_of, eligible, is_claimable, left_of, share_of, voucher_year}
 use Rattle.cf_claims.specs.Standing.{bill_of, claim_by, claims_in, row_if, row_of, rows_from, rows_of, unclaimed_by, unclaimed}
 use Rattle.cf_claims.specs.declared.standing.ClaimState.{ClaimState}

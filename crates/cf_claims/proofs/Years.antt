@@ -1,15 +1,11 @@
 -- The fiscal years that a history closes, as a list.
 use Rattle.std.proofs.Common.{◌≡◌, ℕ, Bool, true, false, ◌||◌, ◌==◌, List, [], ◌∷◌, flat_map, refl, sym, ◌∙◌, true≢false, eq-eqb}
-use Rattle.std.proofs.lemmas.Bool.{eqb-true}
-use Rattle.std.proofs.lemmas.List.Folds.{list_any-append}
-use Rattle.cf_calls.specs.Acts.{closes_year}
-use Rattle.cf_calls.specs.declared.acts.Act.{Act}
-use Rattle.cf_calls.specs.declared.acts.Act.TheVariants.{Close}
+use Rattle.cf_base.proofs.Common.{eqb-true, list_any-append}
+use Rattle.cf_calls.specs.Common.{closes_year}
+use Rattle.cf_model.specs.Common.{Act, Close, Entry, is_year_closed}
 use Rattle.cf_calls.specs.declared.acts.Period.TheVariants as period
-use Rattle.cf_calls.specs.declared.entry.Entry.{Entry}
 use Rattle.cf_claims.specs.Claims.{has_number}
 use Rattle.cf_claims.specs.Marks.{years_of}
-use Rattle.cf_model.specs.Calendar.{is_year_closed}
 
 abbrev pub closed_years : List Entry → List ℕ
 closed_years history = flat_map (λ e. years_of e.change.act) history

@@ -3,18 +3,13 @@
 use Rattle.std.specs.Prelude.{ℕ, ◌-◌, ◌*◌, ◌/◌, min, Bool, true, false, not, ◌&&◌, ◌||◌, ◌==◌, nat_lt, nat_le, if◌then◌else◌, List, [], ◌∷◌, ◌++◌, take, drop, length, slice_index, sum_by, flat_map, Option, Some, None, codes, decimal}
 use Rattle.std.specs.List.{list_all, list_any}
 use Rattle.std.specs.Str.{bytes_eq}
-use Rattle.cf_base.specs.Calendar.{is_digit}
-use Rattle.cf_base.specs.declared.calendar.Day.{Day}
-use Rattle.cf_calls.specs.Acts.{voucher_items}
-use Rattle.cf_calls.specs.declared.acts.Act.{Act}
-use Rattle.cf_calls.specs.declared.acts.Act.TheVariants.{Bill, Pay, Voucher}
-use Rattle.cf_calls.specs.declared.acts.NewBill.{NewBill}
-use Rattle.cf_calls.specs.declared.entry.Entry.{Entry}
-use Rattle.cf_calls.specs.declared.items.VoucherItem.{VoucherItem}
-use Rattle.cf_chart.specs.Plan.{Plan, line_of}
+use Rattle.cf_base.specs.Common.{is_digit}
+use Rattle.cf_model.specs.Common.{Day, Act, Pay, Voucher, NewBill, Entry, VoucherItem, document_year, is_year_closed}
+use Rattle.cf_calls.specs.Common.{voucher_items}
+use Rattle.cf_calls.specs.declared.acts.Act.TheVariants.{Bill}
+use Rattle.cf_chart.specs.Common.{Plan, line_of}
 use Rattle.cf_grants.specs.declared.grant.Grant.{Grant}
 use Rattle.cf_json_lines.specs.Lines.{Hand, bill_line}
-use Rattle.cf_model.specs.Calendar.{document_year, is_year_closed}
 
 -- ---- claim bills: their keys are `claim-` and a number without leading zeros
 

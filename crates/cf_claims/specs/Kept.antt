@@ -1,11 +1,10 @@
 -- What claims keep: the award, and each voucher's one claim.
 use Rattle.std.specs.Prelude.{◌≡◌, ◌⊎◌, ℕ, ◌+◌, ◌<◌, ◌≤◌, ◌^◌, Bool, true, not, ◌&&◌, nat_lt, if◌then◌else◌, List, [], ◌∷◌, sum_by}
 use Rattle.std.specs.List.{list_all}
-use Rattle.cf_base.specs.Calendar.{is_day}
-use Rattle.cf_calls.specs.Acts.{voucher_items}
-use Rattle.cf_calls.specs.declared.entry.Entry.{Entry}
-use Rattle.cf_calls.specs.declared.items.VoucherItem.{VoucherItem}
-use Rattle.cf_chart.specs.Plan.{Plan}
+use Rattle.cf_base.specs.Common.{is_day}
+use Rattle.cf_calls.specs.Common.{voucher_items}
+use Rattle.cf_model.specs.Common.{Entry, VoucherItem}
+use Rattle.cf_chart.specs.Common.{Plan}
 use Rattle.cf_grants.specs.declared.grant.Grant.{Grant}
 use Rattle.cf_claims.specs.Claims.{Claim, claimed, claims_of, is_claimed, is_voucher}
 

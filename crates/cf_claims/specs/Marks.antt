@@ -2,13 +2,10 @@
 use Rattle.std.specs.Prelude.{◌≡◌, ◌≢◌, ◌==◌, Bool, false, ℕ, ◌<◌, ◌^◌, List, [], ◌∷◌, Option, Some, None}
 use Rattle.std.specs.BTreeSet.{contains}
 use Rattle.std.specs.Ordering.{nat_cmp}
-use Rattle.cf_calls.specs.declared.acts.Act.{Act}
-use Rattle.cf_calls.specs.declared.acts.Act.TheVariants.{Close}
+use Rattle.cf_model.specs.Common.{Act, Close, Entry, is_year_closed}
 use Rattle.cf_calls.specs.declared.acts.Period.TheVariants as period
-use Rattle.cf_calls.specs.declared.entry.Entry.{Entry}
 use Rattle.cf_claims.specs.Claims.{claim_key, has_number, is_claimed, paid_numbers}
 use Rattle.cf_claims.specs.declared.marks.Marks.{Marks}
-use Rattle.cf_model.specs.Calendar.{is_year_closed}
 
 pub record AreMarks (m : Marks) (history : List Entry) : Type 0 where
   pub paid : (n : ℕ) → contains nat_cmp m.paid n ≡ has_number n (paid_numbers history)

@@ -3,8 +3,8 @@
 use Rattle.std.specs.Prelude.{◌≡◌, ℕ, ◌<◌, ◌^◌, ◌-◌, ◌==◌, min, Bool, true, false, if◌then◌else◌, List, [], ◌∷◌, ◌++◌, flat_map, fold, Option, Some, None, Ok}
 use Rattle.std.specs.BTreeMap.{get}
 use Rattle.std.specs.Ordering.{nat_cmp}
-use Rattle.cf_calls.specs.declared.entry.Entry.{Entry}
-use Rattle.cf_chart.specs.Plan.{Plan}
+use Rattle.cf_model.specs.Common.{Entry, is_year_closed}
+use Rattle.cf_chart.specs.Common.{Plan}
 use Rattle.cf_claims.specs.Claims.{Claim, amount_of, claims_number, eligible, has_number, left_of, paid_numbers, share_of, voucher_year}
 use Rattle.cf_claims.specs.Marks.{AreMarks}
 use Rattle.cf_claims.specs.declared.standing.ClaimState.{ClaimState}
@@ -16,7 +16,6 @@ use Rattle.cf_grants.specs.declared.grant.Grant.{Grant}
 use Rattle.cf_grants.specs.Faults.{Checked, ◌>>=◌, or_fault}
 use Rattle.cf_grants.specs.Grants.{grant_at}
 use Rattle.cf_grants.specs.Reading.{grants_of}
-use Rattle.cf_model.specs.Calendar.{is_year_closed}
 
 -- ---- which bill claims a voucher
 

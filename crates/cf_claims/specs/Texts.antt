@@ -1,8 +1,7 @@
 -- What is claimed of a grant of a document.
 use Rattle.std.specs.Prelude.{ℕ, List, Ok}
-use Rattle.cf_base.specs.declared.calendar.Day.{Day}
-use Rattle.cf_calls.specs.declared.entry.Entry.{Entry}
-use Rattle.cf_chart.specs.Plan.{Plan}
+use Rattle.cf_model.specs.Common.{Day, Entry}
+use Rattle.cf_chart.specs.Common.{Plan}
 use Rattle.cf_grants.specs.declared.fault.GrantFault.TheVariants.{Unknown}
 use Rattle.cf_grants.specs.Faults.{Checked, ◌>>=◌, or_fault}
 use Rattle.cf_grants.specs.Grants.{grant_at}

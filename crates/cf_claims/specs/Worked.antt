@@ -1,12 +1,11 @@
 -- Claims of a small grant, worked by hand: what the definitions say of them is computed by the
 -- checker.
 use Rattle.std.specs.Prelude.{◌≡◌, ℕ, List, [], ◌∷◌, ◌++◌, None, codes}
-use Rattle.cf_calls.specs.declared.acts.Act.TheVariants.{Bill, Close, Pay}
+use Rattle.cf_model.specs.Common.{Close, Pay, Entry, entry, on, spends, town}
+use Rattle.cf_calls.specs.declared.acts.Act.TheVariants.{Bill}
 use Rattle.cf_calls.specs.declared.acts.Period.TheVariants as period
-use Rattle.cf_calls.specs.declared.entry.Entry.{Entry}
 use Rattle.cf_claims.specs.Claims.{Claim, claim_lines, claims_of, share_of}
 use Rattle.cf_grants.specs.declared.grant.Grant.{Grant}
-use Rattle.cf_model.specs.Worked.{entry, on, spends, town}
 
 -- 80 percent of what is spent on line 0, 50.00 in all
 abbrev pub grant : Grant

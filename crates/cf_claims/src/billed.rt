@@ -2,7 +2,7 @@
 
 ghost use Rattle.std.specs.Prelude.{◌≡◌};
 ghost use Rattle.std.specs.List.{list_all};
-ghost use Rattle.cf_base.specs.Calendar.{is_digit as is_decimal_digit};
+ghost use Rattle.cf_base.specs.Common.{is_digit as is_decimal_digit};
 ghost use Rattle.cf_claims.specs.Claims as spec;
 
 use cf_calls::{Act, Change, Entry};

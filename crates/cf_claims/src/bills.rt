@@ -2,12 +2,11 @@
 
 ghost use Rattle.std.specs.Prelude.{◌≡◌, ◌≤◌, ◌++◌, List, true, IfOk, OnOk, string_bytes};
 ghost use Rattle.std.specs.List.{AllByRecursion, list_all};
-ghost use Rattle.cf_calls.specs.declared.entry.Entry.{Entry as AnEntry};
+ghost use Rattle.cf_model.specs.Common.{Entry as AnEntry, IsLegal};
 ghost use Rattle.cf_claims.specs.Claims as spec;
 ghost use Rattle.cf_claims.specs.Kept.{AreKept, IsReadable};
 ghost use Rattle.cf_claims.specs.Marks.{AreMarks};
 ghost use Rattle.cf_json_members.specs.Parts.{is_plain};
-ghost use Rattle.cf_model.specs.Step.{IsLegal};
 
 use crate::billed::left_of;
 use crate::eligible::{eligible, share_within, voucher_year};

@@ -1,7 +1,7 @@
 //! What of vouchers is eligible, and the grantor's share of it.
 
 ghost use Rattle.std.specs.Prelude.{◌≡◌, ◌≤◌, ◌<◌, ◌^◌, min, true, sum_by};
-ghost use Rattle.cf_base.specs.Calendar.{is_day};
+ghost use Rattle.cf_base.specs.Common.{is_day};
 ghost use Rattle.cf_claims.specs.Claims as spec;
 ghost use Rattle.cf_claims.specs.Kept.{IsReadable};
 

@@ -4,7 +4,7 @@ ghost use Rattle.std.specs.BTreeSet.{contains};
 ghost use Rattle.std.specs.Ordering.{nat_cmp};
 ghost use Rattle.cf_claims.specs.Claims as spec;
 ghost use Rattle.cf_claims.specs.Marks.{AreMarks, IsClaimNumber, is_this, years_of};
-ghost use Rattle.cf_model.specs.Calendar.{is_year_closed};
+ghost use Rattle.cf_model.specs.Common.{is_year_closed};
 
 use cf_calls::acts::Period;
 use cf_calls::{Act, Change, Entry};

@@ -5,13 +5,12 @@ ghost use Rattle.std.specs.Prelude.{◌≡◌, ◌<◌, ◌^◌, ◌++◌, ℕ, 
 ghost use Rattle.std.specs.BTreeMap.{get};
 ghost use Rattle.std.specs.List.{AllByRecursion};
 ghost use Rattle.std.specs.Ordering.{nat_cmp};
-ghost use Rattle.cf_calls.specs.declared.entry.Entry.{Entry as AnEntry};
+ghost use Rattle.cf_model.specs.Common.{Entry as AnEntry, IsLegal};
 ghost use Rattle.cf_claims.specs.Claims.{claims_of};
 ghost use Rattle.cf_claims.specs.Kept.{IsReadable};
 ghost use Rattle.cf_claims.specs.Standing as spec;
 ghost use Rattle.cf_claims.specs.Standing.{Knows};
 ghost use Rattle.cf_grants.specs.declared.fault.GrantFault.{GrantFault as AFault};
-ghost use Rattle.cf_model.specs.Step.{IsLegal};
 
 use crate::billed::left_of;
 use crate::bills::amount_of;

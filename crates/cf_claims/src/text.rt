@@ -3,7 +3,7 @@
 ghost use Rattle.std.specs.Prelude.{◌≡◌, Ok, Err, IfOk};
 ghost use Rattle.cf_claims.specs.Texts.{claim_text as text_of};
 ghost use Rattle.cf_grants.specs.declared.fault.GrantFault.{GrantFault as AFault};
-ghost use Rattle.cf_model.specs.Step.{IsLegal};
+ghost use Rattle.cf_model.specs.Common.{IsLegal};
 
 use crate::bills::claims;
 use cf_base::Day;

@@ -1,14 +1,11 @@
 -- The sums of a legal history keep to their sizes.
-use Rattle.std.proofs.Common.{◌≡◌, ℕ, zero, suc, ◌+◌, ◌*◌, ◌^◌, ◌-◌, ◌<◌, ◌≤◌, Bool, true, false, not, if◌then◌else◌, ◌==◌, ◌&&◌, nat_le, List, [], ◌∷◌, length, take, sum_by, ℤ, pos, ◌+ℤ◌, ◌-ℤ◌, ◌≤ℤ◌, unsigned_abs, arith}
-use Rattle.std.specs.List.{filter, AllByRecursion}
-use Rattle.std.proofs.lemmas.Int.{ints}
-use Rattle.std.proofs.lemmas.List.Sums.{sum_by-cons}
-use Rattle.cf_base.specs.Limits.{most_entries, most_cents}
-use Rattle.cf_calls.specs.declared.entry.Entry.{Entry}
-use Rattle.cf_calls.specs.declared.read.Basis.{Basis}
-use Rattle.cf_calls.specs.declared.read.Basis.TheVariants.{Fund as FundBasis, Gov as GovBasis}
-use Rattle.cf_calls.specs.Form.{IsYear}
-use Rattle.cf_chart.specs.Plan.{Plan}
+use Rattle.std.proofs.Common.{◌≡◌, ℕ, zero, suc, ◌+◌, ◌*◌, ◌^◌, ◌-◌, ◌<◌, ◌≤◌, Bool, true, false, not, if◌then◌else◌, ◌==◌, ◌&&◌, nat_le, List, [], ◌∷◌, length, take, sum_by, ℤ, pos, ◌+ℤ◌, ◌-ℤ◌, ◌≤ℤ◌, unsigned_abs, arith, filter}
+use Rattle.cf_base.proofs.Common.{AllByRecursion, ints, sum_by-cons}
+use Rattle.cf_base.specs.Common.{most_entries, most_cents}
+use Rattle.cf_model.specs.Common.{Entry, Basis, Gov as GovBasis, Asset, counted, depreciation, is_kept, is_leased, net, Bond, Due, dues_from, owed_through, paid_to, added, carried_sum, encumbered, expended, removed, room, carried_in, closed_to, year_at, posts_in, recon_shown, registers_of, sums_of, IsLegal, int_sum}
+use Rattle.cf_calls.specs.declared.read.Basis.TheVariants.{Fund as FundBasis}
+use Rattle.cf_calls.specs.Common.{IsYear}
+use Rattle.cf_chart.specs.Common.{Plan}
 use Rattle.cf_classes.specs.Sizes.{AreSmall, IsSmallRecon}
 use Rattle.cf_classes.specs.Statements.{AddUp}
 use Rattle.cf_classes.proofs.Together.{funds_sum}
@@ -17,25 +14,8 @@ use Rattle.cf_classes.proofs.Within.{balances_are, classes_within, others_sum}
 use Rattle.cf_ledger.specs.declared.post.Post.{Post}
 use Rattle.cf_ledger.specs.Posts.{is_in_total, sum_where}
 use Rattle.cf_ledger.proofs.Sums.{within_sizes}
-use Rattle.cf_model.specs.Assets.{Asset, counted, depreciation, is_kept, is_leased, net}
-use Rattle.cf_model.specs.Bonds.{Bond, Due, dues_from, owed_through, paid_to}
-use Rattle.cf_model.specs.LineNumbers.{added, carried_sum, encumbered, expended, held, removed, room}
-use Rattle.cf_model.specs.Documents.{carried_in}
-use Rattle.cf_model.specs.Months.{closed_to, year_at}
-use Rattle.cf_model.specs.Postings.{posts_in}
-use Rattle.cf_model.specs.ReconShown.{recon_shown}
-use Rattle.cf_model.specs.Registers.{registers_of}
-use Rattle.cf_model.specs.Report.{sums_of}
-use Rattle.cf_model.specs.Step.{IsLegal}
-use Rattle.cf_model.specs.Sums.{int_sum}
-use Rattle.cf_model.proofs.Bounds.{readable}
-use Rattle.cf_model.proofs.CarriedBounds.{carried_small}
-use Rattle.cf_model.proofs.CloseBounds.{depreciated_most}
-use Rattle.cf_model.proofs.Holdings.{IsLowBond, IsLowCost, are_held}
-use Rattle.cf_model.proofs.Lawful.{IsWhole}
-use Rattle.cf_model.proofs.Posted.{all_filter}
-use Rattle.cf_model.proofs.Room.{room_now}
-use Rattle.cf_model.proofs.Sized.{filter_le, posts_small}
+use Rattle.cf_model.specs.LineNumbers.{held}
+use Rattle.cf_model.proofs.Common.{readable, carried_small, depreciated_most, IsLowBond, IsLowCost, are_held, IsWhole, all_filter, room_now, filter_le, posts_small}
 
 -- ---- posts
 

@@ -1,9 +1,9 @@
 -- Elements together: in any grouping, and each small.
 use Rattle.std.proofs.Common.{◌≡◌, ℕ, ◌+◌, ◌*◌, ◌≤◌, ℤ, ◌+ℤ◌, ◌-ℤ◌, unsigned_abs, List, ◌∷◌, ◌++◌, append_assoc, drop, ap, sym, subst, ◌∙◌, arith}
-use Rattle.std.proofs.lemmas.Int.{ints}
-use Rattle.cf_chart.specs.Plan.{Plan}
+use Rattle.cf_base.proofs.Common.{ints}
+use Rattle.cf_chart.specs.Common.{Plan}
 use Rattle.cf_chart.specs.declared.rows.Fund.{Fund}
-use Rattle.cf_calls.specs.declared.reply.Row.{Row}
+use Rattle.cf_model.specs.Common.{Row}
 use Rattle.cf_statements.specs.Sums.{Sums}
 use Rattle.cf_classes.specs.declared.elements.Elements.{Elements}
 use Rattle.cf_classes.specs.Major.{AreWithin, FundsSum, less, major_of, over, plus, total_of}

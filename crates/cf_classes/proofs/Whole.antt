@@ -1,14 +1,9 @@
 -- The classes of a balance sum to it, and the components to net position.
-use Rattle.std.proofs.Common.{◌≡◌, ◌≤◌, ◌<◌, ◌^◌, ℕ, unsigned_abs, ℤ, pos, ◌+ℤ◌, ◌-ℤ◌, Bool, true, false, if◌then◌else◌, arith}
-use Rattle.std.specs.Prelude.{int_lt}
-use Rattle.std.proofs.lemmas.Int.{ints}
-use Rattle.cf_calls.specs.declared.shown.ReconShown.{ReconShown}
-use Rattle.cf_chart.specs.declared.rows.BalanceClass.{BalanceClass}
-use Rattle.cf_chart.specs.declared.rows.BalanceClass.TheVariants.{Restricted, Committed, Assigned}
+use Rattle.std.proofs.Common.{◌≡◌, ◌≤◌, ◌<◌, ◌^◌, ℕ, unsigned_abs, ℤ, pos, ◌+ℤ◌, ◌-ℤ◌, Bool, true, false, if◌then◌else◌, arith, int_lt}
+use Rattle.cf_base.proofs.Common.{ints}
+use Rattle.cf_model.specs.Common.{ReconShown, BalanceClass, Restricted, Committed, Assigned, FundType, General, SpecialRevenue, CapitalProjects, DebtService, Permanent}
 use Rattle.cf_chart.specs.declared.rows.Fund.{Fund}
-use Rattle.cf_chart.specs.declared.rows.FundType.{FundType}
-use Rattle.cf_chart.specs.declared.rows.FundType.TheVariants.{General, SpecialRevenue, CapitalProjects, DebtService, Permanent}
-use Rattle.cf_chart.specs.Plan.{Plan}
+use Rattle.cf_chart.specs.Common.{Plan}
 use Rattle.cf_classes.specs.Classes.{ClassesSum, above_zero, class_of, class_sum, classes_by, classes_of, encumbered_from, in_class, lesser, none}
 use Rattle.cf_classes.specs.Components.{ComponentsSum, kept_back, net_investment, restricted, restricted_of}
 use Rattle.cf_classes.specs.declared.classes.Classes.{Classes}

@@ -1,24 +1,15 @@
 -- The classes of a balance that isn't below zero lie between zero and it; assets less liabilities
 -- are the balance; and the other funds are those that aren't major.
 use Rattle.std.proofs.Common.{◌≡◌, ◌≤ℤ◌, ℕ, ◌+◌, ℤ, pos, ◌+ℤ◌, ◌-ℤ◌, Bool, true, false, if◌then◌else◌, ◌==◌, List, [], ◌∷◌, int_lt, refl, ap, ◌∙◌, arith}
-use Rattle.std.proofs.lemmas.Grind.{common_steps}
-use Rattle.std.proofs.lemmas.Int.{ints}
-use Rattle.cf_calls.specs.declared.entry.Entry.{Entry}
+use Rattle.cf_base.proofs.Common.{common_steps, ints}
+use Rattle.cf_model.specs.Common.{Entry, BalanceClass, Restricted, Committed, Assigned, FundType, General, SpecialRevenue, CapitalProjects, DebtService, Permanent, Line, encumbered, balance_of, fund_balance, sums_of}
 use Rattle.cf_calls.specs.declared.read.Basis.TheVariants.{Fund as FundBasis}
-use Rattle.cf_chart.specs.declared.rows.BalanceClass.{BalanceClass}
-use Rattle.cf_chart.specs.declared.rows.BalanceClass.TheVariants.{Restricted, Committed, Assigned}
 use Rattle.cf_chart.specs.declared.rows.Fund.{Fund}
-use Rattle.cf_chart.specs.declared.rows.FundType.{FundType}
-use Rattle.cf_chart.specs.declared.rows.FundType.TheVariants.{General, SpecialRevenue, CapitalProjects, DebtService, Permanent}
-use Rattle.cf_chart.specs.declared.rows.Line.{Line}
-use Rattle.cf_chart.specs.Plan.{Plan}
+use Rattle.cf_chart.specs.Common.{Plan}
 use Rattle.cf_classes.specs.Classes.{AreWithin, ClassesWithin, IsWithin, above_zero, class_of, classes_by, encumbered_from, in_class, lesser, none}
 use Rattle.cf_classes.specs.Major.{BalancesAre, OthersSum, elements_of, is_major, less, nothing, over, plus, total_of}
 use Rattle.cf_classes.specs.declared.elements.Elements.{Elements}
-use Rattle.cf_model.specs.LineNumbers.{encumbered}
-use Rattle.cf_model.specs.Postings.{balance_of}
-use Rattle.cf_model.specs.Report.{fund_balance, sums_of}
-use Rattle.cf_model.proofs.FundAccounts.{fund_balance_is}
+use Rattle.cf_model.proofs.Common.{fund_balance_is}
 use Rattle.cf_statements.specs.Sums.{Sums}
 
 -- ---- classes

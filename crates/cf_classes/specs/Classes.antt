@@ -1,14 +1,11 @@
 -- The classes of fund balances (GASB Statement 54; which class a balance is in by the chart is an
 -- own profile of it).
 use Rattle.std.specs.Prelude.{◌≡◌, ◌≤ℤ◌, ℕ, ℤ, pos, ◌+◌, ◌==◌, ◌+ℤ◌, ◌-ℤ◌, int_lt, if◌then◌else◌, List, [], ◌∷◌, ◌++◌, Option, Some, None, flat_map, codes}
-use Rattle.cf_calls.specs.declared.reply.Row.{Row}
-use Rattle.cf_chart.specs.Plan.{Plan}
-use Rattle.cf_chart.specs.declared.rows.BalanceClass.{BalanceClass}
+use Rattle.cf_model.specs.Common.{Row, BalanceClass, FundType, Line}
+use Rattle.cf_chart.specs.Common.{Plan}
 use Rattle.cf_chart.specs.declared.rows.BalanceClass.TheVariants as class
 use Rattle.cf_chart.specs.declared.rows.Fund.{Fund}
-use Rattle.cf_chart.specs.declared.rows.FundType.{FundType}
 use Rattle.cf_chart.specs.declared.rows.FundType.TheVariants as fund_type
-use Rattle.cf_chart.specs.declared.rows.Line.{Line}
 use Rattle.cf_classes.specs.declared.classes.Classes.{Classes}
 use Rattle.cf_statements.specs.Sums.{Sums, heading, single}
 

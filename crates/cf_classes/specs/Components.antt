@@ -1,9 +1,8 @@
 -- The components of net position (GASB Statement 34; that all bonds and leases count as capital
 -- debt is an own rule).
 use Rattle.std.specs.Prelude.{◌≡◌, ℕ, ℤ, pos, ◌+ℤ◌, ◌-ℤ◌, List, [], ◌∷◌, codes}
-use Rattle.cf_calls.specs.declared.reply.Row.{Row}
-use Rattle.cf_calls.specs.declared.shown.ReconShown.{ReconShown}
-use Rattle.cf_chart.specs.Plan.{Plan}
+use Rattle.cf_model.specs.Common.{Row, ReconShown}
+use Rattle.cf_chart.specs.Common.{Plan}
 use Rattle.cf_chart.specs.declared.rows.Fund.{Fund}
 use Rattle.cf_classes.specs.Classes.{classes_of}
 use Rattle.cf_classes.specs.declared.classes.Classes.{Classes}

@@ -1,9 +1,8 @@
 -- Major funds (GASB Statement 34: the general fund, and each that has a tenth of some element of
 -- all governmental funds).
 use Rattle.std.specs.Prelude.{◌≡◌, ℕ, ℤ, pos, Bool, ◌||◌, ◌&&◌, ◌+ℤ◌, ◌-ℤ◌, ◌*ℤ◌, int_lt, int_le, if◌then◌else◌, List, [], ◌∷◌, ◌++◌, flat_map, codes, ◌≤◌, unsigned_abs}
-use Rattle.cf_calls.specs.declared.reply.Row.{Row}
-use Rattle.cf_chart.specs.Plan.{Plan}
-use Rattle.cf_chart.specs.Reading.{is_general}
+use Rattle.cf_model.specs.Common.{Row}
+use Rattle.cf_chart.specs.Common.{Plan, is_general}
 use Rattle.cf_chart.specs.declared.rows.Fund.{Fund}
 use Rattle.cf_classes.specs.declared.elements.Elements.{Elements}
 use Rattle.cf_statements.specs.Operating.{total_revenues, total_expenditures}

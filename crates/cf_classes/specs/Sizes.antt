@@ -1,7 +1,7 @@
 -- What the sums of a legal history keep to, so that 128 bits hold what is made of them.
 use Rattle.std.specs.Prelude.{ℕ, ◌<◌, ◌^◌, length, unsigned_abs}
-use Rattle.cf_calls.specs.declared.shown.ReconShown.{ReconShown}
-use Rattle.cf_chart.specs.Plan.{Plan}
+use Rattle.cf_model.specs.Common.{ReconShown}
+use Rattle.cf_chart.specs.Common.{Plan}
 use Rattle.cf_statements.specs.Sums.{Sums}
 
 -- the fund balances of a year, and the encumbrances of its lines

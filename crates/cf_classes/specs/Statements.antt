@@ -1,15 +1,12 @@
 -- The three statements of a history, of a fiscal year, and the laws of their sums.
 use Rattle.std.specs.Prelude.{ℕ, List}
-use Rattle.cf_calls.specs.declared.entry.Entry.{Entry}
-use Rattle.cf_calls.specs.declared.reply.Row.{Row}
-use Rattle.cf_chart.specs.Plan.{Plan}
+use Rattle.cf_model.specs.Common.{Entry, Row, sums_of, recon_shown}
+use Rattle.cf_chart.specs.Common.{Plan}
 use Rattle.cf_classes.specs.Classes.{ClassesSum, ClassesWithin, classes_rows}
 use Rattle.cf_classes.specs.Components as component
 use Rattle.cf_classes.specs.Components.{ComponentsSum}
 use Rattle.cf_classes.specs.Major as major
 use Rattle.cf_classes.specs.Major.{BalancesAre, FundsSum, OthersSum}
-use Rattle.cf_model.specs.Report.{sums_of}
-use Rattle.cf_model.specs.ReconShown.{recon_shown}
 
 abbrev pub class_rows : Plan → List Entry → ℕ → List Row
 class_rows plan history year = classes_rows plan (sums_of plan history) year

@@ -2,7 +2,7 @@
 -- computed by the checker.
 use Rattle.std.specs.Prelude.{◌≡◌, [], ◌∷◌, pos, codes}
 use Rattle.cf_classes.specs.Statements.{class_rows, component_rows, major_rows}
-use Rattle.cf_model.specs.Worked.{moved, town}
+use Rattle.cf_model.specs.Common.{moved, town}
 use Rattle.cf_statements.specs.Sums.{heading, single}
 
 -- the general fund has 3000 cents and a special revenue fund 2000: what is of neither lease nor

@@ -1,6 +1,6 @@
 //! The classes of fund balances.
 ghost use Rattle.std.specs.Prelude.{◌≡◌, ◌≤◌, ◌<◌, ◌^◌, ◌*◌, ◌++◌, ◌∷◌, [], ℕ, true, IfOk, OnOk, flat_map, length, unsigned_abs};
-ghost use Rattle.cf_calls.specs.Form.{IsYear};
+ghost use Rattle.cf_calls.specs.Common.{IsYear};
 ghost use Rattle.cf_classes.specs.Classes as spec;
 ghost use Rattle.cf_classes.specs.Classes.{ClassesSum, class_rows, class_sum, classes_rows, fund_rows};
 ghost use Rattle.cf_classes.specs.Sizes.{AreSmall};

@@ -1,6 +1,6 @@
 //! The elements that major funds are told by (GASB Statement 34).
 ghost use Rattle.std.specs.Prelude.{◌≡◌, ◌<◌, ◌≤◌, ◌^◌, ◌*◌, unsigned_abs};
-ghost use Rattle.cf_calls.specs.Form.{IsYear};
+ghost use Rattle.cf_calls.specs.Common.{IsYear};
 ghost use Rattle.cf_classes.specs.Major as spec;
 ghost use Rattle.cf_classes.specs.Major.{AreWithin};
 

@@ -1,7 +1,7 @@
 //! Major funds.
 ghost use Rattle.std.specs.Prelude.{◌≡◌, ◌≤◌, ◌<◌, ◌^◌, ◌*◌, ◌++◌, IfOk, OnOk, flat_map, length, unsigned_abs};
-ghost use Rattle.cf_calls.specs.Form.{IsYear};
-ghost use Rattle.cf_chart.specs.Reading.{is_general as is_general_fund};
+ghost use Rattle.cf_calls.specs.Common.{IsYear};
+ghost use Rattle.cf_chart.specs.Common.{is_general as is_general_fund};
 ghost use Rattle.cf_classes.specs.Major as spec;
 ghost use Rattle.cf_classes.specs.Major.{AreWithin, FundsSum, element_rows, fund_rows, major_rows};
 

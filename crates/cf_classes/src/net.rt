@@ -1,6 +1,6 @@
 //! The components of net position.
 ghost use Rattle.std.specs.Prelude.{◌≡◌, ◌≤◌, ◌<◌, ◌^◌, ◌*◌, ◌++◌, ℕ, true, IfOk, OnOk, length, unsigned_abs};
-ghost use Rattle.cf_calls.specs.Form.{IsYear};
+ghost use Rattle.cf_calls.specs.Common.{IsYear};
 ghost use Rattle.cf_classes.specs.Classes.{classes_of as classes_by_fund};
 ghost use Rattle.cf_classes.specs.Components as spec;
 ghost use Rattle.cf_classes.specs.Components.{ComponentsSum, component_rows};

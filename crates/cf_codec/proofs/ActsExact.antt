@@ -1,13 +1,9 @@
 -- The fields of each act are exact, and with them those of any act.
-use Rattle.std.proofs.Common.{◌≡◌, ◌≢◌, ℕ, zero, suc, ◌+◌, ◌*◌, ◌<◌, ◌≤◌, Bool, true, false, cond, leb, eqb, not, List, [], ◌∷◌, ◌++◌, length, Option, Some, None, option_map, Result, Ok, Err, ℤ, pos, negsuc, refl, sym, ap, subst, ◌∙◌, append_assoc, arith, nat_le, inl, inr}
-use Rattle.std.specs.Prelude.{⊤, find, is_some, unwrap_or, unsigned_abs}
-use Rattle.std.specs.List.{AllByRecursion, list_all}
-use Rattle.std.proofs.lemmas.Grind.{common_steps}
-use Rattle.std.proofs.lemmas.Bool.{leb-true, le-leb, lt-ltb, and_parts, eqb-true, eqb-false, ne_eqb, not-true}
-use Rattle.std.proofs.lemmas.List.{length-append}
-use Rattle.cf_base.specs.Limits.{most_cents}
+use Rattle.std.proofs.Common.{◌≡◌, ◌≢◌, ℕ, zero, suc, ◌+◌, ◌*◌, ◌<◌, ◌≤◌, Bool, true, false, cond, leb, eqb, not, List, [], ◌∷◌, ◌++◌, length, Option, Some, None, option_map, Result, Ok, Err, ℤ, pos, negsuc, refl, sym, ap, subst, ◌∙◌, append_assoc, arith, nat_le, inl, inr, find, is_some, unwrap_or, unsigned_abs}
+use Rattle.std.specs.Prelude.{⊤}
+use Rattle.cf_base.proofs.Common.{AllByRecursion, list_all, common_steps, leb-true, le-leb, lt-ltb, and_parts, eqb-true, eqb-false, ne_eqb, not-true, length-append}
+use Rattle.cf_base.specs.Common.{most_cents, is_amount}
 use Rattle.cf_base.specs.declared.calendar.Day.{Day}
-use Rattle.cf_base.specs.Money.{is_amount}
 use Rattle.cf_calls.specs.declared.acts.Act.{Act}
 use Rattle.cf_calls.specs.declared.acts.Act.TheVariants.{Adopt, Amend, Transfer, Requisition, Withdraw, Order, ChangeOrder, CancelOrder, Voucher, VoidVoucher, Pay, Bill, Collect, Receive, WriteOff, Asset, Issue, PayDue, Leave, Interfund, Close, Lease}
 use Rattle.cf_calls.specs.declared.acts.FundMoveKind.{FundMoveKind}
@@ -19,12 +15,11 @@ use Rattle.cf_calls.specs.declared.acts.LeaveAct.TheVariants.{Earn, Use, Mature}
 use Rattle.cf_calls.specs.declared.acts.Period.{Period}
 use Rattle.cf_calls.specs.declared.acts.Period.TheVariants as period
 use Rattle.cf_calls.specs.declared.acts.Terms.{Terms}
-use Rattle.cf_calls.specs.Form.{IsYear, IsCount, IsAdoptionForm, IsTermsForm, IsLeaseForm, IsVoucherForm, IsPeriodForm, IsActInForm, IsWithinLimits, is_by, is_distinct, is_most, is_period, same_line, same_source, same_number}
+use Rattle.cf_calls.specs.Common.{IsYear, IsCount, IsAdoptionForm, IsTermsForm, IsLeaseForm, IsVoucherForm, IsPeriodForm, IsActInForm, IsWithinLimits, is_by, is_distinct, is_most, is_period, same_line, same_source, same_number, kind_of, kind_value, kind_code}
 use Rattle.cf_calls.specs.declared.kind.ActKind.{ActKind}
 use Rattle.cf_calls.specs.declared.kind.ActKind.TheVariants as kind
 use Rattle.cf_codec_fields.specs.Formats.{Format, and_then, kept}
 use Rattle.cf_codec_fields.specs.Fields.{byte, half, word, one_of, flag, year, amount, most_amount, signed, month}
-use Rattle.cf_calls.specs.Kinds.{kind_of, kind_value, kind_code}
 use Rattle.cf_calls.proofs.KindsFound.{by_code, code_is}
 use Rattle.cf_codec_fields.specs.Kinds.{value_in, kind, moves, move_value, move_code, move_kind}
 use Rattle.cf_codec.specs.Acts.{source_amount, account_item, line_amounts, source_amounts, account_items, voucher_items, voucher_numbers, principals, adoption, amendment, other_than, transfer, new_requisition, optional_by, optional, new_order, order_change, new_voucher, payment, new_bill, bill_amount, donation, disposal, terms, issue, lease, debt_payment, leave_amount, maturity, fund_move, made, asset_act_by, asset_act, leave_act_by, leave_act, period_by, closed_period, act_bytes, act_fits, act_at, act_for}

@@ -1,23 +1,21 @@
 -- Whole entries: what is written is read, what is read was written, and no payload begins another.
-use Rattle.std.proofs.Common.{◌≡◌, ℕ, ◌+◌, ◌-◌, ◌<◌, ◌≤◌, true, List, [], ◌++◌, length, None, Result, Ok, Err, refl, sym, ap, subst, ◌∙◌, arith}
-use Rattle.std.specs.Prelude.{⊤, IfOk}
-use Rattle.std.proofs.lemmas.Bool.{leb-true, le-leb}
-use Rattle.std.proofs.lemmas.List.{length-append, append-nil, take_at, nil_from_length}
+use Rattle.std.proofs.Common.{◌≡◌, ℕ, ◌+◌, ◌-◌, ◌<◌, ◌≤◌, true, List, [], ◌++◌, length, None, Result, Ok, Err, refl, sym, ap, subst, ◌∙◌, arith, IfOk}
+use Rattle.std.specs.Prelude.{⊤}
+use Rattle.cf_base.proofs.Common.{leb-true, le-leb, length-append, append-nil, take_at, nil_from_length}
 use Rattle.cf_base.specs.declared.calendar.Day.{Day}
-use Rattle.cf_base.specs.Calendar.{is_day}
+use Rattle.cf_base.specs.Common.{is_day}
 use Rattle.cf_calls.specs.declared.acts.Act.{Act}
 use Rattle.cf_calls.specs.declared.acts.Act.TheVariants.{Asset, Issue, PayDue, Lease}
 use Rattle.cf_calls.specs.declared.acts.AssetAct.TheVariants.{Donate, Dispose}
 use Rattle.cf_calls.specs.declared.entry.Drawn.{Drawn}
 use Rattle.cf_calls.specs.declared.entry.Entry.{Entry}
-use Rattle.cf_calls.specs.Form.{is_key, HasDrawn, IsActInForm, IsDrawn, IsPaymentNumber, IsEntryInForm}
+use Rattle.cf_calls.specs.Common.{is_key, HasDrawn, IsActInForm, IsDrawn, IsPaymentNumber, IsEntryInForm, draws_of, kind_of}
 use Rattle.cf_calls.specs.declared.kind.ActKind.{ActKind}
 use Rattle.cf_calls.specs.declared.kind.ActKind.TheVariants as kind
 use Rattle.cf_calls.specs.declared.kind.Draws.{Draws}
 use Rattle.cf_calls.specs.declared.kind.Draws.TheVariants.{Nothing, Number, Both, Payment}
 use Rattle.cf_codec_fields.specs.Formats.{Format}
 use Rattle.cf_codec_fields.specs.Fields.{half, word, key, day}
-use Rattle.cf_calls.specs.Kinds.{draws_of, kind_of}
 use Rattle.cf_codec_fields.specs.Kinds.{kind, kind_in, is_of}
 use Rattle.cf_codec.specs.Acts.{act_for}
 use Rattle.cf_codec.specs.Entries.{may_be_on, on_for, none_drawn, one_drawn, two_drawn, payment_drawn, drawn_as, drawn_for, entry, entry_in, payload, placed, read_of, HasPayload, BeginsWith, IsDrawnShort, IsOf}

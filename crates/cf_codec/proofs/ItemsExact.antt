@@ -1,16 +1,15 @@
 -- What stands in the lists of an entry, and the lists, are exact.
 use Rattle.std.proofs.Common.{◌≡◌, ℕ, zero, suc, ◌+◌, ◌<◌, ◌≤◌, ◌*◌, Bool, true, false, List, [], ◌∷◌, length, refl, sym, ap, subst, ◌∙◌, arith, ◌&&◌, sum}
 use Rattle.std.specs.Prelude.{⊤}
-use Rattle.std.specs.List.{AllByRecursion, list_all}
-use Rattle.std.proofs.lemmas.Bool.{leb-true, le-leb, lt-ltb, and_parts, and_from, eqb-true, eq-eqb}
+use Rattle.cf_base.proofs.Common.{AllByRecursion, list_all, leb-true, le-leb, lt-ltb, and_parts, and_from, eqb-true, eq-eqb}
 use Rattle.cf_base.specs.declared.calendar.Day.{Day}
-use Rattle.cf_base.specs.Money.{is_amount}
+use Rattle.cf_base.specs.Common.{is_amount}
 use Rattle.cf_calls.specs.declared.items.VoucherItem.{VoucherItem}
 use Rattle.cf_calls.specs.declared.items.Charge.{Charge}
 use Rattle.cf_calls.specs.declared.items.Charge.TheVariants.{Direct, OnOrder}
 use Rattle.cf_calls.specs.declared.items.Liquidation.{Liquidation}
 use Rattle.cf_calls.specs.declared.items.Liquidation.TheVariants.{Lesser, Recorded, Final}
-use Rattle.cf_calls.specs.Form.{IsCount, IsVoucherForm, is_distinct, is_most, is_liquidation_form, is_charge_form, same_line, same_source, same_number, same_order_item, month_number}
+use Rattle.cf_calls.specs.Common.{IsCount, IsVoucherForm, is_distinct, is_most, is_liquidation_form, is_charge_form, same_line, same_source, same_number, same_order_item, month_number}
 use Rattle.cf_codec_fields.specs.Formats.{Format, kept, list, is_between}
 use Rattle.cf_codec_fields.specs.Fields.{half, word, one_of, flag, amount, most_amount}
 use Rattle.cf_codec.specs.Acts.{line_amount, source_amount, account_item, liquidation_kind, recorded_of, liquidation_by, liquidation, is_on_order, order_of, order_item_of, how_of, charge_by, charge, voucher_item, line_amounts, source_amounts, account_items, voucher_items, voucher_numbers, is_repayment, principals}

@@ -1,7 +1,6 @@
 -- The size of a value is the length of its bytes.
-use Rattle.std.proofs.Common.{◌≡◌, ℕ, ◌+◌, Bool, List, [], ◌∷◌, ◌++◌, length, Option, Some, None, refl, arith}
-use Rattle.std.specs.Int.{w16}
-use Rattle.std.proofs.lemmas.List.{length-append}
+use Rattle.std.proofs.Common.{◌≡◌, ℕ, ◌+◌, Bool, List, [], ◌∷◌, ◌++◌, length, Option, Some, None, refl, arith, w16}
+use Rattle.cf_base.proofs.Common.{length-append}
 use Rattle.cf_base.specs.declared.calendar.Day.{Day}
 use Rattle.cf_calls.specs.declared.acts.Act.{Act}
 use Rattle.cf_calls.specs.declared.acts.Act.TheVariants.{Adopt, Requisition, Order, Voucher, Pay, Issue, Asset, Leave, Close, Lease}
@@ -18,7 +17,7 @@ use Rattle.cf_calls.specs.declared.kind.Draws.{Draws}
 use Rattle.cf_calls.specs.declared.kind.Draws.TheVariants.{Nothing}
 use Rattle.cf_codec_fields.specs.Formats.{Format, number_bytes, kept, each_bytes, each_size, list, field, ◌>>=◌, done}
 use Rattle.cf_codec_fields.specs.Fields.{byte, half, word, flag, year, amount, most_amount}
-use Rattle.cf_calls.specs.Kinds.{draws_of, kind_of}
+use Rattle.cf_calls.specs.Common.{draws_of, kind_of}
 use Rattle.cf_codec_fields.specs.Kinds.{kind, kind_in}
 use Rattle.cf_codec_fields.specs.Fields.{key}
 use Rattle.cf_codec.specs.Acts.{line_amount, source_amount, account_item, charge, voucher_item, line_amounts, source_amounts, account_items, voucher_items, voucher_numbers, principals, adoption, new_requisition, optional, new_order, new_voucher, payment, terms, issue, lease, act_bytes, act_size, act_for}

@@ -1,7 +1,7 @@
 -- The fields of each act, in the order of its payload, with the rules of form where they speak.
 use Rattle.std.specs.Prelude.{ℕ, zero, suc, ◌+◌, ◌*◌, ◌==◌, ◌&&◌, not, nat_le, nat_lt, sum, length, List, ◌++◌, true, false, Bool, Option, Some, None, is_some, unwrap_or, Result, Ok}
 use Rattle.cf_base.specs.declared.calendar.Day.{Day}
-use Rattle.cf_base.specs.Limits.{last_year}
+use Rattle.cf_base.specs.Common.{last_year}
 use Rattle.cf_calls.specs.declared.acts.Act.{Act}
 use Rattle.cf_calls.specs.declared.acts.Act.TheVariants.{Adopt, Amend, Transfer, Requisition, Withdraw, Order, ChangeOrder, CancelOrder, Voucher, VoidVoucher, Pay, Bill, Collect, Receive, WriteOff, Asset, Issue, PayDue, Leave, Interfund, Close, Lease}
 use Rattle.cf_calls.specs.declared.acts.Adoption.{Adoption}
@@ -37,7 +37,7 @@ use Rattle.cf_calls.specs.declared.items.Charge.{Charge}
 use Rattle.cf_calls.specs.declared.items.Charge.TheVariants.{Direct, OnOrder}
 use Rattle.cf_calls.specs.declared.items.Liquidation.{Liquidation}
 use Rattle.cf_calls.specs.declared.items.Liquidation.TheVariants.{Lesser, Recorded, Final}
-use Rattle.cf_calls.specs.Form.{is_distinct, is_period, month_number, same_line, same_source, same_number, same_order_item}
+use Rattle.cf_calls.specs.Common.{is_distinct, is_period, month_number, same_line, same_source, same_number, same_order_item}
 use Rattle.cf_calls.specs.declared.kind.ActKind.{ActKind}
 use Rattle.cf_calls.specs.declared.kind.ActKind.TheVariants as kind
 use Rattle.cf_codec_fields.specs.Formats.{Format, and_then, kept, list, field, ◌>>=◌, done}

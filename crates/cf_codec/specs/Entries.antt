@@ -4,12 +4,11 @@ use Rattle.cf_base.specs.declared.calendar.Day.{Day}
 use Rattle.cf_calls.specs.declared.acts.Act.{Act}
 use Rattle.cf_calls.specs.declared.entry.Drawn.{Drawn}
 use Rattle.cf_calls.specs.declared.entry.Entry.{Entry}
-use Rattle.cf_calls.specs.Form.{IsEntryInForm}
+use Rattle.cf_calls.specs.Common.{IsEntryInForm, draws_of, kind_of}
 use Rattle.cf_calls.specs.declared.kind.ActKind.{ActKind}
 use Rattle.cf_calls.specs.declared.kind.ActKind.TheVariants as kind
 use Rattle.cf_calls.specs.declared.kind.Draws.{Draws}
 use Rattle.cf_calls.specs.declared.kind.Draws.TheVariants.{Nothing, Number, Both, Payment}
-use Rattle.cf_calls.specs.Kinds.{draws_of, kind_of}
 use Rattle.cf_codec_fields.specs.Formats.{Format, kept, field, ◌>>=◌, done}
 use Rattle.cf_codec_fields.specs.Fields.{half, word, key, day}
 use Rattle.cf_codec_fields.specs.Kinds.{kind_in, is_of}

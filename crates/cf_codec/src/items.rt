@@ -1,11 +1,10 @@
 //! What stands in the lists of an entry.
 
 ghost use Rattle.std.specs.Prelude.{◌≡◌, Some, refl};
-ghost use Rattle.cf_calls.specs.Form.{same_line, same_source, same_number, same_order_item};
+ghost use Rattle.cf_calls.specs.Common.{same_line, same_source, same_number, same_order_item, charged_item, same_charged};
 ghost use Rattle.cf_codec_fields.specs.Readings.{Gives};
 ghost use Rattle.cf_codec.specs.Acts as spec;
 ghost use Rattle.cf_codec.specs.Acts.{line_amount, source_amount, account_item, voucher_item};
-ghost use Rattle.cf_calls.specs.Charges.{charged_item, same_charged};
 ghost use Rattle.cf_codec_fields.specs.Fields.{word, most_amount};
 ghost use Rattle.cf_codec_fields.specs.Puts.{HasRoom, Puts};
 

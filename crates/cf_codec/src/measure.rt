@@ -1,7 +1,7 @@
 //! How many bytes an entry has. The bounds are far from tight: they say that the sums fit.
 
 ghost use Rattle.std.specs.Prelude.{◌≡◌, ◌<◌, ◌≤◌, length};
-ghost use Rattle.cf_calls.specs.Form.{IsActInForm, IsAdoptionForm, IsEntryInForm};
+ghost use Rattle.cf_calls.specs.Common.{IsActInForm, IsAdoptionForm, IsEntryInForm};
 ghost use Rattle.cf_codec.specs.Acts as spec;
 ghost use Rattle.cf_codec.specs.Entries as entries;
 

@@ -1,9 +1,8 @@
 //! The writers of the acts. Each is called where there is room for the act.
 
 ghost use Rattle.std.specs.Prelude.{◌≡◌, ◌<◌, true, length};
-ghost use Rattle.cf_calls.specs.Form.{IsActInForm, IsAdoptionForm, is_period};
+ghost use Rattle.cf_calls.specs.Common.{IsActInForm, IsAdoptionForm, is_period, kind_of};
 ghost use Rattle.cf_codec.specs.Acts as spec;
-ghost use Rattle.cf_calls.specs.Kinds.{kind_of};
 ghost use Rattle.cf_codec_fields.specs.Puts.{HasRoom, Puts};
 
 use crate::items::{

@@ -2,8 +2,8 @@
 //! Each gives the act and the bytes after it.
 
 ghost use Rattle.std.specs.Prelude.{◌≡◌, ◌+◌, ◌*◌, ◌<◌, nat_le, sum};
-ghost use Rattle.cf_base.specs.Limits.{last_year};
-ghost use Rattle.cf_calls.specs.Form.{is_period, month_number};
+ghost use Rattle.cf_base.specs.Common.{last_year};
+ghost use Rattle.cf_calls.specs.Common.{is_period, month_number};
 ghost use Rattle.cf_calls.specs.declared.acts.Act.TheVariants as act;
 ghost use Rattle.cf_codec.specs.Acts as spec;
 ghost use Rattle.cf_codec_fields.specs.Readings.{Gives};

@@ -1,7 +1,7 @@
 //! An entry written as its payload.
 
 ghost use Rattle.std.specs.Prelude.{◌≡◌, ◌+◌, ◌≤◌, ◌++◌, length, IsOk, OnOk, OnErr, vec_len, vec_capacity};
-ghost use Rattle.cf_calls.specs.Form.{IsEntryInForm};
+ghost use Rattle.cf_calls.specs.Common.{IsEntryInForm};
 ghost use Rattle.cf_codec.specs.Entries.{HasPayload, IsDrawnShort, drawn_as, payload};
 ghost use Rattle.cf_codec.specs.Entries as spec;
 ghost use Rattle.cf_codec_fields.specs.Puts.{HasRoom, Puts};

@@ -1,16 +1,12 @@
 -- The fields of a payload are exact.
-use Rattle.std.proofs.Common.{◌≡◌, ℕ, zero, suc, ◌+◌, ◌<◌, ◌≤◌, Bool, true, false, cond, ltb, leb, List, [], ◌∷◌, ◌++◌, length, take, drop, Some, None, Ok, Err, ℤ, pos, negsuc, refl, ap, subst, arith, ◌&&◌}
-use Rattle.std.specs.Prelude.{⊤, unsigned_abs}
-use Rattle.std.specs.Int.{w8, w16, w32, w64}
-use Rattle.std.proofs.lemmas.Bool.{ltb-true, lt-ltb, leb-true, le-leb, and_parts, and_from}
-use Rattle.std.proofs.lemmas.List.{take_at, drop_at, take-append-drop, length-append, length-take}
+use Rattle.std.proofs.Common.{◌≡◌, ℕ, zero, suc, ◌+◌, ◌<◌, ◌≤◌, Bool, true, false, cond, ltb, leb, List, [], ◌∷◌, ◌++◌, length, take, drop, Some, None, Ok, Err, ℤ, pos, negsuc, refl, ap, subst, arith, ◌&&◌, unsigned_abs, w8, w16, w32, w64}
+use Rattle.std.specs.Prelude.{⊤}
+use Rattle.cf_base.proofs.Common.{ltb-true, lt-ltb, leb-true, le-leb, and_parts, and_from, take_at, drop_at, take-append-drop, length-append, length-take, day_at, number_of}
 use Rattle.cf_base.specs.declared.calendar.Day.{Day}
-use Rattle.cf_base.specs.Calendar.{is_day, day_number, day_of_number}
-use Rattle.cf_base.specs.Money.{is_amount}
-use Rattle.cf_calls.specs.Form.{is_key, is_most, IsYear, IsCallMonth}
+use Rattle.cf_base.specs.Common.{is_day, day_number, day_of_number, is_amount}
+use Rattle.cf_calls.specs.Common.{is_key, is_most, IsYear, IsCallMonth}
 use Rattle.cf_codec_fields.specs.Formats.{kept, is_between}
 use Rattle.cf_codec_fields.specs.Fields.{byte, half, word, long, one_of, flag_value, flag_code, flag, year, amount, most_amount, is_negative, with_sign, signed, month, day_value, day_code, day, key_bytes, key_at, key}
-use Rattle.cf_base.proofs.DayNumbers.{day_at, number_of}
 use Rattle.cf_codec_fields.proofs.Exact.{IsBytes, IsBytes-drop, Takes, IsWhole, Any, step, last, same, number-exact, converted-exact, kept-exact, wide8, wide16, wide32, wide64}
 
 pub byte-exact : IsWhole byte Any

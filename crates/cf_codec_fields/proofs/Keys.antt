@@ -1,10 +1,7 @@
 -- A key is text.
-use Rattle.std.proofs.Common.{◌≡◌, ◌≤◌, ℕ, zero, suc, true, List, [], ◌∷◌, arith, nat_le}
-use Rattle.std.specs.List.{list_all}
-use Rattle.std.specs.Str.{IsUtf8, IsAscii}
-use Rattle.std.proofs.lemmas.Bool.{leb-true, and_parts}
-use Rattle.std.proofs.lemmas.Str.{IsUtf8-from_ascii}
-use Rattle.cf_calls.specs.Form.{is_key, is_key_byte}
+use Rattle.std.proofs.Common.{◌≡◌, ◌≤◌, ℕ, zero, suc, true, List, [], ◌∷◌, arith, nat_le, IsUtf8, IsAscii}
+use Rattle.cf_base.proofs.Common.{list_all, leb-true, and_parts, IsUtf8-from_ascii}
+use Rattle.cf_calls.specs.Common.{is_key, is_key_byte}
 
 key-ascii : (k : List ℕ) → list_all is_key_byte k ≡ true → IsAscii k
 key-ascii [] e i = omega arith

@@ -3,10 +3,8 @@ use Rattle.std.specs.Prelude.{ℕ, zero, suc, ◌+◌, ◌&&◌, List, [], ◌�
 use Rattle.std.specs.Int.{w8, w16, w32, w64}
 use Rattle.cf_base.specs.declared.calendar.Day.{Day}
 use Rattle.cf_base.specs.declared.calendar.Month.{Month}
-use Rattle.cf_base.specs.Calendar.{day_number, day_of_number}
-use Rattle.cf_base.specs.Money.{is_amount}
-use Rattle.cf_base.specs.Limits.{last_year}
-use Rattle.cf_calls.specs.Form.{is_key, is_most}
+use Rattle.cf_base.specs.Common.{day_number, day_of_number, is_amount, last_year}
+use Rattle.cf_calls.specs.Common.{is_key, is_most}
 use Rattle.cf_codec_fields.specs.Formats.{Format, number, kept, converted, is_between, field, ◌>>=◌, done}
 
 abbrev pub byte : Format ℕ

@@ -4,7 +4,7 @@ use Rattle.cf_calls.specs.declared.acts.FundMoveKind.{FundMoveKind}
 use Rattle.cf_calls.specs.declared.acts.FundMoveKind.TheVariants as move
 use Rattle.cf_calls.specs.declared.kind.ActKind.{ActKind}
 use Rattle.cf_calls.specs.declared.kind.ActKind.TheVariants.{Lease}
-use Rattle.cf_calls.specs.Kinds.{kind_code, kind_value}
+use Rattle.cf_calls.specs.Common.{kind_code, kind_value}
 use Rattle.cf_codec_fields.specs.Formats.{Format, converted, kept}
 use Rattle.cf_codec_fields.specs.Fields.{byte}
 

@@ -1,7 +1,7 @@
 //! Lists: a count, and the elements one after another.
 
 ghost use Rattle.std.specs.Prelude.{◌≡◌, ◌+◌, ◌<◌, ◌≤◌, Bool, Option, IfOk, length, vec_len, vec_capacity};
-ghost use Rattle.cf_calls.specs.Form.{is_distinct};
+ghost use Rattle.cf_calls.specs.Common.{is_distinct};
 ghost use Rattle.cf_calls.specs.Keys.{same_key};
 ghost use Rattle.cf_codec_fields.specs.Readings.{Gives};
 ghost use Rattle.cf_codec_fields.specs.Formats.{Format, kept, list, each_bytes, each_size, each_fits, each_at};

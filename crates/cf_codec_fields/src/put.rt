@@ -1,8 +1,8 @@
 //! The writers of single fields. Each is called where there is room for its bytes.
 
 ghost use Rattle.std.specs.Prelude.{◌≡◌, true};
-ghost use Rattle.cf_base.specs.Calendar.{is_day};
-ghost use Rattle.cf_calls.specs.Form.{is_key};
+ghost use Rattle.cf_base.specs.Common.{is_day};
+ghost use Rattle.cf_calls.specs.Common.{is_key};
 ghost use Rattle.cf_codec_fields.specs.Fields as spec;
 ghost use Rattle.cf_codec_fields.specs.Kinds as kinds;
 ghost use Rattle.cf_codec_fields.specs.Puts.{HasRoom, Puts};

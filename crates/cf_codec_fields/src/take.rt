@@ -2,7 +2,7 @@
 
 ghost use Rattle.std.specs.Prelude.{◌≡◌, ◌<◌, length};
 ghost use Rattle.std.specs.List.{list_all};
-ghost use Rattle.cf_calls.specs.Form.{is_key, is_key_byte};
+ghost use Rattle.cf_calls.specs.Common.{is_key, is_key_byte};
 ghost use Rattle.cf_codec_fields.specs.declared.fault.Refused.TheVariants.{Faulty};
 ghost use Rattle.cf_codec_fields.specs.Readings.{Gives};
 ghost use Rattle.cf_codec_fields.specs.Formats.{or_left, is_between, kept};

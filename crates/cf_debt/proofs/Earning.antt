@@ -1,8 +1,8 @@
 -- Interest fits its numbers.
 use Rattle.std.proofs.Common.{ℕ, ◌*◌, ◌/◌, ◌<◌, ◌≤◌, ◌^◌, arith}
-use Rattle.std.proofs.lemmas.Nat.{mul-le}
-use Rattle.cf_model.proofs.Depreciated.{quotient_le}
-use Rattle.cf_base.specs.Limits.{most_cents}
+use Rattle.cf_base.proofs.Common.{mul-le}
+use Rattle.cf_model.proofs.Common.{quotient_le}
+use Rattle.cf_base.specs.Common.{most_cents}
 
 product : (owed rate days : ℕ) → owed ≤ most_cents → rate ≤ 10000 → days ≤ 360 → owed * rate * days ≤ 36000000000000000000
 product owed rate days l m n = mul-le (owed * rate) days 100000000000000000 360 (mul-le owed rate most_cents 10000 l m) n

@@ -1,13 +1,10 @@
 -- A bond that is issued, with its payments.
 use Rattle.std.proofs.Common.{◌≡◌, ℕ, ◌+◌, ◌-◌, ◌*◌, ◌≤◌, Bool, true, false, if◌then◌else◌, ◌==◌, ◌||◌, nat_lt, nat_le, List, [], ◌∷◌, ◌++◌, length, take, get_or, sum, sum_by, refl, sym, ap, ◌∙◌, arith}
-use Rattle.std.proofs.lemmas.Grind.{common_steps}
-use Rattle.std.proofs.lemmas.List.{length-append}
-use Rattle.cf_base.specs.declared.calendar.Day.{Day}
-use Rattle.cf_base.specs.Calendar.{is_day}
-use Rattle.cf_base.proofs.DayNumbers.{parts}
-use Rattle.cf_calls.specs.declared.acts.BondIssue.{BondIssue}
-use Rattle.cf_calls.specs.Form.{IsCount, IsTermsForm, is_period}
-use Rattle.cf_chart.specs.Plan.{Plan}
+use Rattle.cf_base.proofs.Common.{common_steps, length-append, parts}
+use Rattle.cf_model.specs.Common.{Day, BondIssue, Bond, Due, coupon, dues, dues_from, year_of_day, number_of_day}
+use Rattle.cf_base.specs.Common.{is_day, most_cents}
+use Rattle.cf_calls.specs.Common.{IsCount, IsTermsForm, is_period}
+use Rattle.cf_chart.specs.Common.{Plan}
 use Rattle.cf_debt.specs.declared.rows.BondRow.{BondRow}
 use Rattle.cf_debt.specs.RegisterView.{AreRows, HasBonds, HasSums, amount_of, is_live, lease_amount, lease_principal, principal_of}
 use Rattle.cf_debt.specs.Rows.{IsBond, IsRow, IsSmallDue, view_bond, view_bonds}
@@ -16,11 +13,7 @@ use Rattle.cf_debt.specs.Rows.{lease_part}
 use Rattle.cf_debt.proofs.Lists.{among_push}
 use Rattle.cf_debt.proofs.Schedules.{bond_more, bond_paying, is_bond_more, length_dues, new_dues, new_view, small_dues}
 use Rattle.cf_debt.proofs.RunningSums.{Rise, charged_push, issued_push, paid_push}
-use Rattle.cf_model.specs.Bonds.{Bond, Due, coupon, dues, dues_from}
-use Rattle.cf_model.specs.Calendar.{year_of_day}
-use Rattle.cf_model.specs.Months.{number_of_day}
-use Rattle.cf_model.proofs.Debt.{early_dues}
-use Rattle.cf_base.specs.Limits.{most_cents}
+use Rattle.cf_model.proofs.Common.{early_dues}
 use Rattle.cf_register_parts.proofs.Lists.{each_append, each_push, map-push, map_same}
 
 months_between : (n : ℕ) → is_period n ≡ true → IsCount 1 12 n

@@ -1,7 +1,6 @@
 -- The row of a bond's number.
-use Rattle.std.proofs.Common.{◌≡◌, ◌≢◌, ◌⊎◌, inl, inr, ℕ, ◌+◌, ◌-◌, ◌<◌, ◌≤◌, Bool, true, false, if◌then◌else◌, ◌==◌, List, [], ◌∷◌, length, get_or, Option, Some, None, is_some, option_map, IfSome, refl, sym, subst, ap, ◌∙◌, arith}
-use Rattle.std.proofs.lemmas.Grind.{common_steps}
-use Rattle.std.specs.List.{filter}
+use Rattle.std.proofs.Common.{◌≡◌, ◌≢◌, ◌⊎◌, inl, inr, ℕ, ◌+◌, ◌-◌, ◌<◌, ◌≤◌, Bool, true, false, if◌then◌else◌, ◌==◌, List, [], ◌∷◌, length, get_or, Option, Some, None, is_some, option_map, IfSome, refl, sym, subst, ap, ◌∙◌, arith, filter}
+use Rattle.cf_base.proofs.Common.{common_steps}
 use Rattle.cf_debt.specs.declared.debt.BondNow.{BondNow}
 use Rattle.cf_debt.specs.declared.rows.BondRow.{BondRow}
 use Rattle.cf_debt.specs.Register.{Debts}
@@ -10,8 +9,7 @@ use Rattle.cf_debt.specs.Rows.{IsBond, IsRow, IsSmallDue, view_bond, view_bonds,
 use Rattle.cf_debt.specs.Steps.{CanPay, ShowsBond}
 use Rattle.cf_debt.proofs.Lists.{filter_one}
 use Rattle.cf_debt.proofs.Schedules.{next_none}
-use Rattle.cf_model.specs.Bonds.{Bond, Due, next_due}
-use Rattle.cf_model.specs.Results.{bond_at}
+use Rattle.cf_model.specs.Common.{Bond, Due, next_due, bond_at}
 use Rattle.cf_register_parts.proofs.Lists.{find_none, find_one, less_or_not}
 
 pub differ : (a b : ℕ) → a ≢ b → (a == b) ≡ false

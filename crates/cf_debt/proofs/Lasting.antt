@@ -1,11 +1,8 @@
 -- The bonds of which a payment is due in a month that isn't closed.
-use Rattle.std.proofs.Common.{◌≡◌, ◌⊎◌, inl, inr, ℕ, suc, ◌+◌, ◌-◌, ◌<◌, ◌≤◌, Bool, true, false, if◌then◌else◌, nat_le, List, [], ◌∷◌, length, map, drop, get_or, Option, Some, None, sum_by, sym, subst, ap, ◌∙◌, arith}
-use Rattle.std.proofs.lemmas.Grind.{common_steps}
-use Rattle.std.proofs.lemmas.List.{get_or_default, get_or-drop, drop_more}
-use Rattle.std.proofs.lemmas.Nat.{mul-le}
-use Rattle.std.specs.List.{filter, AllByRecursion}
-use Rattle.cf_calls.specs.declared.refusal.Refusal.{Refusal}
-use Rattle.cf_chart.specs.Plan.{Plan}
+use Rattle.std.proofs.Common.{◌≡◌, ◌⊎◌, inl, inr, ℕ, suc, ◌+◌, ◌-◌, ◌<◌, ◌≤◌, Bool, true, false, if◌then◌else◌, nat_le, List, [], ◌∷◌, length, map, drop, get_or, Option, Some, None, sum_by, sym, subst, ap, ◌∙◌, arith, filter}
+use Rattle.cf_base.proofs.Common.{common_steps, get_or_default, get_or-drop, drop_more, mul-le, AllByRecursion}
+use Rattle.cf_model.specs.Common.{Refusal, Due, interest_charge, unpaid, first_refusal, or_else}
+use Rattle.cf_chart.specs.Common.{Plan}
 use Rattle.cf_debt.specs.declared.rows.BondRow.{BondRow}
 use Rattle.cf_debt.specs.Register.{unpaid_of}
 use Rattle.cf_debt.specs.RegisterView.{AreRows, is_live, live_of}
@@ -14,9 +11,6 @@ use Rattle.cf_debt.specs.Steps.{AreNumbered}
 use Rattle.cf_debt.proofs.Lists.{all_among, all_each, each_all, filter_among, first_among, sum_among}
 use Rattle.cf_debt.proofs.Running.{no_charge}
 use Rattle.cf_debt.proofs.Schedules.{next_none}
-use Rattle.cf_model.specs.Bonds.{Due, interest_charge}
-use Rattle.cf_model.specs.RegisterRules.{unpaid}
-use Rattle.cf_model.specs.Rules.{first_refusal, or_else}
 use Rattle.cf_register_parts.proofs.Lists.{less_or_not}
 
 abbrev pub no_bond : BondRow

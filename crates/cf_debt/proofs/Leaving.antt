@@ -1,15 +1,13 @@
 -- Leave that is earned, used or paid: what is left of it, and its sums by fiscal year.
 use Rattle.std.proofs.Common.{◌≡◌, ◌⊎◌, inl, inr, ℕ, ◌+◌, ◌-◌, ◌≤◌, Bool, true, false, if◌then◌else◌, ◌==◌, ◌&&◌, nat_le, List, [], ◌∷◌, ◌++◌, ℤ, pos, ◌+ℤ◌, ◌-ℤ◌, unsigned_abs, refl, sym, ap, ◌∙◌, arith}
-use Rattle.std.proofs.lemmas.Bool.Decides.{eqb_tells}
-use Rattle.std.proofs.lemmas.Int.{ints}
+use Rattle.cf_base.proofs.Common.{eqb_tells, ints}
 use Rattle.cf_debt.specs.declared.rows.LeaveRow.{LeaveRow}
 use Rattle.cf_debt.specs.RegisterView.{AreLeave, AreLeft}
 use Rattle.cf_debt.specs.Rows.{view_leave}
 use Rattle.cf_register_parts.specs.Pairs.{Pairs, PutsAmount, amount_at}
 use Rattle.cf_register_parts.specs.Years.{sum_through}
-use Rattle.cf_model.specs.Leave.{LeaveChange, leave_left, leave_through}
-use Rattle.cf_model.specs.Sums.{through}
-use Rattle.cf_model.proofs.Totals.{sum_append}
+use Rattle.cf_model.specs.Common.{LeaveChange, leave_left, leave_through, through}
+use Rattle.cf_model.proofs.Common.{sum_append}
 
 -- a change more
 left_push : (fund dept : ℕ) (leave : List LeaveChange) (x : LeaveChange) →

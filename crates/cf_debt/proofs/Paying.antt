@@ -1,10 +1,9 @@
 -- A payment of a bond that is paid, and the close of a month.
 use Rattle.std.proofs.Common.{◌≡◌, ℕ, zero, suc, ◌+◌, ◌*◌, ◌/◌, ◌<◌, min, Bool, true, false, if◌then◌else◌, ◌==◌, nat_lt, nat_le, List, [], ◌∷◌, length, map, set, take, get_or, Option, None, sum_by, refl, sym, ap, ◌∙◌, arith}
-use Rattle.std.proofs.lemmas.Grind.{common_steps}
+use Rattle.cf_base.proofs.Common.{common_steps}
 use Rattle.cf_calls.specs.declared.acts.Act.TheVariants as act
-use Rattle.cf_calls.specs.declared.acts.DebtPayment.{DebtPayment}
-use Rattle.cf_calls.specs.declared.refusal.Refusal.{Refusal}
-use Rattle.cf_chart.specs.Plan.{Plan}
+use Rattle.cf_model.specs.Common.{DebtPayment, Refusal, Bond, Due, bond_step, coupon, dues, earned, unpaid, first_refusal, refuse_if}
+use Rattle.cf_chart.specs.Common.{Plan}
 use Rattle.cf_debt.specs.declared.rows.BondRow.{BondRow}
 use Rattle.cf_debt.specs.Register.{unpaid_of}
 use Rattle.cf_debt.specs.RegisterView.{AreRows, HasBonds, HasSums, is_live, lease_amount, lease_principal, paid_in, principal_of}
@@ -16,9 +15,6 @@ use Rattle.cf_debt.proofs.Lists.{among_set, sum_set}
 use Rattle.cf_debt.proofs.Refusing.{or_none}
 use Rattle.cf_debt.proofs.Schedules.{month_at_place, next_is, paid_step}
 use Rattle.cf_debt.proofs.RunningSums.{Rise}
-use Rattle.cf_model.specs.Bonds.{Bond, Due, bond_step, coupon, dues, earned}
-use Rattle.cf_model.specs.RegisterRules.{unpaid}
-use Rattle.cf_model.specs.Rules.{first_refusal, refuse_if}
 use Rattle.cf_register_parts.proofs.Lists.{each_set, map_set}
 
 pub rows_paid : (closed : ℕ) (all : List Due) (rows : List BondRow) (k : ℕ) (d : BondRow) → AreRows closed all rows → k < length rows → (get_or rows k d).paid < (get_or rows k d).count →

@@ -1,7 +1,6 @@
 -- What is read of the payments of all bonds.
 use Rattle.std.proofs.Common.{◌≡◌, ℕ, zero, suc, ◌+◌, ◌-◌, ◌*◌, ◌<◌, ◌≤◌, min, List, [], ◌∷◌, length, take, drop, get_or, sum_by, Some, refl, sym, subst, ap, ◌∙◌, arith}
-use Rattle.std.proofs.lemmas.List.{length-map, length-take, length-drop, get_or-take, get_or-drop, take-map, drop-map, drop-drop, drop-take, take_all}
-use Rattle.std.proofs.lemmas.List.Sums.{sum_by_more}
+use Rattle.cf_base.proofs.Common.{length-map, length-take, length-drop, get_or-take, get_or-drop, take-map, drop-map, drop-drop, drop-take, take_all, sum_by_more}
 use Rattle.cf_debt.specs.declared.rows.BondRow.{BondRow}
 use Rattle.cf_debt.specs.declared.rows.Payment.{Payment}
 use Rattle.cf_debt.specs.declared.rows.RowTerms.{RowTerms}
@@ -9,7 +8,7 @@ use Rattle.cf_debt.specs.Charges.{bond_of, running_charge}
 use Rattle.cf_debt.specs.Rows.{AreSmallDues, IsBond, IsSmallDue, schedule, view_bond, view_payment, view_payments}
 use Rattle.cf_debt.proofs.Running.{charge_at, due_before}
 use Rattle.cf_debt.proofs.Schedules.{next_is, month_at_place}
-use Rattle.cf_model.specs.Bonds.{Due, interest_charge, next_due}
+use Rattle.cf_model.specs.Common.{Due, interest_charge, next_due}
 use Rattle.cf_model.proofs.RunningInterest as model
 
 pub payment_at : (payments : List Payment) (i : ℕ) (d : Payment) → get_or (view_payments payments) i (view_payment d) ≡ view_payment (get_or payments i d)

@@ -1,17 +1,11 @@
 -- When a rule refuses.
-use Rattle.std.proofs.Common.{◌≡◌, ◌⊎◌, inl, inr, ℕ, ◌≤◌, Bool, true, false, not, if◌then◌else◌, ◌==◌, ◌&&◌, nat_le, List, [], ◌∷◌, Option, Some, None, is_some, find, option_map, refl, sym, ap, ◌∙◌, arith}
-use Rattle.std.proofs.lemmas.Bool.Decides.{eqb_tells}
-use Rattle.std.proofs.lemmas.Grind.{common_steps}
-use Rattle.std.specs.List.{filter}
-use Rattle.cf_base.specs.declared.calendar.Day.{Day}
-use Rattle.cf_base.specs.declared.calendar.Month.{Month}
+use Rattle.std.proofs.Common.{◌≡◌, ◌⊎◌, inl, inr, ℕ, ◌≤◌, Bool, true, false, not, if◌then◌else◌, ◌==◌, ◌&&◌, nat_le, List, [], ◌∷◌, Option, Some, None, is_some, find, option_map, refl, sym, ap, ◌∙◌, arith, filter}
+use Rattle.cf_base.proofs.Common.{eqb_tells, common_steps}
+use Rattle.cf_model.specs.Common.{Day, Month, DebtPayment, Period, Refusal, Bond, Due, next_due, debt_refusal, due_day, month_at, not_due, order_refusal, paid_off, paid_refusal, same_month, unpaid, unpaid_refusal, bond_at, first_of, first_refusal, or_else, refuse_if}
 use Rattle.cf_calls.specs.declared.acts.Act.TheVariants as act
-use Rattle.cf_calls.specs.declared.acts.DebtPayment.{DebtPayment}
-use Rattle.cf_calls.specs.declared.acts.Period.{Period}
 use Rattle.cf_calls.specs.declared.acts.Period.TheVariants as period
-use Rattle.cf_calls.specs.declared.refusal.Refusal.{Refusal}
 use Rattle.cf_calls.specs.declared.refusal.Refusal.TheVariants as refusal
-use Rattle.cf_chart.specs.Plan.{Plan}
+use Rattle.cf_chart.specs.Common.{Plan}
 use Rattle.cf_debt.specs.declared.debt.BondNow.{BondNow}
 use Rattle.cf_debt.specs.declared.debt.Due.{Due as DueNow}
 use Rattle.cf_debt.specs.declared.rows.Payment.{Payment}
@@ -19,10 +13,6 @@ use Rattle.cf_debt.specs.Register.{Debts, debt_due_of, due_if, due_now, due_of, 
 use Rattle.cf_debt.specs.Rows.{view_bond, view_payment}
 use Rattle.cf_debt.specs.Steps.{CanPay, ShowsBond}
 use Rattle.cf_debt.proofs.Finding.{none_passes}
-use Rattle.cf_model.specs.Bonds.{Bond, Due, next_due}
-use Rattle.cf_model.specs.RegisterRules.{debt_refusal, due_day, month_at, not_due, order_refusal, paid_off, paid_refusal, same_month, unpaid, unpaid_refusal}
-use Rattle.cf_model.specs.Results.{bond_at}
-use Rattle.cf_model.specs.Rules.{first_of, first_refusal, or_else, refuse_if}
 
 refused_by : (b : Bool) (r : Refusal) → b ≡ true → Some r ≡ refuse_if b r
 refused_by b r e = rw e refl

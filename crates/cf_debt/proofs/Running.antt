@@ -1,13 +1,11 @@
 -- Which payment of a bond runs in a month, and what a month charges.
 use Rattle.std.proofs.Common.{◌≡◌, ◌⊎◌, inl, inr, ℕ, suc, ◌+◌, ◌-◌, ◌*◌, ◌/◌, ◌<◌, ◌≤◌, min, Bool, true, false, if◌then◌else◌, nat_lt, List, [], ◌∷◌, length, map, drop, refl, sym, ap, ◌∙◌, arith}
-use Rattle.std.proofs.lemmas.Bool.Decides.{leb_tells}
-use Rattle.std.proofs.Math.Nat.{add-div_left, div-eq_of_lt}
-use Rattle.std.proofs.Math.Seq.{drop-nil}
+use Rattle.cf_base.proofs.Common.{leb_tells, add-div_left, div-eq_of_lt, drop-nil}
 use Rattle.cf_debt.specs.declared.rows.BondRow.{BondRow}
 use Rattle.cf_debt.specs.Rows.{IsBond, schedule, view_bond}
 use Rattle.cf_debt.proofs.Schedules.{length_principals}
-use Rattle.cf_model.specs.Bonds.{Due, dues_from, interest_charge}
-use Rattle.cf_model.proofs.RunningInterest.{running, running_charge, charge_is}
+use Rattle.cf_model.specs.Common.{Due, dues_from, interest_charge}
+use Rattle.cf_model.proofs.Common.{running, running_charge, charge_is}
 
 abbrev Less : Bool → ℕ → ℕ → Type 0
 Less b m n = ((b ≡ true) × (suc m ≤ n)) ⊎ ((b ≡ false) × (n < suc m))

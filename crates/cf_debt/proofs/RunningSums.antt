@@ -1,20 +1,14 @@
 -- Running sums by fiscal year: what each act adds to them, and what is read of them.
 use Rattle.std.proofs.Common.{◌≡◌, ◌⊎◌, inl, inr, ℕ, suc, ◌+◌, ◌-◌, ◌*◌, ◌/◌, ◌<◌, ◌≤◌, min, Bool, true, false, if◌then◌else◌, ◌==◌, nat_lt, nat_le, List, [], ◌∷◌, ◌++◌, sum_by, ℤ, pos, ◌+ℤ◌, ◌-ℤ◌, refl, sym, ap, ◌∙◌, arith}
-use Rattle.std.proofs.lemmas.Bool.Decides.{eqb_tells, leb_tells, nat_tests}
-use Rattle.std.proofs.lemmas.Int.{ints}
-use Rattle.std.proofs.lemmas.List.Sums.{sum_by-cons, sum_by_push}
-use Rattle.cf_chart.specs.Plan.{Plan}
+use Rattle.cf_base.proofs.Common.{eqb_tells, leb_tells, nat_tests, ints, sum_by-cons, sum_by_push}
+use Rattle.cf_chart.specs.Common.{Plan}
 use Rattle.cf_debt.specs.RegisterView.{AreCharged, AreIssued, ArePaid, amount_of, lease_amount, lease_principal, paid_in, principal_of}
 use Rattle.cf_debt.specs.Rows.{lease_part}
 use Rattle.cf_register_parts.proofs.Lists.{sum_by-equal, sum_by-plus}
 use Rattle.cf_register_parts.specs.Years.{sum_of, sum_through}
-use Rattle.cf_model.specs.Bonds.{Bond, Due, accrued_through, coupon, earned, interest_charge, issues, leases, owed_through, paid_dues, paid_to}
-use Rattle.cf_model.specs.Changes.{issued_in, principal_in}
-use Rattle.cf_model.specs.Months.{closed_to, year_at}
-use Rattle.cf_model.specs.Sums.{int_sum}
-use Rattle.cf_model.proofs.ChangeRows.{sum_minus}
-use Rattle.cf_model.proofs.Debt.{earned_le}
-use Rattle.cf_model.proofs.Totals.{split_sum, sum_pos, sum_same}
+use Rattle.cf_model.specs.Common.{Bond, Due, accrued_through, coupon, earned, interest_charge, issues, owed_through, paid_dues, paid_to, issued_in, principal_in, closed_to, year_at, int_sum}
+use Rattle.cf_model.specs.Bonds.{leases}
+use Rattle.cf_model.proofs.Common.{sum_minus, earned_le, split_sum, sum_pos, sum_same}
 
 -- years' sums rise by an amount from a place on
 abbrev pub Rise : List ℕ → List ℕ → ℕ → ℕ → Type 0

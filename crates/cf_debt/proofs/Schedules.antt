@@ -1,13 +1,11 @@
 -- The payments of a bond among those of all bonds.
 use Rattle.std.proofs.Common.{◌≡◌, ℕ, zero, suc, ◌+◌, ◌-◌, ◌*◌, ◌<◌, ◌≤◌, List, [], ◌∷◌, ◌++◌, length, map, take, drop, get_or, slice_get, sum, sum_by, Some, None, refl, sym, subst, ap, ◌∙◌, arith, append_assoc}
-use Rattle.std.proofs.lemmas.List.{length-append, length-map, length-drop, length-take-le, get_or-take, get_or-drop, drop-append-le, take-append-le, drop_at, drop_more, take_all}
-use Rattle.std.proofs.lemmas.List.Sums.{sum_by-cons, sum_by_more}
-use Rattle.std.proofs.lemmas.Option.{slice_get-get_or, slice_get_past}
+use Rattle.cf_base.proofs.Common.{length-append, length-map, length-drop, length-take-le, get_or-take, get_or-drop, drop-append-le, take-append-le, drop_at, drop_more, take_all, sum_by-cons, sum_by_more, slice_get-get_or, slice_get_past}
 use Rattle.cf_debt.specs.declared.rows.BondRow.{BondRow}
 use Rattle.cf_debt.specs.declared.rows.Payment.{Payment}
 use Rattle.cf_debt.specs.Rows.{IsBond, IsSmallDue, schedule, view_bond, view_payment, view_payments}
-use Rattle.cf_model.specs.Bonds.{Bond, Due, dues, dues_from, next_due}
-use Rattle.cf_base.specs.Limits.{most_cents}
+use Rattle.cf_model.specs.Common.{Bond, Due, dues, dues_from, next_due}
+use Rattle.cf_base.specs.Common.{most_cents}
 use Rattle.cf_register_parts.proofs.Lists.{map-push}
 
 pub length_dues : (every from owed : ℕ) (principals : List ℕ) → length (dues_from every from owed principals) ≡ length principals

@@ -1,19 +1,10 @@
 -- What the definitions' step makes of debt, by the kind of the act.
 use Rattle.std.proofs.Common.{◌≡◌, ◌⊎◌, List, [], ◌++◌, map, ap, ◌∙◌, arith}
-use Rattle.std.proofs.lemmas.List.{append-nil, map-id}
-use Rattle.cf_calls.specs.declared.acts.Act.{Act}
+use Rattle.cf_base.proofs.Common.{append-nil, map-id}
+use Rattle.cf_model.specs.Common.{Act, BondIssue, DebtPayment, LeaveAct, NewLease, Period, Entry, Bond, bond_step, bonds_by, leave_by, closed_after, registers_step}
 use Rattle.cf_calls.specs.declared.acts.Act.TheVariants as act
-use Rattle.cf_calls.specs.declared.acts.BondIssue.{BondIssue}
-use Rattle.cf_calls.specs.declared.acts.DebtPayment.{DebtPayment}
-use Rattle.cf_calls.specs.declared.acts.LeaveAct.{LeaveAct}
-use Rattle.cf_calls.specs.declared.acts.NewLease.{NewLease}
-use Rattle.cf_calls.specs.declared.acts.Period.{Period}
-use Rattle.cf_calls.specs.declared.entry.Entry.{Entry}
-use Rattle.cf_chart.specs.Plan.{Plan}
+use Rattle.cf_chart.specs.Common.{Plan}
 use Rattle.cf_debt.specs.Register.{Debts, debts_of, registers_with}
-use Rattle.cf_model.specs.Bonds.{Bond, bond_step, bonds_by}
-use Rattle.cf_model.specs.Leave.{leave_by}
-use Rattle.cf_model.specs.Registers.{closed_after, registers_step}
 use Rattle.cf_register_parts.proofs.Acts.{Is}
 
 -- debt after an entry

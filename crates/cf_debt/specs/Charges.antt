@@ -1,7 +1,7 @@
 -- What a month charges of a bond's payments, of which at most two earn in a month.
 use Rattle.std.specs.Prelude.{ℕ, ◌+◌, ◌-◌, false, if◌then◌else◌, ◌==◌, List, [], ◌∷◌}
 use Rattle.cf_debt.specs.declared.rows.RowTerms.{RowTerms}
-use Rattle.cf_model.specs.Bonds.{Bond, Due, interest_for, days_by}
+use Rattle.cf_model.specs.Common.{Bond, Due, interest_for, days_by}
 
 -- a bond of these terms
 abbrev pub bond_of : RowTerms → Bond

@@ -1,23 +1,11 @@
 -- What contracts see of the register.
 use Rattle.std.specs.Prelude.{◌≡◌, ℕ, ◌+◌, ◌<◌, ◌≤◌, true, List, length, Option, Some, None, is_some}
-use Rattle.cf_base.specs.declared.calendar.Day.{Day}
-use Rattle.cf_calls.specs.declared.acts.Act.{Act}
+use Rattle.cf_model.specs.Common.{Day, Act, LeaveAct, Earn, Use, Mature, Drawn, Bond, Due, coupon, next_due, changes_of, LeaveChange, number_of_day, year_at, Refusal, due_day, unpaid, Registers, no_registers, bond_at, payment_number}
 use Rattle.cf_calls.specs.declared.acts.Act.TheVariants as act
-use Rattle.cf_calls.specs.declared.acts.LeaveAct.{LeaveAct}
-use Rattle.cf_calls.specs.declared.acts.LeaveAct.TheVariants.{Earn, Use, Mature}
-use Rattle.cf_calls.specs.declared.entry.Drawn.{Drawn}
-use Rattle.cf_chart.specs.Plan.{Plan}
+use Rattle.cf_chart.specs.Common.{Plan}
 use Rattle.cf_debt.specs.declared.debt.Due.{Due as DueNow}
-use Rattle.cf_model.specs.Bonds.{Bond, Due, coupon, next_due}
 use Rattle.cf_debt.specs.declared.sums.DebtChanges.{DebtChanges}
-use Rattle.cf_model.specs.Changes.{changes_of}
-use Rattle.cf_model.specs.Leave.{LeaveChange}
-use Rattle.cf_model.specs.Months.{number_of_day, year_at}
-use Rattle.cf_calls.specs.declared.refusal.Refusal.{Refusal}
 use Rattle.cf_calls.specs.declared.refusal.Refusal.TheVariants as refusal
-use Rattle.cf_model.specs.RegisterRules.{due_day, unpaid}
-use Rattle.cf_model.specs.Registers.{Registers, no_registers}
-use Rattle.cf_model.specs.Results.{bond_at, payment_number}
 use Rattle.cf_register_parts.specs.Pairs.{Pairs, has_value}
 
 -- what the registers have of debt

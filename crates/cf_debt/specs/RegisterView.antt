@@ -2,7 +2,7 @@
 use Rattle.std.specs.Prelude.{◌≡◌, ℕ, ◌-◌, ◌*◌, ◌/◌, ◌<◌, ◌≤◌, min, if◌then◌else◌, Bool, nat_lt, nat_le, List, length, map, get_or, sum, sum_by, pos, ◌-ℤ◌}
 use Rattle.std.specs.List.{filter}
 use Rattle.std.specs.Vec.{vec_capacity}
-use Rattle.cf_base.specs.Limits.{most_entries, most_cents}
+use Rattle.cf_base.specs.Common.{most_entries, most_cents}
 use Rattle.cf_debt.specs.declared.debt.Debt.TheInside.{Inside}
 use Rattle.cf_debt.specs.declared.rows.BondRow.{BondRow}
 use Rattle.cf_debt.specs.Register.{Register}
@@ -10,8 +10,7 @@ use Rattle.cf_debt.specs.Rows.{AreSmallDues, IsRow, view_bonds, view_leave, view
 use Rattle.cf_debt.specs.Rows.{lease_part}
 use Rattle.cf_register_parts.specs.Pairs.{Pairs, amount_at}
 use Rattle.cf_register_parts.specs.Years.{sum_of, sum_through}
-use Rattle.cf_model.specs.Bonds.{Bond, Due, coupon, earned, paid_dues}
-use Rattle.cf_model.specs.Leave.{LeaveChange, leave_left, leave_through}
+use Rattle.cf_model.specs.Common.{Bond, Due, coupon, earned, paid_dues, LeaveChange, leave_left, leave_through}
 
 abbrev pub register_of : Inside → Register
 register_of a = record {

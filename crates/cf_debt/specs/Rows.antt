@@ -1,12 +1,11 @@
 -- What the register's rows stand for.
 use Rattle.std.specs.Prelude.{◌≡◌, ℕ, Bool, ◌+◌, ◌*◌, ◌<◌, ◌≤◌, if◌then◌else◌, List, length, map, take, drop, get_or, pos, ◌-ℤ◌}
-use Rattle.cf_calls.specs.Form.{IsCount}
+use Rattle.cf_calls.specs.Common.{IsCount}
 use Rattle.cf_debt.specs.declared.rows.BondRow.{BondRow}
 use Rattle.cf_debt.specs.declared.rows.LeaveRow.{LeaveRow}
 use Rattle.cf_debt.specs.declared.rows.Payment.{Payment}
-use Rattle.cf_model.specs.Bonds.{Bond, Due, dues}
-use Rattle.cf_model.specs.Leave.{LeaveChange}
-use Rattle.cf_base.specs.Limits.{most_cents}
+use Rattle.cf_model.specs.Common.{Bond, Due, dues, LeaveChange}
+use Rattle.cf_base.specs.Common.{most_cents}
 
 abbrev pub view_payment : Payment → Due
 view_payment p = record { from = p.from; month = p.month; owed = p.owed; principal = p.principal }

@@ -1,19 +1,13 @@
 -- What the register's parts promise, and what they ask.
 use Rattle.std.specs.Prelude.{◌≡◌, ℕ, ◌+◌, ◌*◌, ◌<◌, ◌==◌, Bool, List, [], ◌∷◌, length, get_or, Some, option_map, IfSome, is_some, true}
 use Rattle.std.specs.List.{filter}
-use Rattle.cf_base.specs.declared.calendar.Day.{Day}
-use Rattle.cf_calls.specs.declared.acts.BondIssue.{BondIssue}
-use Rattle.cf_calls.specs.declared.acts.Terms.{Terms}
-use Rattle.cf_chart.specs.Plan.{Plan}
+use Rattle.cf_model.specs.Common.{Day, BondIssue, Terms, Bond, Due, next_due, year_of_day, number_of_day, bond_at}
+use Rattle.cf_chart.specs.Common.{Plan}
 use Rattle.cf_debt.specs.declared.debt.BondNow.{BondNow}
 use Rattle.cf_debt.specs.declared.rows.BondRow.{BondRow}
 use Rattle.cf_debt.specs.declared.rows.NewDebt.{NewDebt}
 use Rattle.cf_debt.specs.Register.{Debts}
 use Rattle.cf_debt.specs.Rows.{IsBond, IsSmallDue, view_bond, view_payment}
-use Rattle.cf_model.specs.Bonds.{Bond, Due, next_due}
-use Rattle.cf_model.specs.Calendar.{year_of_day}
-use Rattle.cf_model.specs.Months.{number_of_day}
-use Rattle.cf_model.specs.Results.{bond_at}
 
 -- a row tells its bond, and its next payment
 pub record ShowsBond (n : ℕ) (d : Debts) (x : BondNow) : Type 0 where

@@ -1,15 +1,11 @@
 //! How the register takes in an act.
 
 ghost use Rattle.std.specs.Prelude.{◌≡◌, ◌<◌, ◌+◌, ◌++◌, None, true, OnOk};
-ghost use Rattle.cf_base.specs.Calendar.{is_day};
-ghost use Rattle.cf_base.specs.Limits.{most_entries};
-ghost use Rattle.cf_calls.specs.Form.{IsActInForm, IsPeriodForm};
+ghost use Rattle.cf_base.specs.Common.{is_day, most_entries};
+ghost use Rattle.cf_calls.specs.Common.{IsActInForm, IsPeriodForm};
 ghost use Rattle.cf_calls.specs.declared.acts.Act.TheVariants as act;
 ghost use Rattle.cf_debt.specs.Register.{HasRoomFor, HasRoomForLeave, HasRoomToChange, HasRoomToIssue, IsEarlyIssue, IsNext, IsThere, debts_of, registers_with};
-ghost use Rattle.cf_model.specs.Leave.{leave_by};
-ghost use Rattle.cf_model.specs.RegisterRules.{debt_refusal, leave_refusal, order_refusal, unpaid_refusal};
-ghost use Rattle.cf_model.specs.Registers.{closed_after, registers_step};
-ghost use Rattle.cf_model.specs.Rules.{amount_refusal};
+ghost use Rattle.cf_model.specs.Common.{leave_by, debt_refusal, leave_refusal, order_refusal, unpaid_refusal, closed_after, registers_step, amount_refusal};
 
 use crate::debt::{Debt, leave_key};
 use crate::rows::LeaveRow;

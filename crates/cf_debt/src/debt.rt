@@ -1,17 +1,13 @@
 //! The register of bonds and of leave.
 
 ghost use Rattle.std.specs.Prelude.{◌≡◌, ◌<◌, ◌≤◌, List, length, sum_by, is_some, MatchOption, None};
-ghost use Rattle.cf_base.specs.Limits.{most_entries};
+ghost use Rattle.cf_base.specs.Common.{most_entries};
 ghost use Rattle.cf_debt.specs.Register.{debt_draws, debts_of, due_now};
 ghost use Rattle.cf_debt.specs.Register.{due_of as spec_due_of};
 ghost use Rattle.cf_debt.specs.RegisterView.{HasBonds, most_interest};
 ghost use Rattle.cf_debt.specs.Rows.{IsSmallDue, view_bond, view_bonds, view_payment, view_payments};
-ghost use Rattle.cf_model.specs.Leave.{leave_of};
+ghost use Rattle.cf_model.specs.Common.{leave_of, Due as Dues, interest_charge, due_day as spec_due_day, no_registers, bond_at, payment_number};
 ghost use Rattle.cf_debt.specs.Steps.{ShowsBond};
-ghost use Rattle.cf_model.specs.Bonds.{Due as Dues, interest_charge};
-ghost use Rattle.cf_model.specs.RegisterRules.{due_day as spec_due_day};
-ghost use Rattle.cf_model.specs.Registers.{no_registers};
-ghost use Rattle.cf_model.specs.Results.{bond_at, payment_number};
 
 use crate::interest::{bond_charge, coupon};
 use crate::rows::{BondRow, LeaveRow, Payment};

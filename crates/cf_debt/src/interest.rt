@@ -4,7 +4,7 @@ ghost use Rattle.std.specs.Prelude.{◌≡◌, ◌≤◌, ◌<◌, ◌+◌, ◌-
 ghost use Rattle.cf_debt.specs.Charges.{bond_of, running_charge};
 ghost use Rattle.cf_debt.specs.Rows.{AreSmallDues, IsBond, view_bond, view_payment, view_payments};
 ghost use Rattle.cf_model.specs.Bonds as spec;
-ghost use Rattle.cf_base.specs.Limits.{most_cents};
+ghost use Rattle.cf_base.specs.Common.{most_cents};
 
 use crate::rows::{BondRow, Payment, RowTerms};
 

@@ -5,8 +5,8 @@ ghost use Rattle.cf_debt.specs.Charges.{bond_of};
 ghost use Rattle.cf_debt.specs.DebtNow.{debt_shown, show_bond};
 ghost use Rattle.cf_debt.specs.Rows.{AreSmallDues, IsBond, view_bond, view_payments};
 ghost use Rattle.cf_model.specs.Bonds as spec;
-ghost use Rattle.cf_model.specs.DebtShown.{bond_shown};
-ghost use Rattle.cf_base.specs.Limits.{most_cents};
+ghost use Rattle.cf_model.specs.Common.{bond_shown};
+ghost use Rattle.cf_base.specs.Common.{most_cents};
 
 use crate::debt::{Debt, due_day};
 use crate::interest::{coupon, earned_by};

@@ -6,10 +6,8 @@ ghost use Rattle.cf_calls.specs.declared.acts.Period.TheVariants as period;
 ghost use Rattle.cf_debt.specs.Register.{registers_with, debt_due, debt_due_of, unpaid_of};
 ghost use Rattle.cf_debt.specs.RegisterView.{HasBonds};
 ghost use Rattle.cf_debt.specs.Rows.{AreSmallDues, IsBond, view_bond, view_bonds, view_payment, view_payments};
-ghost use Rattle.cf_model.specs.Bonds.{Due, next_due};
+ghost use Rattle.cf_model.specs.Common.{Due, next_due, debt_refusal, first_refusal};
 ghost use Rattle.cf_model.specs.RegisterRules as rules;
-ghost use Rattle.cf_model.specs.RegisterRules.{debt_refusal};
-ghost use Rattle.cf_model.specs.Rules.{first_refusal};
 
 use crate::debt::{Debt, due_day};
 use crate::rows::{BondRow, Payment};

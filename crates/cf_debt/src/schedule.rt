@@ -3,7 +3,7 @@
 ghost use Rattle.std.specs.Prelude.{◌≡◌, ◌≤◌, ◌<◌, ◌+◌, ◌*◌, ◌++◌, length, option_map, vec_len, IfSome};
 ghost use Rattle.std.specs.Vec.{vec_capacity};
 ghost use Rattle.cf_debt.specs.Rows.{AreSmallDues, IsBond, IsSmallDue, view_bond, view_payment, view_payments};
-ghost use Rattle.cf_model.specs.Bonds.{dues_from, next_due};
+ghost use Rattle.cf_model.specs.Common.{dues_from, next_due};
 
 use crate::rows::{BondRow, Payment};
 

@@ -2,9 +2,8 @@
 
 ghost use Rattle.std.specs.Prelude.{◌≡◌, ◌≤◌, ◌<◌, ◌+◌, ◌∷◌, ◌++◌, ℕ, [], length, None, true, false, map, slice_index_or, slice_set};
 ghost use Rattle.std.specs.Vec.{vec_capacity};
-ghost use Rattle.cf_base.specs.Calendar.{is_day};
-ghost use Rattle.cf_base.specs.Limits.{last_fiscal_year, most_entries, most_cents};
-ghost use Rattle.cf_calls.specs.Form.{IsCallMonth, IsTermsForm};
+ghost use Rattle.cf_base.specs.Common.{is_day, last_fiscal_year, most_entries, most_cents};
+ghost use Rattle.cf_calls.specs.Common.{IsCallMonth, IsTermsForm};
 ghost use Rattle.cf_calls.specs.declared.acts.Act.TheVariants as act;
 ghost use Rattle.cf_debt.specs.Register.{HasRoomToIssue, HasRoomForLeave, unpaid_of};
 ghost use Rattle.cf_debt.specs.RegisterView.{live_of};
@@ -12,12 +11,7 @@ ghost use Rattle.cf_debt.specs.Rows.{view_leave};
 ghost use Rattle.cf_debt.specs.Rows.{lease_part as spec_lease_part};
 ghost use Rattle.cf_debt.specs.Steps.{AreNumbered, CanPay, bond_row, issue_of, paid_row};
 ghost use Rattle.cf_debt.specs.declared.rows.BondRow.{BondRow as Row};
-ghost use Rattle.cf_model.specs.Bonds.{bond_step, bonds_by};
-ghost use Rattle.cf_model.specs.Bonds.{new_bond as spec_new_bond};
-ghost use Rattle.cf_model.specs.Leave.{leave_of};
-ghost use Rattle.cf_model.specs.Months.{number_of_day};
-ghost use Rattle.cf_model.specs.RegisterRules.{month_at};
-ghost use Rattle.cf_model.specs.Rules.{first_refusal};
+ghost use Rattle.cf_model.specs.Common.{bond_step, bonds_by, new_bond as spec_new_bond, leave_of, number_of_day, month_at, first_refusal};
 
 use crate::debt::{Debt, interest_of, leave_key};
 use crate::interest::coupon;

@@ -1,7 +1,7 @@
 //! Sums by fiscal year, for the reconciliation (GASB Statement 34).
 
 ghost use Rattle.std.specs.Prelude.{◌≡◌, ◌≤◌, ◌<◌, ◌^◌, unsigned_abs};
-ghost use Rattle.cf_base.specs.Limits.{last_fiscal_year};
+ghost use Rattle.cf_base.specs.Common.{last_fiscal_year};
 ghost use Rattle.cf_debt.specs.Register.{registers_with, debt_changes};
 ghost use Rattle.cf_model.specs.Items as items;
 

@@ -1,7 +1,6 @@
 -- One call more in the record of a disk in memory.
 use Rattle.std.proofs.Common.{◌≡◌, ◌⊎◌, inl, inr, ℕ, ◌+◌, ◌<◌, ◌≤◌, List, [], ◌∷◌, ◌++◌, length, sym, ◌∙◌, ap, subst, arith, length-append, Bool, true, false, reverse}
-use Rattle.std.proofs.lemmas.List.{take_all, take-append-le, reverse-append}
-use Rattle.std.proofs.lemmas.Bool.{cases_lt}
+use Rattle.cf_base.proofs.Common.{take_all, take-append-le, reverse-append, cases_lt}
 use Rattle.cf_disk.specs.Images.{AddsNone}
 use Rattle.cf_disk.specs.Memory.{IsImageAfter, IsImageOf, WasImageOf}
 use Rattle.cf_disk.specs.MemoryLaws.{content_is_image}

@@ -1,8 +1,6 @@
 -- Bytes that are filled up and written over.
 use Rattle.std.proofs.Common.{◌≡◌, inl, inr, ℕ, ◌+◌, ◌-◌, ◌<◌, ◌≤◌, max, List, ◌++◌, length, take, drop, replicate, sym, ◌∙◌, ap, arith, length-append}
-use Rattle.std.proofs.lemmas.Bool.{cases_lt}
-use Rattle.std.proofs.lemmas.List.{take_all, drop_all, take-append-le, append-nil, length-replicate, take-replicate}
-use Rattle.std.proofs.Math.Seq.{take-append-add}
+use Rattle.cf_base.proofs.Common.{cases_lt, take_all, drop_all, take-append-le, append-nil, length-replicate, take-replicate, take-append-add}
 use Rattle.cf_disk.specs.Images.{padded, written}
 use Rattle.cf_disk.specs.MemoryLaws.{length-padded, length-written}
 

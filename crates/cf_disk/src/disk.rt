@@ -1,7 +1,7 @@
 //! A disk as the layers above see it: what a read gives, and what a crash may leave.
 
 ghost use Rattle.std.specs.Prelude.{◌≡◌, ◌+◌, ◌≤◌, ℕ, List, Bool, IsTrue, IfOk, OnOk, length, take, drop};
-ghost use Rattle.cf_base.specs.Causes.{HasCause};
+ghost use Rattle.cf_base.specs.Common.{HasCause};
 ghost use Rattle.cf_disk.specs.Images.{written, resized, Torn, HalfCut, Follows, AddsNone, IsOnlyImage};
 ghost use Rattle.cf_disk.specs.Moments.{Advances};
 

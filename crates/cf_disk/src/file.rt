@@ -1,7 +1,7 @@
 //! The disk over a real file. It is the trusted edge: nothing is proved of what a real file holds.
 
 ghost use Rattle.std.specs.Prelude.{◌≡◌, false, [], ⊤, OnOk};
-ghost use Rattle.cf_base.specs.Causes.{HasCause};
+ghost use Rattle.cf_base.specs.Common.{HasCause};
 
 use crate::disk::Disk;
 use cf_base::Failed;

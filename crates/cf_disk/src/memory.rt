@@ -1,7 +1,7 @@
 //! A disk in memory, with a record of its calls.
 
 ghost use Rattle.std.specs.Prelude.{◌≡◌, ◌+◌, ◌<◌, ◌≤◌, ◌∷◌, ◌++◌, [], length, take, drop, reverse, vec_len, vec_capacity, IfOk, OnOk, OnErr};
-ghost use Rattle.cf_base.specs.Causes.{Rose, HasCause};
+ghost use Rattle.cf_base.specs.Common.{Rose, HasCause};
 ghost use Rattle.cf_disk.specs.Images.{written, resized};
 ghost use Rattle.cf_disk.specs.Memory.{content_after, AddsWrite, IsStill};
 ghost use Rattle.cf_disk.specs.declared.memory.DiskCall.TheVariants.{Cut};

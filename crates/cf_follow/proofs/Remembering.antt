@@ -1,10 +1,9 @@
 -- An office in memory keeps its promises.
-use Rattle.std.proofs.Common.{◌≡◌, ◌<◌, List, [], ◌∷◌, ◌++◌, length, length-append, Result, Ok, Err, sym, subst, arith}
-use Rattle.std.specs.Prelude.{OnOk, OnErr}
-use Rattle.std.proofs.lemmas.List.Elements.{All-push}
-use Rattle.cf_base.specs.Limits.{most_entries}
+use Rattle.std.proofs.Common.{◌≡◌, ◌<◌, List, [], ◌∷◌, ◌++◌, length, length-append, Result, Ok, Err, sym, subst, arith, OnOk, OnErr}
+use Rattle.cf_base.proofs.Common.{All-push}
+use Rattle.cf_base.specs.Common.{most_entries}
 use Rattle.cf_calls.specs.declared.entry.Entry.{Entry}
-use Rattle.cf_calls.specs.Form.{IsEntryInForm}
+use Rattle.cf_calls.specs.Common.{IsEntryInForm}
 use Rattle.cf_follow.specs.Memory.{IsMemory}
 
 pub memory_after : {T E : Type 0} (r : Result T E) (old new : List Entry) (e : Entry) → IsMemory old → IsEntryInForm e → length old < most_entries → OnOk r (new ≡ old ++ e ∷ []) → OnErr r (new ≡ old) → IsMemory new

@@ -1,11 +1,6 @@
 -- A shipped stream of a history that continues the office's own is followed without a difference.
-use Rattle.std.proofs.Common.{◌≡◌, ℕ, zero, suc, ◌+◌, ◌-◌, ◌≤◌, List, [], ◌∷◌, ◌++◌, length, take, drop, refl, sym, ◌∙◌, ap, subst, append-nil, ◌≢◌, arith, append_assoc, Option, Some, None, ◌^◌, ◌<◌, lit<, length-append}
-use Rattle.std.specs.Prelude.{All, slice_get}
-use Rattle.std.specs.Io.KnownBytes.{Consumes, IsAtEnd}
-use Rattle.std.proofs.lemmas.List.{take_all, length-drop, drop-drop}
-use Rattle.std.proofs.lemmas.List.Elements.{All-nil, All-cons, All-tail, All-head}
-use Rattle.std.specs.Int.{w32, w64, to_be_bytes}
-use Rattle.std.proofs.lemmas.Bool.Decides.{nat_tests}
+use Rattle.std.proofs.Common.{◌≡◌, ℕ, zero, suc, ◌+◌, ◌-◌, ◌≤◌, List, [], ◌∷◌, ◌++◌, length, take, drop, refl, sym, ◌∙◌, ap, subst, append-nil, ◌≢◌, arith, append_assoc, Option, Some, None, ◌^◌, ◌<◌, lit<, length-append, All, slice_get, w32, w64}
+use Rattle.cf_base.proofs.Common.{Consumes, IsAtEnd, take_all, length-drop, drop-drop, All-nil, All-cons, All-tail, All-head, to_be_bytes, nat_tests}
 use Rattle.cf_codec.specs.Entries.{payload, read_of}
 use Rattle.cf_codec.proofs.EntriesExact.{is_of_two, reads_back}
 use Rattle.cf_follow.specs.declared.end.FollowEnd.TheVariants.{StreamFault}

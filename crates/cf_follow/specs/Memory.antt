@@ -1,8 +1,8 @@
 -- An office in memory that follows.
 use Rattle.std.specs.Prelude.{◌≤◌, ℕ, ◌==◌, nat_lt, if◌then◌else◌, List, All, length, Option, Some, None}
-use Rattle.cf_base.specs.Limits.{most_entries}
+use Rattle.cf_base.specs.Common.{most_entries}
 use Rattle.cf_calls.specs.declared.entry.Entry.{Entry}
-use Rattle.cf_calls.specs.Form.{IsEntryInForm}
+use Rattle.cf_calls.specs.Common.{IsEntryInForm}
 
 pub record MemoryState : Type 0 where
   pub entries : List Entry

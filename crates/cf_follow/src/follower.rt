@@ -1,9 +1,9 @@
 //! What follows a stream.
 
 ghost use Rattle.std.specs.Prelude.{◌≡◌, ◌≤◌, All, ℕ, List, Option, None, length};
-ghost use Rattle.cf_base.specs.Limits.{most_entries};
+ghost use Rattle.cf_base.specs.Common.{most_entries};
 ghost use Rattle.cf_calls.specs.declared.entry.Entry.{Entry as EntryOf};
-ghost use Rattle.cf_calls.specs.Form.{IsEntryInForm};
+ghost use Rattle.cf_calls.specs.Common.{IsEntryInForm};
 ghost use Rattle.cf_follow.specs.Admitting.{Admits, office};
 
 use cf_calls::Entry;

@@ -1,8 +1,7 @@
 //! Following a stream.
 
 ghost use Rattle.std.specs.Prelude.{◌≡◌, ◌≢◌, ◌≤◌, ◌+◌, ◌<◌, ◌^◌, ℕ, List, Option, Some, MatchOption, IfErr, IfOk, OnOk, length, []};
-ghost use Rattle.cf_base.specs.Causes.{Rose};
-ghost use Rattle.cf_base.specs.Limits.{most_entries};
+ghost use Rattle.cf_base.specs.Common.{Rose, most_entries};
 ghost use Rattle.cf_calls.specs.declared.entry.Entry.{Entry as EntryOf};
 ghost use Rattle.cf_journal_stream.specs.Readings.{ReadsHead};
 ghost use Rattle.cf_journal_stream.specs.Streams.{most_chart};

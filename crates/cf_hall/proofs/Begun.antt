@@ -1,15 +1,12 @@
 -- A hall that is opened: its own pass has the first places, and every stripe has seen the list.
-use Rattle.std.proofs.Common.{◌≡◌, ◌≢◌, ℕ, ◌+◌, ◌<◌, ◌≤◌, ◌%◌, true, List, [], ◌∷◌, ◌++◌, Option, None, sym, ap, subst, ◌∙◌, arith}
-use Rattle.std.specs.Prelude.{◌==◌, if◌then◌else◌}
-use Rattle.std.proofs.lemmas.Bool.Decides.{nat_tests}
-use Rattle.std.specs.List.{count_by}
+use Rattle.std.proofs.Common.{◌≡◌, ◌≢◌, ℕ, ◌+◌, ◌<◌, ◌≤◌, ◌%◌, true, List, [], ◌∷◌, ◌++◌, Option, None, sym, ap, subst, ◌∙◌, arith, ◌==◌, if◌then◌else◌, count_by}
+use Rattle.cf_base.proofs.Common.{nat_tests}
 use native.Mathlib.Decide.{ℕ_discrete}
 use Rattle.atomic_table.specs.Seated.{TableId}
 use Rattle.cf_budget.specs.Tables.{Tables, has_stripe, has_line, row_at}
 use Rattle.cf_budget.proofs.Rows.{plus_zero}
-use Rattle.cf_calls.specs.declared.entry.Entry.{Entry}
-use Rattle.cf_chart.specs.Plan.{Plan}
-use Rattle.cf_model.specs.Stripes.{entry_touches}
+use Rattle.cf_model.specs.Common.{Entry, entry_touches}
+use Rattle.cf_chart.specs.Common.{Plan}
 use Rattle.cf_hall_names.specs.Closing.{HasFirst}
 use Rattle.cf_hall_names.specs.Lists.{entries_of, tie_at}
 use Rattle.cf_registers.specs.Moved.{AreTablesOf, row_of}

@@ -1,6 +1,6 @@
 -- Passes are ended one after another.
 use Rattle.std.proofs.Common.{◌≡◌, ℕ, zero, suc, ◌+◌, ◌≤◌, All, List, [], ◌∷◌, ◌++◌, length, map, refl, sym, ap, subst, ◌∙◌, arith, append_assoc, length-append}
-use Rattle.std.proofs.lemmas.List.Elements.{All-cons, All-head, All-tail, All-map}
+use Rattle.cf_base.proofs.Common.{All-cons, All-head, All-tail, All-map}
 use Rattle.cf_turns.specs.Lists.{TaggedEntry, count_of, places_of}
 use Rattle.cf_turns.specs.States.{PassState, ReceiptsState}
 use Rattle.cf_turns.proofs.Numbers.{once_more}

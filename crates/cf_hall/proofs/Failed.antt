@@ -1,10 +1,8 @@
 -- Where passes of different numbers have as many calls that failed as there are, each such call is
 -- one of theirs.
-use Rattle.std.proofs.Common.{◌≡◌, ⊎_elim, ℕ, ◌+◌, ◌<◌, ◌≤◌, All, Bool, true, false, eq-eqb, if◌then◌else◌, ◌==◌, List, [], ◌∷◌, ◌++◌, length, map, refl, sym, ap, subst, ◌∙◌, arith, length-append}
-use Rattle.std.specs.List.{Contains}
-use Rattle.std.proofs.lemmas.Bool.Decides.{nat_tests}
-use Rattle.std.proofs.lemmas.List.Elements.{All-cons, All-head, All-tail, Contains-append_cases, Contains-append_left, Contains-append_right, Contains-push, Contains-push_cases}
-use Rattle.cf_calls.specs.declared.call.Call.{Call}
+use Rattle.std.proofs.Common.{◌≡◌, ⊎_elim, ℕ, ◌+◌, ◌<◌, ◌≤◌, All, Bool, true, false, eq-eqb, if◌then◌else◌, ◌==◌, List, [], ◌∷◌, ◌++◌, length, map, refl, sym, ap, subst, ◌∙◌, arith, length-append, Contains}
+use Rattle.cf_base.proofs.Common.{nat_tests, All-cons, All-head, All-tail, Contains-append_cases, Contains-append_left, Contains-append_right, Contains-push, Contains-push_cases}
+use Rattle.cf_model.specs.Common.{Call}
 use Rattle.cf_hall_names.specs.Closing.{failed_calls}
 use Rattle.cf_hall_names.specs.Lists.{calls_in}
 use Rattle.cf_turns.specs.Lists.{TaggedCall, calls_of, count_of}

@@ -1,24 +1,14 @@
 -- What a crash leaves while a hall is open goes on recovering to fronts of its history.
-use Rattle.std.proofs.Common.{◌≡◌, ◌⊎◌, ℕ, ◌≤◌, List, [], ◌∷◌, ◌++◌, Option, Some, None, IfSome, length, take, drop, refl, sym, ap, subst, ◌∙◌, inl, inr, ⊎_elim, append_assoc, length-append, arith}
-use Rattle.std.specs.List.{Contains}
-use Rattle.std.proofs.lemmas.List.{take-append-drop, length-take}
-use Rattle.std.proofs.lemmas.List.Elements.{Contains-append_left, Contains-push}
-use Rattle.std.proofs.Math.Seq.{take-append_seam, take-length}
+use Rattle.std.proofs.Common.{◌≡◌, ◌⊎◌, ℕ, ◌≤◌, List, [], ◌∷◌, ◌++◌, Option, Some, None, IfSome, length, take, drop, refl, sym, ap, subst, ◌∙◌, inl, inr, ⊎_elim, append_assoc, length-append, arith, Contains}
+use Rattle.cf_base.proofs.Common.{take-append-drop, length-take, Contains-append_left, Contains-push, take-append_seam, take-length}
 use Rattle.cf_journal_book.specs.Books.{IsInHand, RecoversNear}
 use Rattle.cf_journal_book.specs.DurableState.{DurableState}
 use Rattle.cf_journal_book.specs.Settling.{Settles, WouldAdd, doubt_by, next_doubt}
-use Rattle.cf_calls.specs.declared.call.Call.{Call}
+use Rattle.cf_model.specs.Common.{Call, Change, Entry, Posted, Reply, Verdict, Accept, Repeat, Refuse, next_by, next_of, verdict_of}
 use Rattle.cf_calls.specs.declared.call.Call.TheVariants as call
-use Rattle.cf_calls.specs.declared.call.Change.{Change}
-use Rattle.cf_calls.specs.declared.entry.Entry.{Entry}
-use Rattle.cf_calls.specs.declared.reply.Posted.{Posted}
 use Rattle.cf_calls.specs.declared.reply.Posted.TheVariants as posted
-use Rattle.cf_calls.specs.declared.reply.Reply.{Reply}
-use Rattle.cf_calls.specs.declared.reply.Verdict.{Verdict}
-use Rattle.cf_calls.specs.declared.reply.Verdict.TheVariants.{Accept, Repeat, Refuse}
-use Rattle.cf_chart.specs.Plan.{Plan}
+use Rattle.cf_chart.specs.Common.{Plan}
 use Rattle.cf_disk.specs.Moments.{AtEachMoment}
-use Rattle.cf_model.specs.Step.{next_by, next_of, verdict_of}
 use Rattle.cf_hall_names.specs.Lists.{calls_in}
 use Rattle.cf_turns.specs.Lists.{TaggedCall}
 use Rattle.cf_hall.specs.Fronts.{IsKeptSince, IsUnacknowledged, KeptSince, RecoversToFrontAnd}

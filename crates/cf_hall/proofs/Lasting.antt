@@ -1,16 +1,13 @@
 -- The entry that stands last.
 use Rattle.std.proofs.Common.{◌≡◌, ◌-◌, ◌∷◌, ◌++◌, [], List, length, get_or, arith, length-append, sym, ap, subst, ◌∙◌}
-use Rattle.std.proofs.lemmas.List.{get_or_push}
+use Rattle.cf_base.proofs.Common.{get_or_push}
 use Rattle.cf_journal_book.specs.Archives.{Grows, IsEntryOf, IsOwed, LendsCall}
 use Rattle.cf_journal_book.specs.declared.archive.Settled.TheVariants.{Added}
 use Rattle.cf_budget.specs.Tables.{Tables, has_line, SameStripes}
 use Rattle.cf_budget.specs.declared.changes.LineChange.{LineChange}
-use Rattle.cf_calls.specs.declared.call.Call.{Call}
+use Rattle.cf_model.specs.Common.{Call, Act, Entry, Reply}
 use Rattle.cf_calls.specs.declared.call.Call.TheVariants as call
-use Rattle.cf_calls.specs.declared.acts.Act.{Act}
-use Rattle.cf_calls.specs.declared.entry.Entry.{Entry}
-use Rattle.cf_calls.specs.declared.reply.Reply.{Reply}
-use Rattle.cf_chart.specs.Plan.{Plan}
+use Rattle.cf_chart.specs.Common.{Plan}
 use Rattle.cf_hall_names.specs.Lists.{entries_of}
 use Rattle.cf_registers.specs.Lines.{LendsTouched}
 use Rattle.cf_turns.specs.Lists.{TaggedEntry}

@@ -1,7 +1,6 @@
 -- The longer of two lists, and the last of one.
-use Rattle.std.proofs.Common.{◌≡◌, ◌≤◌, Bool, true, false, List, length, refl, arith}
-use Rattle.std.proofs.lemmas.Bool.Decides.{nat_tests}
-use Rattle.std.specs.Prelude.{ltb}
+use Rattle.std.proofs.Common.{◌≡◌, ◌≤◌, Bool, true, false, List, length, refl, arith, ltb}
+use Rattle.cf_base.proofs.Common.{nat_tests}
 use Rattle.cf_turns.specs.Lists.{longer}
 
 -- the second where the first is no longer

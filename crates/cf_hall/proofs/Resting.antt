@@ -1,11 +1,10 @@
 -- Stripes at rest, and stripes that were taken and owe nothing.
-use Rattle.std.proofs.Common.{◌≡◌, ℕ, ◌<◌, true, false, List, [], Option, Some, None, is_some, refl, sym, ap, subst, ◌∙◌}
-use Rattle.std.specs.Prelude.{unwrap_or}
+use Rattle.std.proofs.Common.{◌≡◌, ℕ, ◌<◌, true, false, List, [], Option, Some, None, is_some, refl, sym, ap, subst, ◌∙◌, unwrap_or}
 use Rattle.atomic_table.specs.Seated.{TableId}
 use Rattle.cf_budget.specs.Tables.{Table, Tables, table_of, row_at, row_in, zero_row, value_on}
 use Rattle.cf_budget.proofs.Rows.{plus_zero}
-use Rattle.cf_chart.specs.Plan.{Plan}
-use Rattle.cf_model.specs.Stripes.{stripe_of}
+use Rattle.cf_chart.specs.Common.{Plan}
+use Rattle.cf_model.specs.Common.{stripe_of}
 use Rattle.cf_turns.specs.States.{PassState}
 use Rattle.cf_hall_names.specs.Lists.{tie_at}
 use Rattle.cf_hall.specs.Standing.{IsStripe}

@@ -4,7 +4,7 @@ use denote.Param.{number}
 use denote.Param.Send.{IsSend, IsSync, sendable, struct_send, struct_sync, recorded_send, recorded_sync, view_send, view_sync}
 use denote.Struct.Declared.{shape}
 use Rattle.std.proofs.Crossing as heap
-use Rattle.std.proofs.Crossing.{crosses}
+use Rattle.cf_base.proofs.Common.{crosses}
 use Rattle.std.proofs.MapsCrossing as maps
 use Rattle.std.proofs.sync.ledger.Share.TheSendSync as share
 use Rattle.std.proofs.sync.ledger.Book.TheSendSync as ledger

@@ -1,20 +1,15 @@
 -- Tables that were taken go on standing for the list.
-use Rattle.std.proofs.Common.{◌≡◌, ℕ, ◌+◌, ◌<◌, ◌%◌, Bool, true, false, if◌then◌else◌, List, [], ◌∷◌, ◌++◌, Option, Some, None, is_some, refl, sym, ap, subst, ◌∙◌, arith, append-nil, append_assoc}
-use Rattle.std.proofs.lemmas.List.Sums.{sum_by-cons}
-use Rattle.std.specs.List.{count_by}
+use Rattle.std.proofs.Common.{◌≡◌, ℕ, ◌+◌, ◌<◌, ◌%◌, Bool, true, false, if◌then◌else◌, List, [], ◌∷◌, ◌++◌, Option, Some, None, is_some, refl, sym, ap, subst, ◌∙◌, arith, append-nil, append_assoc, count_by}
+use Rattle.cf_base.proofs.Common.{sum_by-cons}
 use Rattle.atomic_table.specs.Seated.{TableId}
-use Rattle.cf_calls.specs.declared.acts.Act.{Act}
-use Rattle.cf_calls.specs.declared.entry.Entry.{Entry}
-use Rattle.cf_calls.specs.declared.shown.LineNumbers.{LineNumbers}
-use Rattle.cf_chart.specs.Plan.{Plan}
+use Rattle.cf_model.specs.Common.{Act, Entry, LineNumbers, IsLegal, IsLegalAfter, stripe_of, touches, entry_touches}
+use Rattle.cf_chart.specs.Common.{Plan}
 use Rattle.cf_budget.specs.declared.changes.LineChange.{LineChange}
 use Rattle.cf_budget.specs.declared.row.Row.{Row}
 use Rattle.cf_budget.specs.Changes.{Applies}
 use Rattle.cf_budget.specs.Tables.{Table, Tables, table_of, has_stripe, has_line, row_at, row_plus, zero_row, SameRows, SameStripes}
 use Rattle.cf_budget.proofs.Rows.{plus_zero}
-use Rattle.cf_model.specs.Step.{IsLegal, IsLegalAfter}
-use Rattle.cf_model.specs.Stripes.{stripe_of, touches, entry_touches}
-use Rattle.cf_model.proofs.Touched.{numbers_stay_after}
+use Rattle.cf_model.proofs.Common.{numbers_stay_after}
 use Rattle.cf_registers.specs.Lines.{LendsTouched}
 use Rattle.cf_registers.specs.Moved.{AreTablesOf, row_of}
 use Rattle.cf_office.proofs.Tied.{row_push}

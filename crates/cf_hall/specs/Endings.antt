@@ -2,9 +2,8 @@
 use Rattle.std.specs.Prelude.{◌≡◌, ◌⊎◌, ℕ, Bool, IsTrue, IfSome, All, List, [], ◌∷◌, ◌++◌, length, map, Option, Some, None}
 use mathlib.Core.List.{IsPrefix}
 use Rattle.cf_journal_book.specs.Books.{RecoversNear}
-use Rattle.cf_calls.specs.declared.entry.Entry.{Entry}
-use Rattle.cf_chart.specs.Plan.{Plan}
-use Rattle.cf_model.specs.State.{IsSoundState}
+use Rattle.cf_model.specs.Common.{Entry, IsSoundState}
+use Rattle.cf_chart.specs.Common.{Plan}
 use Rattle.cf_hall_names.specs.Closing.{Closes, RoseBy, failed_calls, faults_in, receipts_of}
 use Rattle.cf_hall_names.specs.Lists.{entries_of}
 use Rattle.cf_turns.specs.Lists.{TaggedEntry}

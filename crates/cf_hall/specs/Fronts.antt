@@ -1,9 +1,8 @@
 -- What a crash leaves while a hall is open.
 use Rattle.std.specs.Prelude.{◌≡◌, ◌⊎◌, ℕ, ◌≤◌, List, Option, Some, take}
 use Rattle.cf_journal_book.specs.Books.{RecoversNear}
-use Rattle.cf_calls.specs.declared.call.Call.{Call}
-use Rattle.cf_calls.specs.declared.entry.Entry.{Entry}
-use Rattle.cf_chart.specs.Plan.{Plan}
+use Rattle.cf_model.specs.Common.{Call, Entry}
+use Rattle.cf_chart.specs.Common.{Plan}
 use Rattle.cf_hall_names.specs.Telling.{IsOfCall}
 
 -- An entry that no reply acknowledged: it was in doubt at opening, or is that of one of these

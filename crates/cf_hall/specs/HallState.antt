@@ -4,8 +4,8 @@ use Rattle.atomic_table.specs.Seated.{TableId}
 use Rattle.cf_journal_book.specs.DurableState.{DurableBook}
 use Rattle.cf_budget.specs.Tables.{Tables, has_line}
 use Rattle.cf_budget.specs.declared.changes.LineChange.{LineChange}
-use Rattle.cf_calls.specs.declared.entry.Entry.{Entry}
-use Rattle.cf_chart.specs.Plan.{Plan}
+use Rattle.cf_model.specs.Common.{Entry}
+use Rattle.cf_chart.specs.Common.{Plan}
 use Rattle.cf_hall_names.specs.Closing.{RoseBy}
 use Rattle.cf_hall_names.specs.Lists.{calls_in, entries_of}
 use Rattle.cf_hall_names.specs.Shares.{TotalsState}

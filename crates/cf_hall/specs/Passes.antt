@@ -1,8 +1,7 @@
 -- A pass of a hall, and what it sees after an answer.
 use Rattle.std.specs.Prelude.{◌≡◌, ℕ, ◌+◌, ◌^◌, ◌-◌, min, List, [], ◌∷◌, ◌++◌, length}
 use Rattle.atomic_table.specs.Seated.{TableId}
-use Rattle.cf_calls.specs.declared.call.Call.{Call}
-use Rattle.cf_calls.specs.declared.reply.Posted.{Posted}
+use Rattle.cf_model.specs.Common.{Call, Posted}
 use Rattle.cf_calls.specs.declared.reply.Posted.TheVariants as posted
 use Rattle.cf_hall_names.specs.Shares.{SharesState}
 use Rattle.cf_turns.specs.Lists.{TaggedCall, TaggedEntry, longer}

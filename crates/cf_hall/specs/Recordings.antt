@@ -2,8 +2,8 @@
 use Rattle.std.specs.Prelude.{◌≡◌, ℕ, ◌+◌, ◌≤◌, List, [], ◌∷◌, ◌++◌, length}
 use mathlib.Core.List.{IsPrefix}
 use Rattle.atomic_table.specs.Seated.{TableId}
-use Rattle.cf_chart.specs.Plan.{Plan}
-use Rattle.cf_model.specs.Step.{IsLegal}
+use Rattle.cf_chart.specs.Common.{Plan}
+use Rattle.cf_model.specs.Common.{IsLegal}
 use Rattle.cf_hall_names.specs.Following.{AreCounts}
 use Rattle.cf_hall_names.specs.Lists.{entries_of}
 use Rattle.cf_turns.specs.Lists.{TaggedEntry, longer}

@@ -2,8 +2,8 @@
 use Rattle.std.specs.Prelude.{◌≡◌, ℕ, if◌then◌else◌, ◌==◌, Option, Some, None}
 use Rattle.atomic_table.specs.Seated.{TableId}
 use Rattle.cf_budget.specs.Tables.{Table, Tables, table_of, row_in}
-use Rattle.cf_chart.specs.Plan.{Plan}
-use Rattle.cf_model.specs.Stripes.{stripe_of}
+use Rattle.cf_chart.specs.Common.{Plan}
+use Rattle.cf_model.specs.Common.{stripe_of}
 use Rattle.cf_hall_names.specs.Lists.{entries_of}
 use Rattle.cf_registers.specs.Moved.{row_of}
 use Rattle.cf_turns.specs.States.{PassState}

@@ -4,9 +4,8 @@ use Rattle.atomic_table.specs.Seated.{TableId}
 use Rattle.cf_budget.specs.declared.changes.LineChange.{LineChange}
 use Rattle.cf_budget.specs.Changes.{CanApply, changes_at}
 use Rattle.cf_budget.specs.Tables.{Tables, table_of, has_stripe, row_at, row_plus}
-use Rattle.cf_calls.specs.declared.entry.Entry.{Entry}
-use Rattle.cf_chart.specs.Plan.{Plan}
-use Rattle.cf_model.specs.Stripes.{stripe_of}
+use Rattle.cf_model.specs.Common.{Entry, stripe_of}
+use Rattle.cf_chart.specs.Common.{Plan}
 use Rattle.cf_hall_names.specs.Lists.{entries_of, tie_at}
 use Rattle.cf_registers.specs.Moved.{row_of}
 use Rattle.cf_turns.specs.Lists.{TaggedEntry}

@@ -3,7 +3,7 @@
 ghost use Rattle.std.specs.Prelude.{◌≡◌, ◌+◌, ◌<◌, ◌≤◌, ◌++◌, ◌∷◌, [], length, map, All};
 ghost use Rattle.std.specs.List.{Contains};
 ghost use Rattle.std.specs.Vec.{vec_len, vec_capacity};
-ghost use Rattle.cf_calls.specs.declared.call.Call.{Call as CallOf};
+ghost use Rattle.cf_model.specs.Common.{Call as CallOf};
 ghost use Rattle.cf_hall_names.specs.Lists.{calls_in};
 ghost use mathlib.Core.List.{IsPrefix};
 ghost use Rattle.cf_hall_names.specs.Closing.{AreApart, Closes, accepted_of, failed_calls, faults_in, receipts_of};

@@ -3,9 +3,8 @@
 
 ghost use Rattle.std.specs.Prelude.{◌≡◌, ◌+◌, ◌<◌, ◌≤◌, ◌++◌, ◌∷◌, ℕ, [], length, IfOk};
 ghost use Rattle.std.specs.List.{count_by};
-ghost use Rattle.cf_base.specs.Limits.{most_entries};
-ghost use Rattle.cf_model.specs.Step.{IsLegal};
-ghost use Rattle.cf_model.specs.Stripes.{entry_touches};
+ghost use Rattle.cf_base.specs.Common.{most_entries};
+ghost use Rattle.cf_model.specs.Common.{IsLegal, entry_touches};
 ghost use Rattle.cf_hall_names.specs.Closing.{HasFirst};
 ghost use Rattle.cf_hall_names.specs.Lists.{entries_of, tie_at, total_at};
 ghost use Rattle.cf_hall.specs.OpeningNames.{name_at, part_at, first_recorder, HasSeen};

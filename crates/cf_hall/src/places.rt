@@ -2,7 +2,7 @@
 
 ghost use Rattle.std.specs.Prelude.{◌≡◌, ◌<◌, ℕ, None, is_some};
 ghost use Rattle.cf_budget.specs.Tables.{has_stripe};
-ghost use Rattle.cf_model.specs.Stripes.{call_touches};
+ghost use Rattle.cf_model.specs.Common.{call_touches};
 
 use crate::stripe::Stripe;
 use crate::taken::{Stripes, Taken};

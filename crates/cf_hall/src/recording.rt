@@ -3,7 +3,7 @@
 ghost use Rattle.std.specs.Prelude.{◌≡◌, ◌+◌, ◌-◌, ◌^◌, ◌<◌, ℕ, min, if◌then◌else◌, ◌∷◌, ◌++◌, [], None, Some};
 ghost use mathlib.Core.List.{IsPrefix};
 ghost use Rattle.cf_budget.specs.Tables.{has_line};
-ghost use Rattle.cf_model.specs.Step.{IsLegal};
+ghost use Rattle.cf_model.specs.Common.{IsLegal};
 ghost use Rattle.cf_model.specs.Stripes as spec;
 ghost use Rattle.cf_hall_names.specs.Lists.{entries_of, total_at};
 ghost use Rattle.cf_registers.specs.Lines.{LendsTouched};

@@ -1,7 +1,7 @@
 //! What the threads of a hall share, and how a call is answered there.
 
 ghost use Rattle.std.specs.Prelude.{◌≡◌, ◌≤◌, None, [], length};
-ghost use Rattle.cf_calls.specs.Form.{IsCallInForm};
+ghost use Rattle.cf_calls.specs.Common.{IsCallInForm};
 ghost use Rattle.cf_hall_names.specs.Telling.{Tells};
 
 use crate::book::HallBook;

@@ -1,6 +1,6 @@
 -- The entries of a list with passes.
 use Rattle.std.proofs.Common.{◌≡◌, ℕ, suc, List, [], ◌∷◌, ◌++◌, length, refl, ap}
-use Rattle.cf_calls.specs.declared.entry.Entry.{Entry}
+use Rattle.cf_model.specs.Common.{Entry}
 use Rattle.cf_turns.specs.Lists.{TaggedEntry}
 use Rattle.cf_hall_names.specs.Lists.{entries_of}
 

@@ -1,9 +1,8 @@
 -- What the tie of a stripe sees.
 use Rattle.std.specs.Prelude.{◌≡◌, ℕ, ◌+◌, ◌<◌, Bool, List, Option, Some, None}
 use Rattle.atomic_table.specs.Seated.{TableId}
-use Rattle.cf_calls.specs.declared.entry.Entry.{Entry}
-use Rattle.cf_chart.specs.Plan.{Plan}
-use Rattle.cf_model.specs.Stripes.{entry_touches}
+use Rattle.cf_model.specs.Common.{Entry, entry_touches}
+use Rattle.cf_chart.specs.Common.{Plan}
 use Rattle.cf_turns.specs.Lists.{TaggedEntry}
 use Rattle.cf_turns.specs.States.{PassState}
 use Rattle.cf_turns.specs.Touching.{touch_count, GrowsTouched}

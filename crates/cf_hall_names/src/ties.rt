@@ -3,7 +3,7 @@
 
 ghost use Rattle.std.specs.Prelude.{◌≡◌, ◌+◌, ◌<◌, Some, None};
 ghost use Rattle.cf_turns.specs.States.{PassState};
-ghost use Rattle.cf_model.specs.Stripes.{entry_touches};
+ghost use Rattle.cf_model.specs.Common.{entry_touches};
 ghost use Rattle.cf_turns.specs.Touching.{touch_count};
 ghost use Rattle.cf_hall_names.specs.Following.{Follows, AllFollow, AreCounts, AreCountsWith, AreOwn, AreTaken};
 

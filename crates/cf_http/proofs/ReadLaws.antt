@@ -1,9 +1,6 @@
 -- Reads of a link, one after another.
 use Rattle.std.proofs.Common.{◌≡◌, ℕ, ◌+◌, ◌<◌, List, [], ◌++◌, length, Option, Some, None, Ok, inr, sym, subst, ap, ◌∙◌, append_assoc}
-use Rattle.std.specs.Io.KnownBytes.{Appends}
-use Rattle.std.proofs.KnownBytes.{Appends-trans}
-use Rattle.std.proofs.lemmas.List.{append-nil}
-use Rattle.std.proofs.lemmas.List.Elements.{All-append, All-nil, All-weaker}
+use Rattle.cf_base.proofs.Common.{Appends, Appends-trans, append-nil, All-append, All-nil, All-weaker}
 use Rattle.cf_http_heads.proofs.HeadLaws.{begins_on}
 use Rattle.cf_http_heads.specs.Answers.{joined}
 use Rattle.cf_http_heads.specs.Heads.{BeginsWithHead, IsOpenHead}

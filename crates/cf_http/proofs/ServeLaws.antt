@@ -1,10 +1,6 @@
 -- How a link is served, step by step.
-use Rattle.std.proofs.Common.{◌≡◌, ◌⊎◌, ℕ, ◌+◌, ◌-◌, ◌<◌, ◌≤◌, List, [], ◌∷◌, ◌++◌, length, drop, Option, Some, None, IfSome, Ok, inl, inr, arith, subst, sym, ap, refl, ◌∙◌, append_assoc, length-append, length-drop}
-use Rattle.std.specs.List.{flat_map}
-use Rattle.std.specs.Io.KnownBytes.{Appends}
-use Rattle.std.proofs.KnownBytes.{Appends-nil, Appends-trans}
-use Rattle.std.proofs.lemmas.List.{append-nil}
-use Rattle.std.proofs.lemmas.List.Elements.{All-append, All-nil, All-cons}
+use Rattle.std.proofs.Common.{◌≡◌, ◌⊎◌, ℕ, ◌+◌, ◌-◌, ◌<◌, ◌≤◌, List, [], ◌∷◌, ◌++◌, length, drop, Option, Some, None, IfSome, Ok, inl, inr, arith, subst, sym, ap, refl, ◌∙◌, append_assoc, length-append, length-drop, flat_map}
+use Rattle.cf_base.proofs.Common.{Appends, Appends-nil, Appends-trans, append-nil, All-append, All-nil, All-cons}
 use Rattle.cf_http.specs.declared.end.LinkEnd.{LinkEnd}
 use Rattle.cf_http.specs.declared.end.LinkEnd.TheVariants as end
 use Rattle.cf_http_heads.specs.declared.head.Heading.{Heading}

@@ -1,7 +1,6 @@
 -- What one answer does.
 use Rattle.std.proofs.Common.{◌≡◌, ◌⊎◌, ℕ, List, ◌++◌, Bool, true, false, Option, Some, None, Result, Ok, Err, inl, inr, IfSome, take, drop, length, ◌+◌, ◌≤◌, ◌∙◌, append_assoc, length-drop, arith, subst, sym, ap, refl}
-use Rattle.std.proofs.lemmas.List.{take-append-drop, drop-drop, length-take-le}
-use Rattle.std.proofs.lemmas.Option.{none-some}
+use Rattle.cf_base.proofs.Common.{take-append-drop, drop-drop, length-take-le, none-some}
 use Rattle.httparse.specs.Grammar.{print_request}
 use Rattle.cf_http.specs.Links.{Sends, LinkTells}
 use Rattle.cf_http.specs.declared.end.LinkEnd.{LinkEnd}

@@ -1,12 +1,6 @@
 -- Laws of what the fields of a head say.
 use Rattle.std.proofs.Common.{eqb, ◌≡◌, ◌≢◌, ◌+◌, ◌*◌, ◌<◌, ◌≤◌, ℕ, suc, List, [], ◌∷◌, ◌++◌, Bool, true, false, length, Result, Ok, Err, nat_le, nat_lt, ◌==◌, ◌&&◌, not, codes, if◌then◌else◌, arith, subst, refl, sym, ap, ◌∙◌, take, drop, slice_index, drop-cons}
-use Rattle.std.specs.Bool.{⊤}
-use Rattle.std.specs.List.{position_or_len, before_first, after_first}
-use Rattle.std.specs.Str.Parse.{digits_value, digits_value_after}
-use Rattle.std.specs.Char.{digit_value}
-use Rattle.std.proofs.lemmas.Bool.{leb-true}
-use Rattle.std.proofs.lemmas.List.{take-append-drop}
-use Rattle.std.proofs.lemmas.List.Elements.{All-head, All-tail}
+use Rattle.cf_base.proofs.Common.{⊤, position_or_len, before_first, after_first, digits_value, digits_value_after, digit_value, leb-true, take-append-drop, All-head, All-tail}
 use Rattle.cf_http_heads.specs.Fields.{Fields, values_of, body_length, is_number, parts, stated_length, HasNone}
 use Rattle.cf_http_heads.specs.declared.fields.Refusal.{Refusal}
 use Rattle.cf_http_heads.specs.declared.fields.Refusal.TheVariants.{Head, Coding, Long}

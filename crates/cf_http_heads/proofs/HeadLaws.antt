@@ -1,8 +1,6 @@
 -- Laws of the heads of requests.
 use Rattle.std.proofs.Common.{◌≡◌, ◌+◌, ◌<◌, ◌≤◌, ℕ, List, ◌++◌, length, take, drop, min, arith, sym, ap, ◌∙◌, subst, inr, length-append, length-take, length-drop}
-use Rattle.std.proofs.lemmas.List.{take-append-drop, take-append-le, take_all, length-map}
-use Rattle.std.proofs.Math.Nat.{lt_of_not-le}
-use Rattle.std.proofs.Math.Seq.{take-append_seam}
+use Rattle.cf_base.proofs.Common.{take-append-drop, take-append-le, take_all, length-map, lt_of_not-le, take-append_seam}
 use Rattle.httparse.specs.Borrowed.{header_parts, AreFields}
 use Rattle.httparse.specs.Grammar.{RequestHead, print_request, ReadsRequest, HasNoRequest, MayBecomeRequest}
 use Rattle.httparse.specs.Spans.{name_and_value, RequestOverflows}

@@ -1,6 +1,6 @@
 -- Pieces that are appended one after another.
 use Rattle.std.proofs.Common.{◌≡◌, ℕ, List, [], ◌∷◌, ◌++◌, append_assoc, ◌∙◌, sym}
-use Rattle.std.proofs.lemmas.List.{append-nil}
+use Rattle.cf_base.proofs.Common.{append-nil}
 use Rattle.cf_http_heads.specs.Answers.{joined}
 
 -- a piece more

@@ -1,17 +1,12 @@
 -- What the router finds, in the words of a path.
-use Rattle.std.proofs.Common.{◌≡◌, ℕ, length, drop, suc, ◌<◌, List, [], ◌∷◌, ◌++◌, Bool, true, false, cond, eqb, Option, Some, None, arith, refl, sym, ap, ◌∙◌, subst}
-use Rattle.std.specs.Prelude.{codes, get_or}
-use Rattle.std.specs.Str.{bytes_eq}
-use Rattle.std.specs.Borrow.{Bor}
-use Rattle.std.specs.Option.{option_and_then, option_map}
-use Rattle.std.proofs.lemmas.Bool.{eq-eqb, eqb-true, eqb-false, ne_eqb}
-use Rattle.std.proofs.lemmas.Slice.Eq.{bytes_eq-Decides}
+use Rattle.std.proofs.Common.{◌≡◌, ℕ, length, drop, suc, ◌<◌, List, [], ◌∷◌, ◌++◌, Bool, true, false, cond, eqb, Option, Some, None, arith, refl, sym, ap, ◌∙◌, subst, codes, get_or, bytes_eq, Bor, option_and_then, option_map}
+use Rattle.cf_base.proofs.Common.{eq-eqb, eqb-true, eqb-false, ne_eqb, bytes_eq-Decides}
 use Rattle.matchit.specs.Seek.{has_slash, or_else, first, seek}
 use Rattle.matchit.specs.Router.{RouteOf}
 use Rattle.matchit.specs.Rows.{RowsOf}
 use Rattle.cf_http_heads.specs.Fields.{parts}
 use Rattle.cf_http_heads.specs.Rows.{two, desk_rows, router_rows, calls_row, lines_row, reports_row, IsPlace}
-use Rattle.cf_base.specs.Statements.{statement_of}
+use Rattle.cf_base.specs.Common.{statement_of}
 use Rattle.cf_http_heads.specs.Routes.{line_route, report_route, route_by, number_from, IsSplit, HasTwoWords}
 use Rattle.cf_http_heads.specs.declared.route.Route.TheVariants as route
 use Rattle.cf_http_heads.specs.declared.router.Place.{Place}

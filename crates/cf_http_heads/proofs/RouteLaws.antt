@@ -1,12 +1,9 @@
 -- A request that goes somewhere goes to a route in form.
-use Rattle.std.proofs.Common.{◌≡◌, ℕ, ◌≤◌, List, [], ◌∷◌, Bool, true, false, Option, Some, None, Result, Ok, Err, subst, refl, ap}
-use Rattle.std.specs.Prelude.{⊤, if◌then◌else◌, nat_le, ◌&&◌, length, codes}
-use Rattle.std.specs.Option.{option_and_then, option_map}
-use Rattle.std.specs.Str.{bytes_eq}
-use Rattle.std.specs.Str.Parse.{digits_value}
-use Rattle.std.proofs.lemmas.Bool.{leb-true}
+use Rattle.std.proofs.Common.{◌≡◌, ℕ, ◌≤◌, List, [], ◌∷◌, Bool, true, false, Option, Some, None, Result, Ok, Err, subst, refl, ap, if◌then◌else◌, nat_le, ◌&&◌, length, codes, option_and_then, option_map, bytes_eq}
+use Rattle.std.specs.Prelude.{⊤}
+use Rattle.cf_base.proofs.Common.{digits_value, leb-true}
 use Rattle.cf_http_heads.specs.Fields.{is_number}
-use Rattle.cf_base.specs.Statements.{statement_of}
+use Rattle.cf_base.specs.Common.{statement_of}
 use Rattle.cf_http_heads.specs.Routes.{number_from, line_route, report_route, route_by, route_of, path_of, ask_by, ask_of, method_of, method_name, words_of, IsRouteInForm}
 use Rattle.cf_base.specs.declared.statement.Kind.{Kind}
 use Rattle.cf_http_heads.specs.declared.route.Route.{Route}

@@ -1,9 +1,6 @@
 -- What the router finds.
-use Rattle.std.proofs.Common.{◌≡◌, ℕ, zero, suc, ◌-◌, ◌<◌, List, [], ◌∷◌, ◌++◌, Bool, true, false, cond, eqb, Option, Some, None, length, drop, ltb, ◌&&◌, length-append, arith, refl, sym, ap, ◌∙◌, subst}
-use Rattle.std.specs.List.{list_all}
-use Rattle.std.proofs.lemmas.Bool.{and_right, ne_eqb, eqb-true, eqb-false, leb-true, le-leb, false≢true}
-use Rattle.std.specs.Cmp.Lexicographic.{pointwise}
-use Rattle.std.specs.Prelude.{nat_eq, codes}
+use Rattle.std.proofs.Common.{◌≡◌, ℕ, zero, suc, ◌-◌, ◌<◌, List, [], ◌∷◌, ◌++◌, Bool, true, false, cond, eqb, Option, Some, None, length, drop, ltb, ◌&&◌, length-append, arith, refl, sym, ap, ◌∙◌, subst, nat_eq, codes}
+use Rattle.cf_base.proofs.Common.{list_all, and_right, ne_eqb, eqb-true, eqb-false, leb-true, le-leb, false≢true, pointwise}
 use Rattle.matchit.specs.Seek.{segment, has_slash, cuts, own, step, or_else, longest_suffix, param_step, seek, first}
 use Rattle.matchit.specs.Rows.{RowsOf}
 use Rattle.cf_http_heads.specs.Rows.{two, desk_rows}

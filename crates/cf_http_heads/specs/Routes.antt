@@ -5,8 +5,7 @@ use Rattle.std.specs.List.{before_first}
 use Rattle.std.specs.Option.{option_and_then, option_map}
 use Rattle.std.specs.Str.{bytes_eq}
 use Rattle.std.specs.Str.Parse.{digits_value}
-use Rattle.cf_base.specs.Limits.{last_year}
-use Rattle.cf_base.specs.Statements.{statement_of}
+use Rattle.cf_base.specs.Common.{last_year, statement_of}
 use Rattle.cf_http_heads.specs.Fields.{is_number, parts}
 use Rattle.cf_http_heads.specs.declared.route.Route.{Route}
 use Rattle.cf_http_heads.specs.declared.route.Route.TheVariants.{Calls, Line, Report}

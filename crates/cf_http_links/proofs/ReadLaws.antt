@@ -1,8 +1,6 @@
 -- The reads of a link in memory.
-use Rattle.std.proofs.Common.{◌≡◌, ◌≤◌, arith, ℕ, List, [], ◌∷◌, ◌++◌, length, take, map, Some, ◌∙◌, ap, refl}
-use Rattle.std.specs.Prelude.{All}
-use Rattle.std.proofs.lemmas.List.{map-append, take-append-le, take_all}
-use Rattle.std.proofs.lemmas.List.Elements.{All-head, All-tail}
+use Rattle.std.proofs.Common.{◌≡◌, ◌≤◌, arith, ℕ, List, [], ◌∷◌, ◌++◌, length, take, map, Some, ◌∙◌, ap, refl, All}
+use Rattle.cf_base.proofs.Common.{map-append, take-append-le, take_all, All-head, All-tail}
 use Rattle.cf_http.specs.Links.{LinkRead, read_at}
 use Rattle.cf_http_links.specs.Memory.{read_by}
 use Rattle.cf_http_links.specs.declared.memory.Passed.{Passed}

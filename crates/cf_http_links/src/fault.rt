@@ -1,7 +1,7 @@
 //! Faults are counted.
 
 ghost use Rattle.std.specs.Prelude.{◌≤◌};
-ghost use Rattle.cf_base.specs.Causes.{Rose};
+ghost use Rattle.cf_base.specs.Common.{Rose};
 
 use cf_base::Failed;
 

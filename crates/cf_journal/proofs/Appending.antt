@@ -1,7 +1,6 @@
 -- What the steps of an append and of a mend leave.
-use Rattle.std.proofs.Common.{◌≡◌, ℕ, ◌+◌, ◌≤◌, List, [], ◌∷◌, ◌++◌, length, take, drop, replicate, get_or, refl, sym, ◌∙◌, ap, subst, arith, append_assoc, length-append, Result, Ok, Err}
-use Rattle.std.specs.Prelude.{OnErr}
-use Rattle.std.proofs.lemmas.List.{append-nil, take_at}
+use Rattle.std.proofs.Common.{◌≡◌, ℕ, ◌+◌, ◌≤◌, List, [], ◌∷◌, ◌++◌, length, take, drop, replicate, get_or, refl, sym, ◌∙◌, ap, subst, arith, append_assoc, length-append, Result, Ok, Err, OnErr}
+use Rattle.cf_base.proofs.Common.{append-nil, take_at}
 use Rattle.cf_calls.specs.declared.entry.Entry.{Entry}
 use Rattle.cf_disk.specs.Images.{written, Torn}
 use Rattle.cf_disk.specs.Moments.{AtEachMoment}

@@ -1,12 +1,7 @@
 -- What the steps of founding leave.
-use Rattle.std.proofs.Common.{◌≡◌, ◌≢◌, ◌⊎◌, inl, inr, ℕ, ◌<◌, ◌≤◌, List, [], ◌∷◌, ◌++◌, length, take, get_or, refl, sym, ◌∙◌, ap, subst, arith, append_assoc, Bool, true, false, Result, Ok, Err}
-use Rattle.std.specs.Prelude.{IsOk, OnOk, nat_lt, ◌==◌, ◌&&◌, slice_index}
-use Rattle.std.specs.Int.{w32, to_be_bytes}
-use Rattle.std.proofs.lemmas.List.{drop_all, append-nil, length-take}
-use Rattle.std.proofs.lemmas.List.Elements.{All-nil}
-use Rattle.std.proofs.lemmas.Bool.{cases_eq, cases_lt}
-use Rattle.std.proofs.lemmas.Bool.Decides.{nat_tests}
-use Rattle.cf_chart.specs.Reading.{chart_of}
+use Rattle.std.proofs.Common.{◌≡◌, ◌≢◌, ◌⊎◌, inl, inr, ℕ, ◌<◌, ◌≤◌, List, [], ◌∷◌, ◌++◌, length, take, get_or, refl, sym, ◌∙◌, ap, subst, arith, append_assoc, Bool, true, false, Result, Ok, Err, IsOk, OnOk, nat_lt, ◌==◌, ◌&&◌, slice_index, w32}
+use Rattle.cf_base.proofs.Common.{to_be_bytes, drop_all, append-nil, length-take, All-nil, cases_eq, cases_lt, nat_tests}
+use Rattle.cf_chart.specs.Common.{chart_of}
 use Rattle.cf_disk.specs.Images.{written, Torn, HalfCut, AddsNone}
 use Rattle.cf_codec.specs.Entries.{IsOf}
 use Rattle.cf_journal.specs.Records.{HasRecord}

@@ -1,15 +1,9 @@
 -- What the layout of a journal recovers to.
-use Rattle.std.proofs.Common.{◌≡◌, ◌≢◌, inl, inr, ℕ, ◌+◌, ◌<◌, ◌≤◌, ◌^◌, List, [], ◌∷◌, ◌++◌, length, take, drop, get_or, refl, sym, ◌∙◌, ap, subst, arith, append_assoc, length-append, Bool, true, false}
-use Rattle.std.specs.Prelude.{⊤, Ok, Err, Result, IsOk, is_ok, nat_lt, nat_le, not, ◌&&◌, if◌then◌else◌}
-use Rattle.std.specs.Int.{w32, to_be_bytes, from_be_bytes}
-use Rattle.std.proofs.lemmas.Nat.{from_be_bytes-to_be_bytes_4}
-use Rattle.std.proofs.lemmas.List.{take_at, drop_at, drop-drop}
-use Rattle.std.proofs.lemmas.List.Elements.{All-push, All-weaker}
-use Rattle.std.proofs.lemmas.Bool.{cases_eq}
-use Rattle.std.proofs.lemmas.Bool.Decides.{nat_tests}
+use Rattle.std.proofs.Common.{◌≡◌, ◌≢◌, inl, inr, ℕ, ◌+◌, ◌<◌, ◌≤◌, ◌^◌, List, [], ◌∷◌, ◌++◌, length, take, drop, get_or, refl, sym, ◌∙◌, ap, subst, arith, append_assoc, length-append, Bool, true, false, Ok, Err, Result, IsOk, is_ok, nat_lt, nat_le, not, ◌&&◌, if◌then◌else◌, w32}
+use Rattle.std.specs.Prelude.{⊤}
+use Rattle.cf_base.proofs.Common.{to_be_bytes, from_be_bytes, from_be_bytes-to_be_bytes_4, take_at, drop_at, drop-drop, All-push, All-weaker, cases_eq, nat_tests}
 use Rattle.cf_calls.specs.declared.entry.Entry.{Entry}
-use Rattle.cf_chart.specs.Reading.{chart_of}
-use Rattle.cf_chart.specs.Faults.{Checked, must, ◌>>=◌}
+use Rattle.cf_chart.specs.Common.{chart_of, Checked, must, ◌>>=◌}
 use Rattle.cf_chart.specs.declared.fault.ChartFault.{ChartFault}
 use Rattle.cf_chart.specs.declared.fault.ChartFault.TheVariants.{TooLong}
 use Rattle.cf_codec.specs.Entries.{IsOf}

@@ -1,6 +1,6 @@
 -- Bytes after a write, and after a crash in it.
 use Rattle.std.proofs.Common.{◌≡◌, inl, inr, ℕ, ◌+◌, ◌-◌, ◌<◌, ◌≤◌, List, [], ◌∷◌, ◌++◌, length, take, drop, replicate, get_or, refl, sym, ◌∙◌, ap, arith, append_assoc, length-append, length-drop, take-append-drop}
-use Rattle.std.proofs.lemmas.List.{take_at, drop_at, drop-drop, drop_more, append-nil, ext_get_or, get_or-take, get_or-drop, length-take-le}
+use Rattle.cf_base.proofs.Common.{take_at, drop_at, drop-drop, drop_more, append-nil, ext_get_or, get_or-take, get_or-drop, length-take-le}
 use Rattle.cf_disk.specs.Images.{padded, written, Torn}
 
 -- the same up to n

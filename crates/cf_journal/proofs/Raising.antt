@@ -1,6 +1,6 @@
 -- What a raise to version 2 leaves.
-use Rattle.std.proofs.Common.{◌≡◌, ◌≢◌, ℕ, ◌≤◌, List, [], ◌∷◌, ◌++◌, length, get_or, ◌∙◌, ap, subst, arith}
-use Rattle.std.specs.Int.{w32, to_be_bytes}
+use Rattle.std.proofs.Common.{◌≡◌, ◌≢◌, ℕ, ◌≤◌, List, [], ◌∷◌, ◌++◌, length, get_or, ◌∙◌, ap, subst, arith, w32}
+use Rattle.cf_base.proofs.Common.{to_be_bytes}
 use Rattle.cf_calls.specs.declared.entry.Entry.{Entry}
 use Rattle.cf_disk.specs.Images.{written, Torn}
 use Rattle.cf_journal.specs.Records.{records_of}

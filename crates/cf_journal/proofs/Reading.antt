@@ -1,11 +1,6 @@
 -- One step of reading records.
-use Rattle.std.proofs.Common.{◌≡◌, ◌≢◌, inl, inr, ℕ, ◌+◌, ◌<◌, ◌≤◌, ◌^◌, List, [], ◌∷◌, ◌++◌, length, take, drop, get_or, refl, sym, ◌∙◌, ap, arith, append_assoc, take-append-drop, Bool, true, false}
-use Rattle.std.specs.Prelude.{All, Some, None, Ok, Err, Option, Result, ◌==◌, nat_lt, if◌then◌else◌}
-use Rattle.std.specs.Int.{w32, to_be_bytes}
-use Rattle.std.proofs.lemmas.Nat.{be_bytes_4}
-use Rattle.std.proofs.lemmas.List.{take_at, take-take, drop-drop, drop_more, append-nil, get_or-take, get_or-drop, get_or_past, length-take-le, length-take}
-use Rattle.std.proofs.lemmas.Bool.{cases_lt, cases_eq}
-use Rattle.std.proofs.lemmas.Bool.Decides.{nat_tests}
+use Rattle.std.proofs.Common.{◌≡◌, ◌≢◌, inl, inr, ℕ, ◌+◌, ◌<◌, ◌≤◌, ◌^◌, List, [], ◌∷◌, ◌++◌, length, take, drop, get_or, refl, sym, ◌∙◌, ap, arith, append_assoc, take-append-drop, Bool, true, false, All, Some, None, Ok, Err, Option, Result, ◌==◌, nat_lt, if◌then◌else◌, w32}
+use Rattle.cf_base.proofs.Common.{to_be_bytes, be_bytes_4, take_at, take-take, drop-drop, drop_more, append-nil, get_or-take, get_or-drop, get_or_past, length-take-le, length-take, cases_lt, cases_eq, nat_tests}
 use Rattle.cf_calls.specs.declared.entry.Entry.{Entry}
 use Rattle.cf_codec.specs.Entries.{payload, read_of, IsOf}
 use Rattle.cf_journal.specs.Records.{HasRecord, of_length, stated_len, entry_behind, in_front, entries_from, record_of, records_of}

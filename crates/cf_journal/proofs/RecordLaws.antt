@@ -1,11 +1,6 @@
 -- What records read as.
-use Rattle.std.proofs.Common.{◌≡◌, ◌≢◌, ℕ, zero, suc, ◌+◌, ◌<◌, ◌≤◌, ◌^◌, List, [], ◌∷◌, ◌++◌, length, take, drop, refl, sym, ◌∙◌, ap, arith, append_assoc, length-append, Bool, false}
-use Rattle.std.specs.Prelude.{All, Some, None, Ok, Option, Result, nat_lt, if◌then◌else◌}
-use Rattle.std.specs.Int.{w32, to_be_bytes, from_be_bytes}
-use Rattle.std.proofs.lemmas.Nat.{from_be_bytes-to_be_bytes_4}
-use Rattle.std.proofs.lemmas.List.{take_at, drop_at, append-nil}
-use Rattle.std.proofs.lemmas.List.Elements.{All-head, All-tail}
-use Rattle.std.proofs.lemmas.Bool.Decides.{nat_tests}
+use Rattle.std.proofs.Common.{◌≡◌, ◌≢◌, ℕ, zero, suc, ◌+◌, ◌<◌, ◌≤◌, ◌^◌, List, [], ◌∷◌, ◌++◌, length, take, drop, refl, sym, ◌∙◌, ap, arith, append_assoc, length-append, Bool, false, All, Some, None, Ok, Option, Result, nat_lt, if◌then◌else◌, w32}
+use Rattle.cf_base.proofs.Common.{to_be_bytes, from_be_bytes, from_be_bytes-to_be_bytes_4, take_at, drop_at, append-nil, All-head, All-tail, nat_tests}
 use Rattle.cf_calls.specs.declared.entry.Entry.{Entry}
 use Rattle.cf_codec.specs.Entries.{payload, read_of, IsOf}
 use Rattle.cf_journal.specs.Records.{HasRecord, of_length, stated_len, entry_behind, in_front, entries_from, record_of, records_of, record_len, gate_after}

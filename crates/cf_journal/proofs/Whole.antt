@@ -1,10 +1,8 @@
 -- A whole file, as it is opened.
-use Rattle.std.proofs.Common.{◌≡◌, inl, inr, ⊎_elim, ℕ, ◌+◌, ◌-◌, ◌≤◌, List, ◌∷◌, ◌++◌, length, take, drop, refl, sym, ◌∙◌, ap, arith, length-drop, take-append-drop, Bool, false, Result, Ok, Err}
-use Rattle.std.specs.Prelude.{IsOk, IsErr, is_ok, if◌then◌else◌, slice_index}
-use Rattle.std.specs.Int.{w32, to_be_bytes}
-use Rattle.std.proofs.lemmas.List.{take_all, drop-drop, length-take-le}
+use Rattle.std.proofs.Common.{◌≡◌, inl, inr, ⊎_elim, ℕ, ◌+◌, ◌-◌, ◌≤◌, List, ◌∷◌, ◌++◌, length, take, drop, refl, sym, ◌∙◌, ap, arith, length-drop, take-append-drop, Bool, false, Result, Ok, Err, IsOk, IsErr, is_ok, if◌then◌else◌, slice_index, w32}
+use Rattle.cf_base.proofs.Common.{to_be_bytes, take_all, drop-drop, length-take-le}
 use Rattle.cf_calls.specs.declared.entry.Entry.{Entry}
-use Rattle.cf_chart.specs.Reading.{chart_of}
+use Rattle.cf_chart.specs.Common.{chart_of}
 use Rattle.cf_disk.specs.Images.{AddsNone}
 use Rattle.cf_disk.specs.Moments.{Advances, AtEachMoment}
 use Rattle.cf_journal.specs.Records.{entries_from, records_of}

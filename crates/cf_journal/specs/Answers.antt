@@ -1,7 +1,7 @@
 -- What the calls of a journal answer.
 use Rattle.std.specs.Prelude.{◌≡◌, ◌≢◌, ◌⊎◌, ⊤, ℕ, ◌+◌, ◌≤◌, true, false, List, [], ◌∷◌, ◌++◌, All, length, take, slice_index, Vec, Some, None, Result, Ok, Err, IsErr, IsErrOf}
 use Rattle.std.specs.declared.alloc.Global.{Global}
-use Rattle.cf_base.specs.Causes.{Rose}
+use Rattle.cf_base.specs.Common.{Rose}
 use Rattle.cf_calls.specs.declared.entry.Entry.{Entry}
 use Rattle.cf_codec.specs.Entries.{IsOf}
 use Rattle.cf_disk.specs.Images.{HalfCut, IsOnlyImage}

@@ -8,7 +8,7 @@
 use Rattle.std.specs.Prelude.{ℕ, ◌+◌, Bool, not, ◌==◌, ◌&&◌, nat_lt, is_ok, if◌then◌else◌, List, length, take, drop, slice_index, slice_get, Result, Ok, Err}
 use Rattle.std.specs.Int.{w32, from_be_bytes}
 use Rattle.cf_calls.specs.declared.entry.Entry.{Entry}
-use Rattle.cf_chart.specs.Reading.{chart_of}
+use Rattle.cf_chart.specs.Common.{chart_of}
 use Rattle.cf_journal.specs.Records.{entries_from}
 use Rattle.cf_journal.specs.declared.refused.OpenRefused.{OpenRefused}
 use Rattle.cf_journal.specs.declared.refused.OpenRefused.TheVariants.{NotFounded, Damaged}

@@ -3,7 +3,7 @@ use Rattle.std.specs.Prelude.{◌≡◌, ◌⊎◌, ℕ, ◌+◌, ◌%◌, ◌<�
 use Rattle.cf_calls.specs.declared.acts.Act.{Act}
 use Rattle.cf_calls.specs.declared.entry.Entry.{Entry}
 use Rattle.cf_codec.specs.Entries.{IsOf}
-use Rattle.cf_calls.specs.Kinds.{kind_of}
+use Rattle.cf_calls.specs.Common.{kind_of}
 use Rattle.cf_codec_fields.specs.Kinds.{is_of}
 use Rattle.cf_journal.specs.Records.{HasRecord, record_of, record_len, gate_after}
 use Rattle.cf_journal.specs.Layout.{IsValid, IsAtRest, IsStaged}

@@ -2,7 +2,7 @@
 use Rattle.std.specs.Prelude.{◌≡◌, ◌≢◌, ◌⊎◌, ℕ, List, [], ◌∷◌, ◌++◌, length, All, Ok, IsOk}
 use Rattle.std.specs.Int.{w32, to_be_bytes}
 use Rattle.cf_calls.specs.declared.entry.Entry.{Entry}
-use Rattle.cf_chart.specs.Reading.{chart_of}
+use Rattle.cf_chart.specs.Common.{chart_of}
 use Rattle.cf_codec.specs.Entries.{IsOf}
 use Rattle.cf_journal.specs.Records.{HasRecord, record_of, records_of}
 use Rattle.cf_journal.specs.Frames.{frames}

@@ -1,8 +1,8 @@
 //! Founding a journal.
 
 ghost use Rattle.std.specs.Prelude.{◌≡◌, ◌⊎◌, ◌<◌, ◌≤◌, ◌^◌, [], ◌∷◌, ◌++◌, true, false, List, ℕ, IsTrue, IsOk, IfOk, OnOk, IsErrOf, length, take};
-ghost use Rattle.cf_base.specs.Causes.{HasCause};
-ghost use Rattle.cf_chart.specs.Reading.{chart_of};
+ghost use Rattle.cf_base.specs.Common.{HasCause};
+ghost use Rattle.cf_chart.specs.Common.{chart_of};
 ghost use Rattle.cf_disk.specs.Images.{AddsNone, IsOnlyImage};
 ghost use Rattle.cf_disk.specs.Moments.{AtEachMoment};
 ghost use Rattle.cf_journal.specs.Answers.{HasDiskCause, Founds, IsUnfoundedOr, IsCutFrom, FromFirstSync};

@@ -4,10 +4,10 @@
 //! opened by a write of its own, and synced. So a crash leaves the record out or has it whole.
 
 ghost use Rattle.std.specs.Prelude.{◌≡◌, ◌+◌, ◌*◌, ◌%◌, ◌<◌, ◌≤◌, ◌^◌, [], ◌∷◌, ◌++◌, true, false, List, ℕ, IsTrue, OnOk, OnErr, is_ok, if◌then◌else◌, replicate};
-ghost use Rattle.cf_base.specs.Causes.{HasCause};
+ghost use Rattle.cf_base.specs.Common.{HasCause};
 ghost use Rattle.cf_calls.specs.declared.acts.Act.{Act as ActOf};
 ghost use Rattle.cf_calls.specs.declared.entry.Entry.{Entry as EntryOf};
-ghost use Rattle.cf_calls.specs.Form.{IsEntryInForm};
+ghost use Rattle.cf_calls.specs.Common.{IsEntryInForm};
 ghost use Rattle.cf_disk.specs.Images.{written};
 ghost use Rattle.cf_disk.specs.Moments.{AtEachMoment};
 ghost use Rattle.cf_journal.specs.Layout.{RecoversTo, RecoversToEither};

@@ -2,7 +2,7 @@
 
 ghost use Rattle.std.specs.Prelude.{◌≡◌, ◌⊎◌, ◌+◌, ◌≤◌, ◌<◌, ◌^◌, ◌∷◌, min, IsTrue, Ok, IfOk, IfErr, OnOk, vec_len, length, take, drop, slice_index};
 ghost use Rattle.std.specs.Int.{w32, to_be_bytes};
-ghost use Rattle.cf_chart.specs.Reading.{chart_of};
+ghost use Rattle.cf_chart.specs.Common.{chart_of};
 ghost use Rattle.cf_disk.specs.Images.{AddsNone, IsOnlyImage};
 ghost use Rattle.cf_disk.specs.Moments.{Advances, AtEachMoment};
 ghost use Rattle.cf_journal.specs.Answers.{HasDiskCause, Opens, GivesHead, GivesChart, GivesEntry, GivesEntries, EndsAt};

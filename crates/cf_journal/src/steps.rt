@@ -1,7 +1,7 @@
 //! A change of the disk with its sync.
 
 ghost use Rattle.std.specs.Prelude.{◌≡◌, IsTrue, List, ℕ, length, OnOk};
-ghost use Rattle.cf_base.specs.Causes.{HasCause};
+ghost use Rattle.cf_base.specs.Common.{HasCause};
 ghost use Rattle.cf_disk.specs.Images.{written, Torn, IsOnlyImage};
 ghost use Rattle.cf_disk.specs.Moments.{AtEachMoment};
 

@@ -1,18 +1,14 @@
 -- An accepted change is written: what a crash leaves meanwhile.
 use Rattle.std.proofs.Common.{◌≡◌, ℕ, Bool, List, Option, IsTrue, refl, sym, subst, ◌∙◌, inl, inr}
 use Rattle.cf_calls.specs.declared.call.Call.TheVariants as call
-use Rattle.cf_calls.specs.declared.call.Change.{Change}
-use Rattle.cf_calls.specs.declared.entry.Drawn.{Drawn}
-use Rattle.cf_calls.specs.declared.entry.Entry.{Entry}
-use Rattle.cf_calls.specs.declared.reply.Verdict.TheVariants.{Accept}
-use Rattle.cf_calls.specs.Form.{IsChangeInForm}
-use Rattle.cf_chart.specs.Plan.{Plan}
+use Rattle.cf_model.specs.Common.{Change, Drawn, Entry, Accept, Adds, verdict_of}
+use Rattle.cf_calls.specs.Common.{IsChangeInForm}
+use Rattle.cf_chart.specs.Common.{Plan}
 use Rattle.cf_disk.specs.Moments.{AtEachMoment}
 use Rattle.cf_journal.specs.Journal.{SamePlace}
 use Rattle.cf_journal.specs.declared.journal.Journal.{Journal}
 use Rattle.cf_journal.proofs.Moments.{weaken}
-use Rattle.cf_model.specs.Step.{Adds, verdict_of}
-use Rattle.cf_model.proofs.Stripped.{adds_accepted}
+use Rattle.cf_model.proofs.Common.{adds_accepted}
 use Rattle.cf_journal_book.specs.Books.{Keeps, IsKept, IsInHand, FramesNear, RecoversNear}
 use Rattle.cf_journal_book.specs.DurableState.{DurableState}
 use Rattle.cf_journal_book.specs.Settling.{entry_by}

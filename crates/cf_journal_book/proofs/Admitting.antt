@@ -1,13 +1,9 @@
 -- What an entry of another history comes to, from what `accept` says.
 use Rattle.std.proofs.Common.{◌≡◌, [], ◌∷◌, ◌++◌, length, length-append, None, sym, ap, ◌∙◌, refl, arith}
-use Rattle.cf_calls.specs.Form.{IsEntryInForm}
+use Rattle.cf_calls.specs.Common.{IsEntryInForm}
 use Rattle.cf_calls.specs.declared.call.Call.TheVariants as call
-use Rattle.cf_calls.specs.declared.entry.Entry.{Entry}
-use Rattle.cf_calls.specs.declared.reply.Posted.{Posted}
-use Rattle.cf_calls.specs.declared.reply.Reply.{Reply}
+use Rattle.cf_model.specs.Common.{Entry, Posted, Reply, Verdict, next_by}
 use Rattle.cf_calls.specs.declared.reply.Posted.TheVariants as posted
-use Rattle.cf_calls.specs.declared.reply.Verdict.{Verdict}
-use Rattle.cf_model.specs.Step.{next_by}
 use Rattle.cf_journal_book.specs.Admitting.{Admits, grown_by, kept_as}
 use Rattle.cf_journal_book.specs.DurableState.{DurableState}
 use Rattle.cf_journal_book.specs.Recovery.{entry_refusal}

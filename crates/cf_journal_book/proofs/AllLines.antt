@@ -3,8 +3,8 @@ use Rattle.std.proofs.Common.{◌≡◌, ◌%◌, List, [], ◌∷◌, ◌++◌,
 use Rattle.cf_budget.specs.declared.changes.LineChange.{LineChange}
 use Rattle.cf_budget.specs.Changes.{Applies}
 use Rattle.cf_budget.specs.Tables.{Tables, SameRows, SameStripes}
-use Rattle.cf_calls.specs.declared.entry.Entry.{Entry}
-use Rattle.cf_chart.specs.Plan.{Plan}
+use Rattle.cf_model.specs.Common.{Entry}
+use Rattle.cf_chart.specs.Common.{Plan}
 use Rattle.cf_office.proofs.Tied.{tied, tied_same}
 use Rattle.cf_journal_book.specs.Archives.{HasAllLines, IsOwed}
 

@@ -1,15 +1,14 @@
 -- A book's journal goes on keeping its history.
 use Rattle.std.proofs.Common.{◌≡◌, ℕ, Bool, true, false, List, [], ◌∷◌, ◌++◌, Option, Some, None, IfSome, sym, subst, inl, inr, refl, arith}
-use Rattle.cf_calls.specs.declared.entry.Entry.{Entry}
-use Rattle.cf_chart.specs.Plan.{Plan}
+use Rattle.cf_model.specs.Common.{Entry, Adds}
+use Rattle.cf_chart.specs.Common.{Plan}
 use Rattle.cf_disk.specs.Moments.{AtEachMoment}
 use Rattle.cf_journal.specs.Journal.{SamePlace, IsSettled, IsInDoubt, in_doubt}
 use Rattle.cf_journal.specs.Layout.{RecoversToEither}
 use Rattle.cf_journal.specs.declared.journal.Journal.{Journal}
 use Rattle.cf_journal.proofs.Keeping.{settled_kept, doubt_kept}
 use Rattle.cf_journal.proofs.Moments.{weaken, both}
-use Rattle.cf_model.specs.Step.{Adds}
-use Rattle.cf_model.proofs.Legal.{legal_push}
+use Rattle.cf_model.proofs.Common.{legal_push}
 use Rattle.cf_journal_book.specs.Books.{Keeps, IsKept, IsDoubtAfter, FramesNear}
 
 adds_after : (plan : Plan) (h : List Entry) (before doubt : Option Entry) (e : Entry) → IfSome before (Adds plan h) → Adds plan h e → IsDoubtAfter before e doubt → IfSome doubt (Adds plan h)

@@ -1,20 +1,13 @@
 -- A legal history is taken again whole, and what is taken again whole is legal.
 use Rattle.std.proofs.Common.{◌≡◌, ℕ, ◌+◌, Bool, true, false, if◌then◌else◌, List, [], ◌∷◌, ◌++◌, length, Option, Some, None, IfSome, Ok, refl, ap, subst, inl, inr, IsTrue, arith, eq-eqb}
-use Rattle.cf_calls.specs.declared.entry.Drawn.{Drawn}
-use Rattle.cf_calls.specs.declared.entry.Entry.{Entry}
-use Rattle.cf_calls.specs.declared.reply.Verdict.{Verdict}
-use Rattle.cf_calls.specs.declared.reply.Verdict.TheVariants.{Accept, Repeat, Refuse}
-use Rattle.cf_calls.specs.Form.{IsEntryInForm}
-use Rattle.cf_chart.specs.Plan.{Plan}
-use Rattle.cf_chart.specs.Reading.{chart_of}
+use Rattle.cf_model.specs.Common.{Drawn, Entry, Verdict, Accept, Repeat, Refuse, Adds, IsLegal, IsLegalAfter, verdict_of, IsSoundState}
+use Rattle.cf_calls.specs.Common.{IsEntryInForm}
+use Rattle.cf_chart.specs.Common.{Plan, chart_of}
 use Rattle.cf_journal.specs.Layout.{RecoversTo as FramesTo}
 use Rattle.cf_journal.specs.Records.{record_len}
 use Rattle.cf_journal.specs.Journal.{count_of}
 use Rattle.cf_journal.specs.declared.journal.Journal.{Journal}
-use Rattle.cf_model.specs.Step.{Adds, IsLegal, IsLegalAfter, verdict_of}
-use Rattle.cf_model.proofs.Legal.{legal_push}
-use Rattle.cf_model.specs.State.{IsSoundState}
-use Rattle.cf_model.proofs.Lawful.{IsWhole}
+use Rattle.cf_model.proofs.Common.{legal_push, IsWhole}
 use Rattle.cf_office.proofs.Sound.{sound_push}
 use Rattle.cf_disk.specs.Moments.{AtEachMoment}
 use Rattle.cf_journal_book.specs.Books.{Keeps, IsKept, FramesNear, RecoversNear}

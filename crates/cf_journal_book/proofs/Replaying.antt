@@ -1,8 +1,8 @@
 -- The loop over a journal's entries.
 use Rattle.std.proofs.Common.{◌≡◌, ℕ, suc, ◌+◌, ◌*◌, ◌^◌, ◌<◌, ◌≤◌, List, [], ◌∷◌, ◌++◌, length, length-append, All, Option, Some, None, Err, refl, sym, ap, subst, ◌∙◌, arith, append_assoc}
-use Rattle.cf_base.specs.Limits.{most_entries}
-use Rattle.cf_calls.specs.declared.entry.Entry.{Entry}
-use Rattle.cf_chart.specs.Plan.{Plan}
+use Rattle.cf_base.specs.Common.{most_entries}
+use Rattle.cf_model.specs.Common.{Entry}
+use Rattle.cf_chart.specs.Common.{Plan}
 use Rattle.cf_journal.specs.Records.{HasRecord, record_len}
 use Rattle.cf_journal_book.specs.Openings.{Readmits, Replays}
 use Rattle.cf_journal_book.specs.Recovery.{entry_refusal, first_refused}

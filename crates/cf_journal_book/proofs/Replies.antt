@@ -1,23 +1,9 @@
 -- What an office says of a call, as the book gives it.
 use Rattle.std.proofs.Common.{◌≡◌, ℕ, if◌then◌else◌, [], ◌∷◌, ◌++◌, length, Some, None, refl, sym, ap, subst, ◌∙◌}
-use Rattle.cf_base.specs.Causes.{Rose}
-use Rattle.cf_calls.specs.declared.call.Call.{Call}
+use Rattle.cf_base.specs.Common.{Rose}
+use Rattle.cf_model.specs.Common.{Call, Change, Look, Drawn, Refusal, Body, Done, Refused, Made, Posted, Reply, Verdict, Accept, Repeat, Refuse, registers_of, made_at, made_of, verdict_of, change_body, next_by, next_of}
 use Rattle.cf_calls.specs.declared.call.Call.TheVariants as call
-use Rattle.cf_calls.specs.declared.call.Change.{Change}
-use Rattle.cf_calls.specs.declared.call.Look.{Look}
-use Rattle.cf_calls.specs.declared.entry.Drawn.{Drawn}
-use Rattle.cf_calls.specs.declared.refusal.Refusal.{Refusal}
-use Rattle.cf_calls.specs.declared.reply.Body.{Body}
-use Rattle.cf_calls.specs.declared.reply.Body.TheVariants.{Done, Refused}
-use Rattle.cf_calls.specs.declared.reply.Made.{Made}
-use Rattle.cf_calls.specs.declared.reply.Posted.{Posted}
 use Rattle.cf_calls.specs.declared.reply.Posted.TheVariants as posted
-use Rattle.cf_calls.specs.declared.reply.Reply.{Reply}
-use Rattle.cf_calls.specs.declared.reply.Verdict.{Verdict}
-use Rattle.cf_calls.specs.declared.reply.Verdict.TheVariants.{Accept, Repeat, Refuse}
-use Rattle.cf_model.specs.Registers.{registers_of}
-use Rattle.cf_model.specs.Results.{made_at, made_of}
-use Rattle.cf_model.specs.Step.{verdict_of, change_body, next_by, next_of}
 use Rattle.cf_office_looks.specs.Posts.{Posts}
 use Rattle.cf_journal_book.specs.Books.{is_reply, IsDoubtAfter}
 use Rattle.cf_journal_book.specs.DurableState.{DurableState}

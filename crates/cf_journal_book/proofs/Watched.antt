@@ -1,13 +1,10 @@
 -- What is seen of one entry more.
 use Rattle.std.proofs.Common.{◌≡◌, ℕ, ◌+◌, length, arith, List, [], ◌∷◌, ◌++◌, sym, ap, subst, ◌∙◌, append-nil, Option, Some, IfSome}
-use Rattle.cf_calls.specs.declared.entry.Entry.{Entry}
-use Rattle.cf_chart.specs.Plan.{Plan}
-use Rattle.cf_model.specs.Registers.{Registers, registers_of, registers_after, registers_step, no_registers}
+use Rattle.cf_model.specs.Common.{Entry, Registers, registers_of, registers_after, registers_step, no_registers, Gov as GovBasis, act_posts, Adds}
+use Rattle.cf_chart.specs.Common.{Plan}
 use Rattle.cf_budget.specs.declared.changes.LineChange.{LineChange}
-use Rattle.cf_calls.specs.declared.read.Basis.TheVariants.{Fund as FundBasis, Gov as GovBasis}
+use Rattle.cf_calls.specs.declared.read.Basis.TheVariants.{Fund as FundBasis}
 use Rattle.cf_ledger.specs.declared.post.Post.{Post}
-use Rattle.cf_model.specs.Postings.{act_posts}
-use Rattle.cf_model.specs.Step.{Adds}
 use Rattle.cf_office.specs.BookState.{BookState, IsPrepared}
 use Rattle.cf_office.specs.declared.prepared.Prepared.{Prepared}
 use Rattle.cf_registers.specs.Moved.{Make, moved_by}

@@ -1,8 +1,7 @@
 -- An entry of another history, taken by an office that keeps its own on a disk.
 use Rattle.std.specs.Prelude.{◌≡◌, [], ◌∷◌, ◌++◌, Some, None}
 use Rattle.cf_calls.specs.declared.call.Call.TheVariants as call
-use Rattle.cf_calls.specs.declared.entry.Entry.{Entry}
-use Rattle.cf_calls.specs.declared.reply.Posted.{Posted}
+use Rattle.cf_model.specs.Common.{Entry, Posted}
 use Rattle.cf_calls.specs.declared.reply.Posted.TheVariants as posted
 use Rattle.cf_journal_book.specs.DurableState.{DurableState}
 use Rattle.cf_journal_book.specs.Recovery.{entry_refusal}

@@ -3,15 +3,10 @@ use Rattle.std.specs.Prelude.{◌≡◌, ℕ, Bool, true, List, [], ◌∷◌, �
 use Rattle.cf_budget.specs.declared.changes.LineChange.{LineChange}
 use Rattle.cf_budget.specs.Changes.{CanApply}
 use Rattle.cf_budget.specs.Tables.{Tables, has_line}
-use Rattle.cf_calls.specs.declared.call.Call.{Call}
+use Rattle.cf_model.specs.Common.{Call, Entry, Posted, registers_of, Adds, IsLegal, stripe_of, call_touches}
 use Rattle.cf_calls.specs.declared.call.Call.TheVariants as call
-use Rattle.cf_calls.specs.declared.entry.Entry.{Entry}
-use Rattle.cf_calls.specs.declared.reply.Posted.{Posted}
 use Rattle.cf_calls.specs.declared.reply.Posted.TheVariants as posted
-use Rattle.cf_chart.specs.Plan.{Plan}
-use Rattle.cf_model.specs.Registers.{registers_of}
-use Rattle.cf_model.specs.Step.{Adds, IsLegal}
-use Rattle.cf_model.specs.Stripes.{stripe_of, call_touches}
+use Rattle.cf_chart.specs.Common.{Plan}
 use Rattle.cf_registers.specs.Moved.{AreTablesOf, Make, moved_by}
 use Rattle.cf_journal_book.specs.declared.archive.Settled.{Settled}
 use Rattle.cf_journal_book.specs.declared.archive.Settled.TheVariants.{Kept, Added}

@@ -1,18 +1,12 @@
 -- A book: an office with its journal and its disk.
 use Rattle.std.specs.Prelude.{◌≡◌, ◌⊎◌, ℕ, Bool, true, false, List, ◌∷◌, ◌++◌, [], Option, Some, None, IfSome, Ok}
-use Rattle.cf_calls.specs.declared.call.Call.{Call}
+use Rattle.cf_model.specs.Common.{Call, Entry, Posted, Verdict, Accept, Adds, IsLegal, verdict_of}
 use Rattle.cf_calls.specs.declared.call.Call.TheVariants as call
-use Rattle.cf_calls.specs.declared.entry.Entry.{Entry}
-use Rattle.cf_calls.specs.declared.reply.Posted.{Posted}
 use Rattle.cf_calls.specs.declared.reply.Posted.TheVariants as posted
-use Rattle.cf_calls.specs.declared.reply.Verdict.{Verdict}
-use Rattle.cf_calls.specs.declared.reply.Verdict.TheVariants.{Accept}
-use Rattle.cf_chart.specs.Reading.{chart_of}
-use Rattle.cf_chart.specs.Plan.{Plan}
+use Rattle.cf_chart.specs.Common.{chart_of, Plan}
 use Rattle.cf_journal.specs.Journal.{IsSettled, IsInDoubt}
 use Rattle.cf_journal.specs.Layout.{RecoversTo as FramesTo}
 use Rattle.cf_journal.specs.declared.journal.Journal.{Journal}
-use Rattle.cf_model.specs.Step.{Adds, IsLegal, verdict_of}
 use Rattle.cf_journal_book.specs.DurableState.{DurableState}
 use Rattle.cf_journal_book.specs.Recovery.{RecoversTo}
 use Rattle.cf_journal_book.specs.Settling.{WouldAdd}

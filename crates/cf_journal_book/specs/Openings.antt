@@ -1,11 +1,11 @@
 -- What opening a book answers.
 use Rattle.std.specs.Prelude.{◌≡◌, ◌≢◌, ⊤, ℕ, Bool, IsTrue, List, Vec, Option, Some, None, Result, Ok, Err}
 use Rattle.std.specs.declared.alloc.Global.{Global}
-use Rattle.cf_base.specs.Causes.{Rose}
+use Rattle.cf_base.specs.Common.{Rose}
 use Rattle.cf_disk.specs.Images.{IsOnlyImage}
 use Rattle.cf_disk.specs.Moments.{AtEachMoment}
 use Rattle.cf_journal.specs.declared.journal.Journal.{Journal}
-use Rattle.cf_model.specs.State.{OfficeState}
+use Rattle.cf_model.specs.Common.{OfficeState}
 use Rattle.cf_office.specs.BookState.{BookState}
 use Rattle.cf_journal_book.specs.DurableState.{DurableBook}
 use Rattle.cf_journal_book.specs.Recovery.{recovered}

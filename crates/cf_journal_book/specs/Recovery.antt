@@ -1,20 +1,13 @@
 -- What the bytes of a journal recover to: its entries, which the office takes again one after
 -- another (own rule).
 use Rattle.std.specs.Prelude.{◌≡◌, ℕ, ◌+◌, Bool, ◌==◌, ◌&&◌, if◌then◌else◌, List, [], ◌∷◌, ◌++◌, length, Option, Some, None, Result, Ok, Err}
-use Rattle.cf_calls.specs.declared.entry.Drawn.{Drawn}
-use Rattle.cf_calls.specs.declared.entry.Entry.{Entry}
-use Rattle.cf_calls.specs.declared.reply.Verdict.{Verdict}
-use Rattle.cf_calls.specs.declared.reply.Verdict.TheVariants.{Accept, Refuse}
-use Rattle.cf_calls.specs.Refusals.{number_of}
-use Rattle.cf_chart.specs.declared.fault.ChartFault.{ChartFault}
-use Rattle.cf_chart.specs.Plan.{Plan}
-use Rattle.cf_chart.specs.Reading.{chart_of}
+use Rattle.cf_model.specs.Common.{Drawn, Entry, Verdict, Accept, Refuse, ChartFault, OfficeState, verdict_of}
+use Rattle.cf_calls.specs.Common.{number_of}
+use Rattle.cf_chart.specs.Common.{Plan, chart_of}
 use Rattle.cf_journal.specs.declared.refused.OpenRefused.{OpenRefused}
 use Rattle.cf_journal.specs.declared.refused.OpenRefused.TheVariants as open_refused
 use Rattle.cf_journal.specs.Frames.{frames}
 use Rattle.cf_journal.specs.Records.{record_len}
-use Rattle.cf_model.specs.State.{OfficeState}
-use Rattle.cf_model.specs.Step.{verdict_of}
 use Rattle.cf_journal_book.specs.declared.refused.BookRefused.{BookRefused}
 use Rattle.cf_journal_book.specs.declared.refused.BookRefused.TheVariants.{NotFounded, Damaged, NoMemory, Disk}
 

@@ -1,17 +1,9 @@
 -- One call over an office that keeps its history on a disk.
 use Rattle.std.specs.Prelude.{◌≡◌, ◌⊎◌, length, Option, Some, None}
-use Rattle.cf_base.specs.Causes.{Rose}
-use Rattle.cf_calls.specs.declared.call.Call.{Call}
+use Rattle.cf_base.specs.Common.{Rose}
+use Rattle.cf_model.specs.Common.{Call, Change, Drawn, Entry, Body, Posted, Verdict, Accept, body_of, next_of, verdict_of}
 use Rattle.cf_calls.specs.declared.call.Call.TheVariants as call
-use Rattle.cf_calls.specs.declared.call.Change.{Change}
-use Rattle.cf_calls.specs.declared.entry.Drawn.{Drawn}
-use Rattle.cf_calls.specs.declared.entry.Entry.{Entry}
-use Rattle.cf_calls.specs.declared.reply.Body.{Body}
-use Rattle.cf_calls.specs.declared.reply.Posted.{Posted}
 use Rattle.cf_calls.specs.declared.reply.Posted.TheVariants as posted
-use Rattle.cf_calls.specs.declared.reply.Verdict.{Verdict}
-use Rattle.cf_calls.specs.declared.reply.Verdict.TheVariants.{Accept}
-use Rattle.cf_model.specs.Step.{body_of, next_of, verdict_of}
 use Rattle.cf_journal_book.specs.DurableState.{DurableState}
 
 -- nothing is in doubt once a change is accepted: what was is mended first

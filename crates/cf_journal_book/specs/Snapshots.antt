@@ -1,7 +1,7 @@
 -- What a book keeps for proofs alone.
 use Rattle.std.specs.Prelude.{◌≡◌, ◌⊎◌, Option, Some, None}
 use Rattle.std.specs.declared.snapshot.Snapshot.{Snapshot}
-use Rattle.cf_calls.specs.declared.entry.Entry.{Entry}
+use Rattle.cf_model.specs.Common.{Entry}
 
 abbrev pub doubt_of : Option (Snapshot Entry) → Option Entry
 doubt_of None = None

@@ -2,13 +2,10 @@
 -- being opened.
 use Rattle.std.specs.Prelude.{◌≡◌, ℕ, ◌+◌, List, [], ◌∷◌, length}
 use Rattle.cf_budget.specs.declared.changes.LineChange.{LineChange}
-use Rattle.cf_calls.specs.declared.entry.Entry.{Entry}
-use Rattle.cf_calls.specs.declared.read.Basis.TheVariants.{Fund as FundBasis, Gov as GovBasis}
-use Rattle.cf_chart.specs.Plan.{Plan}
+use Rattle.cf_model.specs.Common.{Entry, Gov as GovBasis, act_posts, Registers, no_registers, registers_of, registers_step, Adds, IsLegal}
+use Rattle.cf_calls.specs.declared.read.Basis.TheVariants.{Fund as FundBasis}
+use Rattle.cf_chart.specs.Common.{Plan}
 use Rattle.cf_ledger.specs.declared.post.Post.{Post}
-use Rattle.cf_model.specs.Postings.{act_posts}
-use Rattle.cf_model.specs.Registers.{Registers, no_registers, registers_of, registers_step}
-use Rattle.cf_model.specs.Step.{Adds, IsLegal}
 use Rattle.cf_registers.specs.Moved.{Make, moved_by}
 
 -- an entry at its place, from 1, with the registers before it and its posts

@@ -3,15 +3,14 @@
 ghost use Rattle.std.specs.Prelude.{◌≡◌, ◌++◌, ◌∷◌, [], false, ℕ, List, Ok, Some, None, IsSome, IfSome, IfOk, IfErr, OnOk, OnErr, IsTrue};
 ghost use Rattle.cf_model_articulation.specs.Articulates.{AllArticulate};
 ghost use Rattle.cf_budget.specs.Tables.{has_line, SameRows, SameStripes};
-ghost use Rattle.cf_calls.specs.Form.{IsCallInForm, IsChangeInForm, IsEntryInForm};
+ghost use Rattle.cf_calls.specs.Common.{IsCallInForm, IsChangeInForm, IsEntryInForm};
 ghost use Rattle.cf_calls.specs.declared.call.Call.TheVariants as calls;
 ghost use Rattle.cf_calls.specs.declared.reply.Posted.TheVariants as posted;
-ghost use Rattle.cf_calls.specs.declared.reply.Verdict.TheVariants.{Accept};
-ghost use Rattle.cf_chart.specs.Reading.{chart_of};
+ghost use Rattle.cf_model.specs.Common.{Accept, IsSoundState};
+ghost use Rattle.cf_chart.specs.Common.{chart_of};
 ghost use Rattle.cf_model_closed.specs.ClosedYears.{ClosedYearsStay};
 ghost use Rattle.cf_disk.specs.Moments.{AtEachMoment};
 ghost use Rattle.cf_journal.specs.Journal.{IsSettled, Reserves, SamePlace};
-ghost use Rattle.cf_model.specs.State.{IsSoundState};
 ghost use Rattle.cf_model.specs.Step as step;
 ghost use Rattle.cf_registers.specs.Lines.{LendsTouched};
 ghost use Rattle.cf_registers.specs.Moved.{AreTablesOf};

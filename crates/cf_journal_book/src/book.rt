@@ -1,21 +1,19 @@
 //! The book of one thread: an archive, and the line numbers of its history.
 
 ghost use Rattle.std.specs.Prelude.{◌≡◌, ◌++◌, ◌∷◌, [], false, true, length, ℕ, List, Ok, Some, None, IfOk, IfSome, IsTrue, if◌then◌else◌, ◌≤◌, All, IsSome};
-ghost use Rattle.cf_base.specs.Causes.{Rose};
+ghost use Rattle.cf_base.specs.Common.{Rose, most_entries};
 ghost use Rattle.cf_model_articulation.specs.Articulates.{AllArticulate};
 ghost use Rattle.cf_budget.specs.Tables.{has_line};
-ghost use Rattle.cf_base.specs.Limits.{most_entries};
-ghost use Rattle.cf_calls.specs.Form.{IsCallInForm, IsEntryInForm, IsYear};
+ghost use Rattle.cf_calls.specs.Common.{IsCallInForm, IsEntryInForm, IsYear};
 ghost use Rattle.cf_calls.specs.declared.call.Call.TheVariants as calls;
 ghost use Rattle.cf_calls.specs.declared.reply.Posted.TheVariants as posted;
-ghost use Rattle.cf_chart.specs.Reading.{chart_of};
+ghost use Rattle.cf_chart.specs.Common.{chart_of};
 ghost use Rattle.cf_model_closed.specs.ClosedYears.{ClosedYearsStay};
 ghost use Rattle.cf_disk.specs.Moments.{AtEachMoment};
 ghost use Rattle.cf_journal.specs.Journal.{IsSettled};
 ghost use Rattle.cf_model.specs.Report as report;
-ghost use Rattle.cf_model.specs.State.{IsSoundState};
+ghost use Rattle.cf_model.specs.Common.{IsSoundState, IsLegal};
 ghost use Rattle.cf_model.specs.Step as step;
-ghost use Rattle.cf_model.specs.Step.{IsLegal};
 ghost use Rattle.cf_registers.specs.Moved.{AreTablesOf};
 ghost use Rattle.cf_journal_book.specs.Books.{accepts, is_reply, IsInHand, RecoversNear};
 ghost use Rattle.cf_journal_book.specs.Admitting.{Admits};

@@ -1,7 +1,7 @@
 //! The statements of a book that `report` alone prints.
 
 ghost use Rattle.std.specs.Prelude.{◌≡◌, IfOk};
-ghost use Rattle.cf_calls.specs.Form.{IsYear};
+ghost use Rattle.cf_calls.specs.Common.{IsYear};
 ghost use Rattle.cf_classes.specs.Statements as spec;
 
 use crate::book::Book;

@@ -1,18 +1,16 @@
 //! Opening a book: the journal's entries are judged again, one after another.
 
 ghost use Rattle.std.specs.Prelude.{◌≡◌, ◌+◌, ◌<◌, ◌^◌, [], ◌++◌, ◌∷◌, ℕ, List, length, All, Ok, IsTrue, IfOk, IfSome, OnOk, IfErr};
-ghost use Rattle.cf_base.specs.Limits.{most_entries};
-ghost use Rattle.cf_calls.specs.declared.entry.Entry.{Entry};
-ghost use Rattle.cf_calls.specs.Form.{IsEntryInForm};
-ghost use Rattle.cf_chart.specs.Reading.{chart_of};
+ghost use Rattle.cf_base.specs.Common.{most_entries};
+ghost use Rattle.cf_model.specs.Common.{Entry, IsSoundState, Adds};
+ghost use Rattle.cf_calls.specs.Common.{IsEntryInForm};
+ghost use Rattle.cf_chart.specs.Common.{chart_of};
 ghost use Rattle.cf_disk.specs.Images.{IsOnlyImage};
 ghost use Rattle.cf_disk.specs.Moments.{AtEachMoment};
 ghost use Rattle.cf_journal.specs.Answers.{HasDiskCause};
 ghost use Rattle.cf_journal.specs.Frames.{frames};
 ghost use Rattle.cf_journal.specs.Journal.{IsSettled};
 ghost use Rattle.cf_journal.specs.Records.{HasRecord};
-ghost use Rattle.cf_model.specs.State.{IsSoundState};
-ghost use Rattle.cf_model.specs.Step.{Adds};
 ghost use Rattle.cf_office.specs.BookState.{IsPrepared};
 ghost use Rattle.cf_journal_book.specs.Recovery as spec;
 ghost use Rattle.cf_journal_book.specs.Recovery.{first_refused, recovered};

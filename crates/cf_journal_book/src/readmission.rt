@@ -2,7 +2,7 @@
 
 ghost use Rattle.std.specs.Prelude.{◌≡◌};
 ghost use Rattle.cf_budget.specs.Tables.{has_line};
-ghost use Rattle.cf_calls.specs.Form.{IsEntryInForm};
+ghost use Rattle.cf_calls.specs.Common.{IsEntryInForm};
 ghost use Rattle.cf_registers.specs.Lines.{LendsTouched};
 ghost use Rattle.cf_journal_book.specs.Recovery as spec;
 

@@ -2,8 +2,8 @@
 
 ghost use Rattle.std.specs.Prelude.{⊤, ◌++◌, ◌∷◌, [], List, OnOk};
 ghost use Rattle.cf_journal_book.specs.Watching.{Posted, IsNext, all_posted, shown_as};
-ghost use Rattle.cf_calls.specs.declared.entry.Entry.{Entry};
-ghost use Rattle.cf_chart.specs.Plan.{Plan};
+ghost use Rattle.cf_model.specs.Common.{Entry};
+ghost use Rattle.cf_chart.specs.Common.{Plan};
 
 use cf_budget::LineChange;
 use cf_calls::Entry;

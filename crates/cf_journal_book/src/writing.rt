@@ -2,8 +2,8 @@
 //! raised where the entry needs it.
 
 ghost use Rattle.std.specs.Prelude.{◌≡◌, true, false, ◌+◌, ◌<◌, ◌^◌, ◌++◌, ◌∷◌, [], List, ℕ, Some, None, IsTrue, OnOk, OnErr};
-ghost use Rattle.cf_base.specs.Causes.{HasCause};
-ghost use Rattle.cf_calls.specs.declared.entry.Entry.{Entry as EntryOf};
+ghost use Rattle.cf_base.specs.Common.{HasCause};
+ghost use Rattle.cf_model.specs.Common.{Entry as EntryOf};
 ghost use Rattle.cf_disk.specs.Moments.{AtEachMoment};
 ghost use Rattle.cf_journal.specs.Journal.{count_of, version_of, has_act, in_doubt, Reserves, IsSettled};
 ghost use Rattle.cf_journal.specs.Layout.{RecoversTo as FramesTo};

@@ -1,9 +1,6 @@
 -- Parts of a stream, one after another.
-use Rattle.std.proofs.Common.{◌≡◌, ◌≢◌, ◌⊎◌, inl, inr, ℕ, ◌+◌, ◌<◌, ◌≤◌, ◌^◌, List, [], ◌∷◌, ◌++◌, length, length-append, refl, sym, subst, arith, Option}
-use Rattle.std.specs.Int.{w32, w64, to_be_bytes}
-use Rattle.std.specs.Io.KnownBytes.{Consumes, IsAtEnd}
-use Rattle.std.proofs.KnownBytes.{Consumes-trans}
-use Rattle.std.specs.Prelude.{MatchOption, IfSome, Some, None}
+use Rattle.std.proofs.Common.{◌≡◌, ◌≢◌, ◌⊎◌, inl, inr, ℕ, ◌+◌, ◌<◌, ◌≤◌, ◌^◌, List, [], ◌∷◌, ◌++◌, length, length-append, refl, sym, subst, arith, Option, w32, w64, MatchOption, IfSome, Some, None}
+use Rattle.cf_base.proofs.Common.{to_be_bytes, Consumes, IsAtEnd, Consumes-trans}
 use Rattle.cf_base_lines.specs.Reads.{IsRead}
 use Rattle.cf_journal_stream.specs.Parts.{IsWhy, NoFault, ReadsNone}
 use Rattle.cf_journal_stream.specs.Readings.{CutBefore, ReadsLong}

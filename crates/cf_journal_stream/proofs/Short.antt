@@ -1,6 +1,6 @@
 -- The payload of an entry in form has at most 43,576 bytes, which is the longest adoption.
 use Rattle.std.proofs.Common.{◌≡◌, ℕ, ◌+◌, ◌*◌, ◌≤◌, true, List, [], ◌∷◌, length, Option, Some, None, refl, arith}
-use Rattle.std.proofs.lemmas.Bool.Decides.{nat_tests}
+use Rattle.cf_base.proofs.Common.{nat_tests}
 use Rattle.cf_base.specs.declared.calendar.Day.{Day}
 use Rattle.cf_calls.specs.declared.acts.Act.{Act}
 use Rattle.cf_calls.specs.declared.acts.Act.TheVariants.{Adopt, Amend, Transfer, Requisition, Withdraw, Order, ChangeOrder, CancelOrder, Voucher, VoidVoucher, Pay, Bill, Collect, Receive, WriteOff, Asset, Issue, PayDue, Leave, Interfund, Close, Lease}
@@ -14,8 +14,7 @@ use Rattle.cf_calls.specs.declared.entry.Drawn.{Drawn}
 use Rattle.cf_calls.specs.declared.entry.Entry.{Entry}
 use Rattle.cf_calls.specs.declared.kind.Draws.{Draws}
 use Rattle.cf_calls.specs.declared.kind.Draws.TheVariants.{Nothing}
-use Rattle.cf_calls.specs.Form.{is_key, IsActInForm, IsEntryInForm}
-use Rattle.cf_calls.specs.Kinds.{draws_of}
+use Rattle.cf_calls.specs.Common.{is_key, IsActInForm, IsEntryInForm, draws_of}
 use Rattle.cf_codec_fields.specs.Formats.{Format, each_size}
 use Rattle.cf_codec_fields.specs.Fields.{word, most_amount}
 use Rattle.cf_codec.specs.Acts.{line_amount, source_amount, account_item, charge, voucher_item, optional, act_size}

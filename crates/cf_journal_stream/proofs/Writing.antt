@@ -1,7 +1,6 @@
 -- Records are written one after another.
 use Rattle.std.proofs.Common.{◌≡◌, ◌≢◌, ℕ, ◌+◌, ◌<◌, List, [], ◌∷◌, ◌++◌, length, take, drop, get_or, refl, sym, ◌∙◌, ap, subst, append_assoc, Option}
-use Rattle.std.proofs.KnownBytes.{Appends-nil, Appends-trans}
-use Rattle.std.proofs.lemmas.List.{append-nil, take_more, take-append-drop}
+use Rattle.cf_base.proofs.Common.{Appends-nil, Appends-trans, append-nil, take_more, take-append-drop}
 use Rattle.cf_calls.specs.declared.entry.Entry.{Entry}
 use Rattle.cf_base_lines.specs.Sinks.{Wrote}
 use Rattle.cf_journal.specs.Records.{record_of, records_of}

@@ -1,7 +1,7 @@
 -- A part of a stream that isn't read.
 use Rattle.std.specs.Prelude.{◌≡◌, ℕ, List, Option}
 use Rattle.std.specs.Io.KnownBytes.{Consumes}
-use Rattle.cf_base.specs.Causes.{Rose}
+use Rattle.cf_base.specs.Common.{Rose}
 use Rattle.cf_journal_stream.specs.declared.reader.Unread.{Unread}
 use Rattle.cf_journal_stream.specs.declared.reader.Unread.TheVariants as unread
 

@@ -1,7 +1,7 @@
 //! Payloads of records.
 
 ghost use Rattle.std.specs.Prelude.{IfOk};
-ghost use Rattle.cf_calls.specs.Form.{IsEntryInForm};
+ghost use Rattle.cf_calls.specs.Common.{IsEntryInForm};
 ghost use Rattle.cf_journal_stream.specs.Readings.{IsCompared, IsRead};
 
 use cf_calls::Entry;

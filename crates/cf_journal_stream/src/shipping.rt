@@ -1,8 +1,8 @@
 //! Shipping a history.
 
 ghost use Rattle.std.specs.Prelude.{◌≡◌, ◌≢◌, ◌<◌, ◌≤◌, ◌++◌, ◌∷◌, [], All, ℕ, List, drop, length, IfOk, IfErr, OnOk, OnErr};
-ghost use Rattle.cf_base.specs.Causes.{Rose};
-ghost use Rattle.cf_calls.specs.Form.{IsEntryInForm};
+ghost use Rattle.cf_base.specs.Common.{Rose};
+ghost use Rattle.cf_calls.specs.Common.{IsEntryInForm};
 ghost use Rattle.cf_base_lines.specs.Sinks.{Wrote};
 ghost use Rattle.cf_journal.specs.Records.{record_of, records_of};
 ghost use Rattle.cf_journal_stream.specs.Streams.{most_chart, head_of, stream_of};

@@ -1,7 +1,7 @@
 -- The value of bytes, by whether they are text.
-use Rattle.std.proofs.Common.{◌≡◌, ℕ, List, Bool, true, false, cond, Option, None, refl, ap, ◌∙◌, sym, Result, subst}
-use Rattle.std.specs.Str.{IsUtf8, is_utf8}
-use Rattle.std.proofs.lemmas.Str.{IsUtf8-from_is_utf8, is_utf8-from_IsUtf8}
+use Rattle.std.proofs.Common.{◌≡◌, ℕ, List, Bool, true, false, cond, Option, None, refl, ap, ◌∙◌, sym, Result, subst, IsUtf8}
+use Rattle.std.specs.Str.{is_utf8}
+use Rattle.cf_base.proofs.Common.{IsUtf8-from_is_utf8, is_utf8-from_IsUtf8}
 use Rattle.serde_json.specs.Data.{Data}
 use Rattle.serde_json.specs.Read.{read}
 use Rattle.cf_json_members.specs.declared.fault.FormFault.{FormFault}

@@ -1,6 +1,5 @@
 -- A word in a table that borrows its words.
-use Rattle.std.proofs.Common.{◌≡◌, ℕ, List, [], ◌∷◌, Bool, true, false, Option, Some, option_map, find, refl, Bor, cond}
-use Rattle.std.specs.Str.{bytes_eq}
+use Rattle.std.proofs.Common.{◌≡◌, ℕ, List, [], ◌∷◌, Bool, true, false, Option, Some, option_map, find, refl, Bor, cond, bytes_eq}
 use Rattle.cf_json_members.specs.Kinds.{word_in}
 use Rattle.cf_json.specs.Words.{plain_words}
 

@@ -3,7 +3,7 @@ use Rattle.std.specs.Prelude.{ℕ, ◌+◌, ◌*◌, ◌==◌, not, nat_le, nat_
 use Rattle.serde_json.specs.Data.{Data}
 use Rattle.serde_json.specs.Find.{as_bool}
 use Rattle.cf_base.specs.declared.calendar.Day.{Day}
-use Rattle.cf_base.specs.Limits.{last_year}
+use Rattle.cf_base.specs.Common.{last_year}
 use Rattle.cf_calls.specs.declared.acts.Act.{Act}
 use Rattle.cf_calls.specs.declared.acts.Act.TheVariants.{Adopt, Amend, Transfer, Requisition, Withdraw, Order, ChangeOrder, CancelOrder, Voucher, VoidVoucher, Pay, Bill, Collect, Receive, WriteOff, Asset, Issue, PayDue, Leave, Interfund, Close, Lease}
 use Rattle.cf_calls.specs.declared.acts.BillAmount.{BillAmount}
@@ -13,7 +13,7 @@ use Rattle.cf_calls.specs.declared.acts.LeaveAmount.{LeaveAmount}
 use Rattle.cf_calls.specs.declared.acts.LeaveMaturity.{LeaveMaturity}
 use Rattle.cf_calls.specs.declared.acts.Period.TheVariants as period
 use Rattle.cf_calls.specs.declared.acts.Terms.{Terms}
-use Rattle.cf_calls.specs.Form.{is_period, month_number}
+use Rattle.cf_calls.specs.Common.{is_period, month_number}
 use Rattle.cf_json_members.specs.declared.fault.FormFault.{FormFault}
 use Rattle.cf_calls.specs.declared.kind.ActKind.{ActKind}
 use Rattle.cf_calls.specs.declared.kind.ActKind.TheVariants as word

@@ -10,7 +10,7 @@ use Rattle.cf_calls.specs.declared.items.Charge.{Charge}
 use Rattle.cf_calls.specs.declared.items.Charge.TheVariants.{Direct, OnOrder}
 use Rattle.cf_calls.specs.declared.items.Liquidation.{Liquidation}
 use Rattle.cf_calls.specs.declared.items.Liquidation.TheVariants.{Lesser, Recorded, Final}
-use Rattle.cf_calls.specs.Form.{same_line, same_source, same_number, same_order_item}
+use Rattle.cf_calls.specs.Common.{same_line, same_source, same_number, same_order_item}
 use Rattle.cf_json_members.specs.Fields.{maybe, has_only}
 use Rattle.cf_json_members.specs.Kinds.{kept, as_n16, as_n32, as_count, as_amount}
 use Rattle.cf_json_members.specs.Lists.{as_list}

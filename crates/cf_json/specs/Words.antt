@@ -4,7 +4,7 @@ use Rattle.std.specs.Borrow.{Bor}
 use Rattle.serde_json.specs.Data.{Data}
 use Rattle.serde_json.specs.Find.{as_str}
 use Rattle.cf_base.specs.declared.statement.Kind.{Kind}
-use Rattle.cf_base.specs.Statements.{statement_of}
+use Rattle.cf_base.specs.Common.{statement_of}
 use Rattle.cf_calls.specs.declared.read.Basis.{Basis}
 use Rattle.cf_calls.specs.declared.read.Basis.TheVariants as basis
 use Rattle.cf_calls.specs.declared.acts.FundMoveKind.{FundMoveKind}
@@ -16,7 +16,7 @@ use Rattle.cf_json.specs.declared.words.LeaveWord.TheVariants as leave
 use Rattle.cf_json.specs.declared.words.PeriodWord.{PeriodWord}
 use Rattle.cf_json.specs.declared.words.PeriodWord.TheVariants as period
 use Rattle.cf_calls.specs.declared.kind.ActKind.{ActKind}
-use Rattle.cf_calls.specs.Kinds.{kind_named}
+use Rattle.cf_calls.specs.Common.{kind_named}
 use Rattle.cf_json.specs.declared.words.LookWord.{LookWord}
 use Rattle.cf_json.specs.declared.words.LookWord.TheVariants as look
 

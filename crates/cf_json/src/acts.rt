@@ -2,9 +2,9 @@
 //! they speak.
 
 ghost use Rattle.std.specs.Prelude.{◌≡◌, ◌≤◌, ◌+◌, ◌*◌, nat_le, nat_lt, sum, length, map, IfOk};
-ghost use Rattle.cf_base.specs.Limits.{last_year};
+ghost use Rattle.cf_base.specs.Common.{last_year};
 ghost use Rattle.serde_json.specs.View.{view};
-ghost use Rattle.cf_calls.specs.Form.{IsTermsForm, IsActInForm, is_period, month_number};
+ghost use Rattle.cf_calls.specs.Common.{IsTermsForm, IsActInForm, is_period, month_number};
 ghost use Rattle.cf_json_members.specs.Faults.{Gives};
 ghost use Rattle.cf_json.specs.Acts as spec;
 

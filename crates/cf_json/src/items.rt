@@ -2,10 +2,9 @@
 
 ghost use Rattle.std.specs.Prelude.{◌≡◌, true, Some, None, IfSome, refl};
 ghost use Rattle.serde_json.specs.View.{view};
-ghost use Rattle.cf_base.specs.Money.{is_amount};
-ghost use Rattle.cf_calls.specs.Form.{same_line, same_source, same_number, same_order_item, is_liquidation_form, is_charge_form};
+ghost use Rattle.cf_base.specs.Common.{is_amount};
+ghost use Rattle.cf_calls.specs.Common.{same_line, same_source, same_number, same_order_item, is_liquidation_form, is_charge_form, charged_item, same_charged};
 ghost use Rattle.cf_json_members.specs.Kinds.{as_n32, as_count};
-ghost use Rattle.cf_calls.specs.Charges.{charged_item, same_charged};
 ghost use Rattle.cf_json.specs.Items as spec;
 ghost use Rattle.cf_json.specs.Items.{as_line_amount, as_source_amount, as_account, as_account_item, as_voucher_item, never};
 

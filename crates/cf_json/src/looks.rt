@@ -2,7 +2,7 @@
 
 ghost use Rattle.std.specs.Prelude.{◌≡◌, map, IfOk};
 ghost use Rattle.serde_json.specs.View.{view};
-ghost use Rattle.cf_calls.specs.Form.{IsReadInForm};
+ghost use Rattle.cf_calls.specs.Common.{IsReadInForm};
 ghost use Rattle.cf_json_members.specs.Faults.{Gives};
 ghost use Rattle.cf_json.specs.Reads as spec;
 

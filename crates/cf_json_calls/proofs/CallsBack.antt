@@ -1,6 +1,6 @@
 -- The value of a change's line is read back as that change.
 use Rattle.std.proofs.Common.{◌≡◌, ℕ, ◌+◌, ◌*◌, Bool, true, false, nat_lt, sum, List, length, Option, Some, None, Ok, lt-ltb, le-leb, ne_eqb, eq-eqb}
-use Rattle.cf_base.specs.Calendar.{day_of_text, day_text}
+use Rattle.cf_base.specs.Common.{day_of_text, day_text}
 use Rattle.cf_calls.specs.declared.acts.Act.{Act}
 use Rattle.cf_calls.specs.declared.acts.Act.TheVariants.{Adopt, Amend, Transfer, Requisition, Withdraw, Order, ChangeOrder, CancelOrder, Voucher, VoidVoucher, Pay, Bill, Collect, Receive, WriteOff, Asset, Issue, PayDue, Leave, Interfund, Close, Lease}
 use Rattle.cf_calls.specs.declared.acts.Adoption.{Adoption}
@@ -29,7 +29,7 @@ use Rattle.cf_calls.specs.declared.acts.FundMoveKind.TheVariants as move
 use Rattle.cf_calls.specs.declared.acts.Period.TheVariants as period
 use Rattle.cf_calls.specs.declared.call.Call.TheVariants as call
 use Rattle.cf_calls.specs.declared.call.Change.{Change}
-use Rattle.cf_calls.specs.Form.{IsActInForm, IsChangeInForm, is_key, month_number}
+use Rattle.cf_calls.specs.Common.{IsActInForm, IsChangeInForm, is_key, month_number}
 use Rattle.cf_json.specs.Calls.{object_call_of}
 use Rattle.cf_json_calls.specs.CallText.{call_data}
 use Rattle.cf_json_calls.specs.Fits.{ActFits, ChangeFits}

@@ -1,6 +1,6 @@
 -- The line of a change can be read: its numbers are short and its texts ASCII.
-use Rattle.std.proofs.Common.{◌≡◌, ℕ, ◌^◌, ◌&&◌, Bool, true, false, nat_lt, nat_le, List, [], ◌∷◌, ◌++◌, length, Option, Some, None, refl, arith, lt-ltb, leb-true, codes}
-use Rattle.std.specs.List.{All, list_all}
+use Rattle.std.proofs.Common.{◌≡◌, ℕ, ◌^◌, ◌&&◌, Bool, true, false, nat_lt, nat_le, List, [], ◌∷◌, ◌++◌, length, Option, Some, None, refl, arith, lt-ltb, leb-true, codes, All}
+use Rattle.cf_base.proofs.Common.{list_all, and_parts}
 use Rattle.serde_json.specs.Data.{Data}
 use Rattle.cf_calls.specs.declared.acts.Act.{Act}
 use Rattle.cf_calls.specs.declared.acts.Act.TheVariants.{Adopt, Amend, Transfer, Requisition, Withdraw, Order, ChangeOrder, CancelOrder, Voucher, VoidVoucher, Pay, Bill, Collect, Receive, WriteOff, Asset, Issue, PayDue, Leave, Interfund, Close, Lease}
@@ -14,15 +14,13 @@ use Rattle.cf_calls.specs.declared.acts.FundMoveKind.{FundMoveKind}
 use Rattle.cf_calls.specs.declared.acts.FundMoveKind.TheVariants as move
 use Rattle.cf_calls.specs.declared.acts.Period.TheVariants as period
 use Rattle.cf_calls.specs.declared.call.Change.{Change}
-use Rattle.cf_calls.specs.Form.{IsActInForm, IsChangeInForm, is_key}
+use Rattle.cf_calls.specs.Common.{IsActInForm, IsChangeInForm, is_key, is_key_byte}
 use Rattle.cf_json_calls.specs.CallText.{call_data}
 use Rattle.cf_json_calls.specs.Fits.{IsN16, IsN32, IsN64, HasFit, ActFits, ChangeFits, LineAmountFits, SourceAmountFits, AccountFits, VoucherItemFits}
 use Rattle.cf_json_calls.specs.Values.{line_amount_data, source_amount_data, account_item_data, voucher_item_data}
 use Rattle.cf_json_calls.proofs.Days.{day_ascii, month_ascii}
 use Rattle.cf_json_calls.proofs.ListsBack as items
-use Rattle.std.proofs.lemmas.Bool.{and_parts}
 use Rattle.json.proofs.Printed.Utf8.{are_ascii}
-use Rattle.cf_calls.specs.Form.{is_key_byte}
 use Rattle.cf_json_members.specs.Objects.{members}
 use Rattle.cf_json_calls.specs.CallText.{call_word, own_fields, first_fields, optional_field}
 use Rattle.cf_json_calls.proofs.Sorted.{can_read, members_can_read}

@@ -1,11 +1,11 @@
 -- The texts of days and months are read back.
 use Rattle.std.proofs.Common.{◌≡◌, ℕ, ◌+◌, ◌-◌, ◌*◌, ◌/◌, ◌%◌, ◌<◌, ◌≤◌, Bool, true, false, cond, nat_lt, Some, arith, le-leb, lt-ltb, le_trans}
 use Rattle.json.proofs.Printed.Utf8.{are_ascii}
-use Rattle.cf_base.proofs.DayNumbers.{parts}
+use Rattle.cf_base.proofs.Common.{parts}
 use Rattle.cf_base.specs.declared.calendar.Day.{Day}
 use Rattle.cf_base.specs.declared.calendar.Month.{Month}
-use Rattle.cf_base.specs.Calendar.{is_day, is_digit, last_digit, day_text, day_of_text, month_text, month_of_text}
-use Rattle.cf_calls.specs.Form.{IsCallMonth}
+use Rattle.cf_base.specs.Common.{is_day, is_digit, last_digit, day_text, day_of_text, month_text, month_of_text}
+use Rattle.cf_calls.specs.Common.{IsCallMonth}
 
 digit : (n : ℕ) → is_digit (last_digit n) ≡ true
 digit n = rw (le-leb 48 (48 + n % 10) (omega arith), le-leb (48 + n % 10) 57 (omega arith))

@@ -1,8 +1,6 @@
 -- The items of a call's lists are read back.
-use Rattle.std.proofs.Common.{◌≡◌, ℕ, suc, ◌≤◌, ◌^◌, ℤ, pos, negsuc, Bool, true, false, List, [], ◌∷◌, length, map, Option, Some, refl, arith, lt-ltb, le-leb, FitsSigned}
-use Rattle.std.specs.Int.{w64}
-use Rattle.std.specs.List.{All, list_all, list_any}
-use Rattle.std.proofs.lemmas.Bool.{and_parts}
+use Rattle.std.proofs.Common.{◌≡◌, ℕ, suc, ◌≤◌, ◌^◌, ℤ, pos, negsuc, Bool, true, false, List, [], ◌∷◌, length, map, Option, Some, refl, arith, lt-ltb, le-leb, FitsSigned, w64, All}
+use Rattle.cf_base.proofs.Common.{list_all, list_any, and_parts}
 use Rattle.serde_json.specs.Data.{Data}
 use Rattle.serde_json.specs.View.{items_of}
 use Rattle.cf_calls.specs.declared.items.LineAmount.{LineAmount}
@@ -12,7 +10,7 @@ use Rattle.cf_calls.specs.declared.items.VoucherItem.{VoucherItem}
 use Rattle.cf_calls.specs.declared.items.Charge.{Charge}
 use Rattle.cf_calls.specs.declared.items.Charge.TheVariants.{Direct, OnOrder}
 use Rattle.cf_calls.specs.declared.items.Liquidation.TheVariants.{Lesser, Recorded, Final}
-use Rattle.cf_calls.specs.Form.{is_by, is_distinct, is_charge_form, IsCount, IsVoucherForm, same_line, same_source, same_order_item, same_number}
+use Rattle.cf_calls.specs.Common.{is_by, is_distinct, is_charge_form, IsCount, IsVoucherForm, same_line, same_source, same_order_item, same_number}
 use Rattle.cf_json.specs.Items.{never, as_line_amount, as_source_amount, as_account_item, as_voucher_item, as_line_amounts, as_source_amounts, as_account_items, as_voucher_items, as_vouchers, as_principals}
 use Rattle.cf_json_members.specs.Lists.{each, as_list}
 use Rattle.cf_json_members.specs.Kinds.{as_by, as_count, as_n32}

@@ -1,11 +1,7 @@
 -- The text of a value is read back as that value, with the members of its objects in order.
 use Rattle.std.proofs.Common.{◌≡◌, ℕ, zero, suc, ◌<◌, ◌≤◌, ◌^◌, ◌&&◌, pos, negsuc, List, [], ◌∷◌, Bool, true, false, Option, Some, option_map, option_and_then, decimal, refl, sym, ap, ◌∙◌, arith, append-nil, ltb-true, lt-ltb, IsUtf8}
 use Rattle.std.specs.Str.{is_utf8}
-use Rattle.std.proofs.lemmas.Bool.{and_parts, false≢true}
-use Rattle.std.proofs.lemmas.Str.{IsUtf8-append, is_utf8-from_IsUtf8}
-use Rattle.std.proofs.lemmas.Fmt.{decimal_is_IsNumeral}
-use Rattle.std.proofs.lemmas.Str.Parse.{digit_from_value}
-use Rattle.std.specs.Str.Parse.{AllDigits}
+use Rattle.cf_base.proofs.Common.{and_parts, false≢true, IsUtf8-append, is_utf8-from_IsUtf8, decimal_is_IsNumeral, digit_from_value, AllDigits}
 use Rattle.json.specs.Json as json
 use Rattle.json.specs.Token.{Token}
 use Rattle.json.specs.Tree as tree

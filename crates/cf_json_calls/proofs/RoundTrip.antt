@@ -3,7 +3,7 @@ use Rattle.std.proofs.Common.{◌≡◌, cond, None, Ok, ap, ◌∙◌, arith}
 use Rattle.serde_json.specs.Read.{read}
 use Rattle.cf_calls.specs.declared.call.Call.TheVariants as call
 use Rattle.cf_calls.specs.declared.call.Change.{Change}
-use Rattle.cf_calls.specs.Form.{IsChangeInForm}
+use Rattle.cf_calls.specs.Common.{IsChangeInForm}
 use Rattle.cf_json.specs.Calls.{call_in, call_of}
 use Rattle.cf_json_members.specs.Objects.{text_of}
 use Rattle.cf_json_calls.specs.CallText.{call_data, call_text}

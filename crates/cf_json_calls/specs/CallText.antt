@@ -33,7 +33,7 @@ use Rattle.cf_calls.specs.declared.acts.Period.{Period}
 use Rattle.cf_calls.specs.declared.acts.Period.TheVariants as period
 use Rattle.cf_calls.specs.declared.items.SourceAmount.{SourceAmount}
 use Rattle.cf_calls.specs.declared.call.Change.{Change}
-use Rattle.cf_calls.specs.Kinds.{kind_of, word_of}
+use Rattle.cf_calls.specs.Common.{kind_of, word_of}
 use Rattle.cf_json_members.specs.Objects.{fields, count, day, month, text_of, list_of}
 use Rattle.cf_json_calls.specs.Values.{signed, line_amount_data, source_amount_data, account_fields, account_item_data, voucher_item_data}
 

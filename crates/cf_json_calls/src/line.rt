@@ -3,7 +3,7 @@
 ghost use Rattle.std.specs.Prelude.{◌≡◌, ◌++◌, false, true, codes, Ok, OnOk};
 ghost use Rattle.std.specs.List.{list_all};
 ghost use Rattle.cf_calls.specs.declared.call.Call.TheVariants as call;
-ghost use Rattle.cf_calls.specs.Form.{IsChangeInForm, is_key};
+ghost use Rattle.cf_calls.specs.Common.{IsChangeInForm, is_key};
 ghost use Rattle.cf_json.specs.Calls.{call_of};
 ghost use Rattle.cf_json_members.specs.Parts.{is_plain};
 ghost use Rattle.cf_json_calls.specs.CallText as spec;

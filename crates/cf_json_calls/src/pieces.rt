@@ -5,7 +5,7 @@ ghost use Rattle.std.specs.List.{list_all};
 ghost use Rattle.json.specs.Print.{escape_byte, quoted};
 ghost use Rattle.serde_json.specs.Data.{string};
 ghost use Rattle.serde_json.specs.Written.{comma_if};
-ghost use Rattle.cf_calls.specs.Form.{is_key_byte};
+ghost use Rattle.cf_calls.specs.Common.{is_key_byte};
 ghost use Rattle.cf_json_members.specs.Objects.{text_of};
 ghost use Rattle.cf_json_members.specs.Parts.{is_plain, is_plain_field, fields_of};
 ghost use Rattle.cf_json_calls.specs.CallText.{fields_text};

@@ -1,7 +1,6 @@
 -- What is read of a receipt's or a bill's line is that call.
 use Rattle.std.proofs.Common.{◌≡◌, ℕ, ◌^◌, ◌&&◌, true, cond, nat_le, length, List, Some, None, Ok, refl, ap, ◌∙◌, arith, lt-ltb}
-use Rattle.std.specs.List.{list_all}
-use Rattle.std.proofs.lemmas.Bool.{and_parts}
+use Rattle.cf_base.proofs.Common.{list_all, and_parts}
 use Rattle.json.proofs.Printed.Utf8.{are_ascii}
 use Rattle.serde_json.specs.Data.{Data}
 use Rattle.serde_json.specs.Read.{read}
@@ -10,7 +9,7 @@ use Rattle.cf_calls.specs.declared.acts.NewBill.{NewBill}
 use Rattle.cf_calls.specs.declared.call.Call.TheVariants as call
 use Rattle.cf_calls.specs.declared.call.Change.{Change}
 use Rattle.cf_calls.specs.declared.items.SourceAmount.{SourceAmount}
-use Rattle.cf_calls.specs.Form.{IsChangeInForm, is_key, is_key_byte}
+use Rattle.cf_calls.specs.Common.{IsChangeInForm, is_key, is_key_byte}
 use Rattle.cf_json.specs.Calls.{call_in, call_of}
 use Rattle.cf_json_members.specs.Objects.{text_of}
 use Rattle.cf_json_calls.specs.CallText.{call_data}

@@ -1,8 +1,7 @@
 -- A day that was read is one of the calendar.
-use Rattle.std.proofs.Common.{◌≡◌, ℕ, List, Bool, true, false, cond, Option, Some, None, refl}
-use Rattle.std.specs.Option.{IfSome}
+use Rattle.std.proofs.Common.{◌≡◌, ℕ, List, Bool, true, false, cond, Option, Some, None, refl, IfSome}
 use Rattle.cf_base.specs.declared.calendar.Day.{Day}
-use Rattle.cf_base.specs.Calendar.{is_day, is_day_form, day_if, day_written, day_of_text}
+use Rattle.cf_base.specs.Common.{is_day, is_day_form, day_if, day_written, day_of_text}
 
 within : (formed : Bool) (o : Option Day) → IfSome o (λ d. is_day d ≡ true) → IfSome (cond formed o None) (λ d. is_day d ≡ true)
 within true o h = h

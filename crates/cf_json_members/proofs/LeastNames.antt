@@ -1,11 +1,7 @@
 -- The first of some names in order is the least.
-use Rattle.std.proofs.Common.{◌≡◌, ℕ, List, [], ◌∷◌, Bool, true, false, cond, Option, Some, find, filter, map, String, string_bytes, Global, Less, refl, ap, ◌∙◌}
-use Rattle.std.proofs.lemmas.Cmp.{lists_total, nat_cmp_total}
-use Rattle.std.specs.Cmp.Lexicographic.{slice_cmp}
-use Rattle.std.specs.List.{AllByRecursion}
+use Rattle.std.proofs.Common.{◌≡◌, ℕ, List, [], ◌∷◌, Bool, true, false, cond, Option, Some, find, filter, map, String, string_bytes, Global, Less, refl, ap, ◌∙◌, nat_cmp, is_lt, string_cmp}
+use Rattle.cf_base.proofs.Common.{lists_total, nat_cmp_total, slice_cmp, AllByRecursion, ordering_reverse}
 use Rattle.std.specs.List.Sorted.{IsStrictlySortedBy}
-use Rattle.std.specs.Ordering.{nat_cmp, is_lt, ordering_reverse}
-use Rattle.std.specs.String.{string_cmp}
 use Rattle.cf_json_members.specs.Fields.{lesser, least}
 
 not_below : (k l : List ℕ) → slice_cmp nat_cmp k l ≡ Less → is_lt (slice_cmp nat_cmp l k) ≡ false

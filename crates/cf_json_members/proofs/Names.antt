@@ -1,14 +1,11 @@
 -- Names of fields, as a table holds them and as the value has them.
-use Rattle.std.proofs.Common.{◌≡◌, ℕ, List, [], ◌∷◌, Bool, true, false, ◌||◌, Option, Some, None, option_map, find, map, String, string_bytes, Global, refl, Bor, cond, ap, ◌∙◌}
-use Rattle.std.specs.List.{list_any}
-use Rattle.std.specs.Map.{keys_of}
-use Rattle.std.specs.Str.{bytes_eq}
+use Rattle.std.proofs.Common.{◌≡◌, ℕ, List, [], ◌∷◌, Bool, true, false, ◌||◌, Option, Some, None, option_map, find, map, String, string_bytes, Global, refl, Bor, cond, ap, ◌∙◌, bytes_eq, string_cmp}
+use Rattle.cf_base.proofs.Common.{list_any, keys_of}
 use Rattle.serde_json.specs.declared.value.Value.{Value}
 use Rattle.serde_json.specs.Data.{Data}
 use Rattle.serde_json.specs.Find.{as_object}
 use Rattle.serde_json.specs.View.{members_view}
 use Rattle.std.specs.List.Sorted.{IsStrictlySortedBy}
-use Rattle.std.specs.String.{string_cmp}
 use Rattle.cf_json_members.specs.Fields.{is_stranger, stranger, names_in}
 use Rattle.cf_json_members.proofs.LeastNames.{least-keys}
 

@@ -1,6 +1,6 @@
 -- The text of numbers that follow one another.
 use Rattle.std.proofs.Common.{◌≡◌, ℕ, zero, suc, ◌+◌, ◌-◌, ◌<◌, ◌≤◌, Bool, nat_lt, List, ◌++◌, decimal, ap, ◌∙◌, arith, append_assoc}
-use Rattle.std.proofs.lemmas.Bool.{lt-ltb}
+use Rattle.cf_base.proofs.Common.{lt-ltb}
 use Rattle.serde_json.specs.Data.{item}
 use Rattle.serde_json.specs.Written.{items_text, comma_if}
 use Rattle.cf_json_members.specs.Objects.{count, numbers_from}

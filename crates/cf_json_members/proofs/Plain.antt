@@ -1,12 +1,6 @@
 -- Texts that JSON writes as they are.
 use Rattle.std.proofs.Common.{◌≡◌, ℕ, suc, ◌^◌, ◌<◌, ◌≤◌, ℤ, pos, negsuc, FitsSigned, decimal, List, [], ◌∷◌, ◌++◌, true, not, ◌&&◌, ◌==◌, nat_lt, refl, ap, sym, ◌∙◌, arith, true≢false}
-use Rattle.std.specs.List.{list_all}
-use Rattle.std.proofs.lemmas.Bool.{and_parts, eq-eqb, ne_eqb, lt-ltb, ltb-true}
-use Rattle.std.proofs.lemmas.Fmt.{decimal_is_IsNumeral_wide}
-use Rattle.std.proofs.lemmas.Str.Parse.{digit_from_value}
-use Rattle.std.specs.Fmt.{signed_decimal}
-use Rattle.std.specs.Int.{w128}
-use Rattle.std.specs.Str.Parse.{AllDigits}
+use Rattle.cf_base.proofs.Common.{list_all, and_parts, eq-eqb, ne_eqb, lt-ltb, ltb-true, decimal_is_IsNumeral_wide, digit_from_value, signed_decimal, w128, AllDigits}
 use Rattle.json.specs.Print.{quoted, escape, escape_byte}
 use Rattle.json.proofs.Printed.Strings.{escape_byte_plain}
 use Rattle.cf_json_members.specs.Parts.{is_plain}

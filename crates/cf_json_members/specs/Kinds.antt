@@ -3,12 +3,10 @@ use Rattle.std.specs.Prelude.{ℕ, ◌&&◌, List, Bool, nat_lt, nat_le, ℤ, if
 use Rattle.std.specs.Str.{bytes_eq}
 use Rattle.serde_json.specs.Data.{Data}
 use Rattle.serde_json.specs.Find.{as_number, as_u64, as_i64, as_str}
-use Rattle.cf_base.specs.Calendar.{day_of_text, month_of_text}
-use Rattle.cf_base.specs.Money.{is_amount}
+use Rattle.cf_base.specs.Common.{day_of_text, month_of_text, is_amount, last_year}
 use Rattle.cf_base.specs.declared.calendar.Day.{Day}
 use Rattle.cf_base.specs.declared.calendar.Month.{Month}
-use Rattle.cf_base.specs.Limits.{last_year}
-use Rattle.cf_calls.specs.Form.{is_by, is_key}
+use Rattle.cf_calls.specs.Common.{is_by, is_key}
 
 -- the value, where it passes
 abbrev pub kept : {A : Type 0} → (A → Bool) → A → Option A

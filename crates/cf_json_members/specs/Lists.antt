@@ -3,7 +3,7 @@ use Rattle.std.specs.Prelude.{◌≡◌, ℕ, ◌&&◌, List, [], ◌∷◌, len
 use Rattle.std.specs.List.{All}
 use Rattle.serde_json.specs.Data.{Data, Items, no_items, item}
 use Rattle.serde_json.specs.Find.{as_array}
-use Rattle.cf_calls.specs.Form.{is_distinct, IsCount}
+use Rattle.cf_calls.specs.Common.{is_distinct, IsCount}
 use Rattle.cf_json_members.specs.Kinds.{kept}
 
 -- each value as an item, where all are items

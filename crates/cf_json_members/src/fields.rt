@@ -7,7 +7,7 @@ ghost use Rattle.std.specs.List.Sorted.{IsStrictlySortedBy};
 ghost use Rattle.std.specs.String.{string_cmp};
 ghost use Rattle.std.specs.Str.{bytes_eq};
 ghost use Rattle.serde_json.specs.View.{view};
-ghost use Rattle.cf_calls.specs.Form.{is_key, is_key_byte};
+ghost use Rattle.cf_calls.specs.Common.{is_key, is_key_byte};
 ghost use Rattle.cf_json_members.specs.declared.fault.FormFault.TheVariants.{Fields};
 ghost use Rattle.cf_json_members.specs.Faults.{Gives, Says};
 ghost use Rattle.cf_json_members.specs.Faults as faults;

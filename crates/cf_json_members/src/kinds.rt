@@ -4,9 +4,8 @@ ghost use Rattle.std.specs.Prelude.{◌≡◌, true, Option, IfSome};
 ghost use Rattle.serde_json.specs.Data.{Data};
 ghost use Rattle.serde_json.specs.View.{view};
 ghost use Rattle.serde_json.specs.Find.{as_bool};
-ghost use Rattle.cf_base.specs.Calendar.{is_day};
-ghost use Rattle.cf_base.specs.Money.{is_amount};
-ghost use Rattle.cf_calls.specs.Form.{IsYear, IsCallMonth, is_by};
+ghost use Rattle.cf_base.specs.Common.{is_day, is_amount};
+ghost use Rattle.cf_calls.specs.Common.{IsYear, IsCallMonth, is_by};
 ghost use Rattle.cf_json_members.specs.Kinds.{as_n16, as_n32, as_count, as_year, as_amount, as_by, as_day, as_month};
 
 use cf_base::{Cents, Day, LAST_YEAR, Month, read_day, read_month};

@@ -3,7 +3,7 @@
 ghost use Rattle.std.specs.Prelude.{◌≡◌, ◌&&◌, nat_le, length, Bool, Option, option_map, IfOk, IfSome};
 ghost use Rattle.std.specs.List.{All};
 ghost use Rattle.serde_json.specs.View.{view, items_view};
-ghost use Rattle.cf_calls.specs.Form.{is_distinct};
+ghost use Rattle.cf_calls.specs.Common.{is_distinct};
 ghost use Rattle.cf_calls.specs.Keys.{same_key};
 ghost use Rattle.cf_json_members.specs.Faults.{Gives};
 ghost use Rattle.cf_json_members.specs.Fields.{field};

@@ -11,7 +11,7 @@ use Rattle.cf_calls.specs.declared.refusal.DocumentState.{DocumentState}
 use Rattle.cf_calls.specs.declared.refusal.DocumentState.TheVariants as state
 use Rattle.cf_calls.specs.declared.refusal.AssetFault.{AssetFault}
 use Rattle.cf_calls.specs.declared.refusal.AssetFault.TheVariants as asset
-use Rattle.cf_calls.specs.Refusals.{name_of, number_of}
+use Rattle.cf_calls.specs.Common.{name_of, number_of}
 use Rattle.cf_calls.specs.declared.refusal.Refusal.{Refusal}
 use Rattle.cf_calls.specs.declared.refusal.Refusal.TheVariants.{DeskUnknown, Ahead, KeyReused, NotThisDesk, HistoryFull, AmountRange, UnknownName, PeriodClosed, YearNotOpen, YearClosed, Adopted, NotAdopted, DocState, SameHand, NotOnOrder, OverOpen, OverReceivable, AssetState, NotDue, LeaveShort, MonthOrder, DebtDue, WindowOpen, Exceeds, CashShort}
 use Rattle.cf_json_members.specs.Objects.{fields, count, cents, signed_cents, day, month}

@@ -2,7 +2,7 @@
 
 ghost use Rattle.std.specs.Prelude.{◌≡◌, ◌+◌, ◌≤◌, [], ◌∷◌, ◌++◌, true, length, IsOk, OnOk, vec_len, vec_capacity};
 ghost use Rattle.std.specs.List.{list_all};
-ghost use Rattle.cf_calls.specs.Refusals.{name_of};
+ghost use Rattle.cf_calls.specs.Common.{name_of};
 ghost use Rattle.cf_calls.specs.declared.refusal.Refusal.TheVariants as refused;
 ghost use Rattle.cf_json_members.specs.Objects.{fields, text_of};
 ghost use Rattle.cf_json_members.specs.Parts.{part_data, part_room, is_plain, is_plain_part};

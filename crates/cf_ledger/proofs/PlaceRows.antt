@@ -1,12 +1,7 @@
 -- Tables of rows that differ at one place.
-use Rattle.std.proofs.Common.{◌≡◌, ℕ, zero, suc, Bool, true, false, if◌then◌else◌, ◌==◌, ◌&&◌, [], length, get_or, Option, Some, None, is_some, ℤ, pos, refl, sym, ap, subst, ◌∙◌, arith}
-use Rattle.std.proofs.lemmas.Grind.{common_steps}
+use Rattle.std.proofs.Common.{◌≡◌, ℕ, zero, suc, Bool, true, false, if◌then◌else◌, ◌==◌, ◌&&◌, [], length, get_or, Option, Some, None, is_some, ℤ, pos, refl, sym, ap, subst, ◌∙◌, arith, nat_cmp, is_eq, Ordering, Less, Equal, Greater, replicate}
+use Rattle.cf_base.proofs.Common.{common_steps, ordering_then, is_at}
 use Rattle.std.specs.Global.{Vec}
-use Rattle.std.specs.Ordering.{nat_cmp, ordering_then, is_eq}
-use Rattle.std.specs.declared.cmp.Ordering.{Ordering}
-use Rattle.std.specs.declared.cmp.Ordering.TheVariants.{Less, Equal, Greater}
-use Rattle.std.specs.BTreeMap.{is_at}
-use Rattle.std.specs.Prelude.{replicate}
 use Rattle.cf_ledger.specs.declared.places.Place.{Place}
 use Rattle.cf_ledger.specs.Places.{Rows, place_cmp, row_where, row_of, has_row, cells_of, cells_at, AreCounted, KeepsRows, SameRows, ReadsSame, PutsCells}
 use Rattle.cf_ledger.specs.Years.{no_cells}

@@ -1,13 +1,6 @@
 -- Cells that stand for posts, and for one post more.
-use Rattle.std.proofs.Common.{◌≡◌, ℕ, ◌+◌, ◌-◌, ◌<◌, ◌≤◌, ◌^◌, ◌⊎◌, inl, inr, Bool, true, false, if◌then◌else◌, ◌==◌, ◌&&◌, ◌||◌, nat_le, Result, Ok, Err, OnOk, List, [], ◌∷◌, ◌++◌, length, get_or, Some, is_some, ℤ, pos, ◌+ℤ◌, FitsSigned, refl, sym, ap, subst, ◌∙◌, arith}
-use Rattle.std.proofs.lemmas.Bool.Decides.{eqb_tells}
-use Rattle.std.proofs.lemmas.Int.{ints}
-use Rattle.std.proofs.lemmas.Grind.{common_steps, get_or-set_at}
-use Rattle.std.proofs.lemmas.List.{get_or-set_other, length-set}
-use Rattle.std.specs.List.{list_any, All}
-use Rattle.std.specs.Map.{keys_of}
-use Rattle.std.specs.BTreeMap.{is_at}
-use Rattle.std.specs.Int.{w128}
+use Rattle.std.proofs.Common.{◌≡◌, ℕ, ◌+◌, ◌-◌, ◌<◌, ◌≤◌, ◌^◌, ◌⊎◌, inl, inr, Bool, true, false, if◌then◌else◌, ◌==◌, ◌&&◌, ◌||◌, nat_le, Result, Ok, Err, OnOk, List, [], ◌∷◌, ◌++◌, length, get_or, Some, is_some, ℤ, pos, ◌+ℤ◌, FitsSigned, refl, sym, ap, subst, ◌∙◌, arith, All}
+use Rattle.cf_base.proofs.Common.{eqb_tells, ints, common_steps, get_or-set_at, get_or-set_other, length-set, list_any, keys_of, is_at, w128}
 use Rattle.cf_ledger.specs.declared.post.Post.{Post}
 use Rattle.cf_ledger.specs.declared.places.Place.{Place}
 use Rattle.cf_ledger.specs.Books.{Posted, has_place}

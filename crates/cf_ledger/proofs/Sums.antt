@@ -1,12 +1,6 @@
 -- Sums of posts.
-use Rattle.std.proofs.Common.{◌≡◌, ℕ, zero, suc, ◌+◌, ◌-◌, ◌<◌, ◌≤◌, ◌^◌, ◌⊎◌, inl, inr, Bool, true, false, if◌then◌else◌, ◌==◌, ◌&&◌, nat_le, List, [], ◌∷◌, ◌++◌, length, get_or, fold, ℤ, pos, ◌+ℤ◌, unsigned_abs, FitsSigned, refl, sym, ap, ◌∙◌, arith, add-one, lit<}
-use Rattle.std.proofs.lemmas.Bool.Decides.{leb_tells, eqb_tells}
-use Rattle.std.proofs.lemmas.Int.{ints}
-use Rattle.std.specs.Int.{w128}
-use Rattle.std.specs.List.{All, AllByRecursion}
-use Rattle.std.proofs.lemmas.List.Elements.{recursion_from_All}
-use Rattle.std.proofs.lemmas.List.Sums.{fold_more, sum_by-cons}
-use Rattle.std.proofs.lemmas.List.{get_or_past, take_all}
+use Rattle.std.proofs.Common.{◌≡◌, ℕ, zero, suc, ◌+◌, ◌-◌, ◌<◌, ◌≤◌, ◌^◌, ◌⊎◌, inl, inr, Bool, true, false, if◌then◌else◌, ◌==◌, ◌&&◌, nat_le, List, [], ◌∷◌, ◌++◌, length, get_or, fold, ℤ, pos, ◌+ℤ◌, unsigned_abs, FitsSigned, refl, sym, ap, ◌∙◌, arith, add-one, lit<, All}
+use Rattle.cf_base.proofs.Common.{leb_tells, eqb_tells, ints, w128, AllByRecursion, recursion_from_All, fold_more, sum_by-cons, get_or_past, take_all}
 use Rattle.cf_ledger.specs.declared.post.Post.{Post}
 use Rattle.cf_ledger.specs.Posts.{sum_where, sizes, IsInYears}
 use Rattle.cf_ledger.specs.Years.{sum_of, sum_through, StandsFor}

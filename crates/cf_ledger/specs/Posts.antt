@@ -1,6 +1,6 @@
 -- Posts, and what they come to on a basis of accounting (GASB Statement 34).
 use Rattle.std.specs.Prelude.{ℕ, ◌≤◌, Bool, if◌then◌else◌, ◌==◌, ◌&&◌, nat_lt, nat_le, List, [], ◌∷◌, ℤ, pos, ◌+ℤ◌, unsigned_abs, sum_by}
-use Rattle.cf_base.specs.Limits.{last_fiscal_year}
+use Rattle.cf_base.specs.Common.{last_fiscal_year}
 use Rattle.cf_ledger.specs.declared.post.Post.{Post}
 
 -- the sum of the amounts of the posts that pass a test

@@ -1,7 +1,7 @@
 -- Rows of a cell for each fiscal year from 1970 to 2200.
 use Rattle.std.specs.Prelude.{◌≡◌, ℕ, ◌+◌, ◌-◌, ◌≤◌, ◌==◌, ◌&&◌, Bool, List, length, take, set, get_or, replicate, ℤ, pos, ◌+ℤ◌, fold, FitsSigned}
 use Rattle.std.specs.Int.{w128}
-use Rattle.cf_base.specs.Limits.{last_fiscal_year}
+use Rattle.cf_base.specs.Common.{last_fiscal_year}
 use Rattle.cf_ledger.specs.declared.post.Post.{Post}
 use Rattle.cf_ledger.specs.Posts.{sum_where}
 

@@ -1,6 +1,5 @@
 -- The assets of a legal history are numbered in the order in which they are acquired.
-use Rattle.std.proofs.Common.{◌≡◌, ℕ, ◌+◌, Bool, true, false, if◌then◌else◌, ◌==◌, List, [], ◌∷◌, length, option_to_list, refl, ap, arith}
-use Rattle.std.specs.List.{filter}
+use Rattle.std.proofs.Common.{◌≡◌, ℕ, ◌+◌, Bool, true, false, if◌then◌else◌, ◌==◌, List, [], ◌∷◌, length, option_to_list, refl, ap, arith, filter}
 use Rattle.cf_base.specs.declared.calendar.Day.{Day}
 use Rattle.cf_calls.specs.declared.acts.Act.{Act}
 use Rattle.cf_calls.specs.declared.acts.Act.TheVariants as act
@@ -8,15 +7,8 @@ use Rattle.cf_calls.specs.declared.acts.AssetAct.TheVariants.{Donate, Dispose}
 use Rattle.cf_calls.specs.declared.entry.Drawn.{Drawn}
 use Rattle.cf_calls.specs.declared.entry.Entry.{Entry}
 use Rattle.cf_calls.specs.declared.items.VoucherItem.{VoucherItem}
-use Rattle.cf_chart.specs.Plan.{Plan, object_at}
-use Rattle.cf_model.specs.Assets.{Asset, asset_step, assets_by, bought, disposed, new_asset, void, voucher_of, purchase, life_of}
-use Rattle.cf_model.specs.Calendar.{document_year, year_of_day}
-use Rattle.cf_model.specs.Charted.{is_capital}
-use Rattle.cf_model.specs.Documents.{is_number}
-use Rattle.cf_model.specs.RegisterRules.{asset_at}
-use Rattle.cf_model.specs.Registers.{Registers, registers_of, registers_step}
-use Rattle.cf_model.specs.Results.{draws}
-use Rattle.cf_model.specs.Step.{IsLegal}
+use Rattle.cf_chart.specs.Common.{Plan, object_at}
+use Rattle.cf_model.specs.Common.{Asset, asset_step, assets_by, bought, disposed, new_asset, void, voucher_of, purchase, life_of, document_year, year_of_day, is_capital, is_number, asset_at, Registers, registers_of, registers_step, draws, IsLegal}
 use Rattle.cf_model.proofs.Numbered.{AreNumbered, named_once, numbered_always, numbered_step}
 
 abbrev AreAssets : ℕ → List Asset → Type 0

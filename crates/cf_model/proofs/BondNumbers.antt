@@ -1,16 +1,12 @@
 -- The bonds and leases of a legal history are numbered in the order of their issue.
-use Rattle.std.proofs.Common.{◌≡◌, ℕ, ◌+◌, Bool, true, false, if◌then◌else◌, ◌==◌, List, length, option_to_list, refl, ap, arith}
-use Rattle.std.specs.List.{filter}
+use Rattle.std.proofs.Common.{◌≡◌, ℕ, ◌+◌, Bool, true, false, if◌then◌else◌, ◌==◌, List, length, option_to_list, refl, ap, arith, filter}
 use Rattle.cf_base.specs.declared.calendar.Day.{Day}
 use Rattle.cf_calls.specs.declared.acts.Act.{Act}
 use Rattle.cf_calls.specs.declared.acts.Act.TheVariants as act
 use Rattle.cf_calls.specs.declared.entry.Drawn.{Drawn}
 use Rattle.cf_calls.specs.declared.entry.Entry.{Entry}
-use Rattle.cf_chart.specs.Plan.{Plan}
-use Rattle.cf_model.specs.Bonds.{Bond, bond_step, bonds_by}
-use Rattle.cf_model.specs.Registers.{Registers, registers_of, registers_step}
-use Rattle.cf_model.specs.Results.{bond_at, draws}
-use Rattle.cf_model.specs.Step.{IsLegal}
+use Rattle.cf_chart.specs.Common.{Plan}
+use Rattle.cf_model.specs.Common.{Bond, bond_step, bonds_by, Registers, registers_of, registers_step, bond_at, draws, IsLegal}
 use Rattle.cf_model.proofs.Numbered.{AreNumbered, named_once, numbered_always, numbered_step}
 
 abbrev AreBonds : ℕ → List Bond → Type 0

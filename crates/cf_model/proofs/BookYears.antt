@@ -1,7 +1,6 @@
 -- Each deed of an act is of fiscal years that the books have.
-use Rattle.std.proofs.Common.{◌≡◌, ◌⊎◌, ℕ, zero, suc, ◌+◌, ◌-◌, ◌*◌, ◌/◌, ◌≤◌, Bool, true, false, if◌then◌else◌, ◌==◌, ◌||◌, List, [], ◌∷◌, map, length, Option, Some, None, slice_get, refl, subst, arith}
-use Rattle.std.specs.List.{filter, AllByRecursion}
-use Rattle.std.proofs.lemmas.Bool.Decides.{eqb_tells}
+use Rattle.std.proofs.Common.{◌≡◌, ◌⊎◌, ℕ, zero, suc, ◌+◌, ◌-◌, ◌*◌, ◌/◌, ◌≤◌, Bool, true, false, if◌then◌else◌, ◌==◌, ◌||◌, List, [], ◌∷◌, map, length, Option, Some, None, slice_get, refl, subst, arith, filter}
+use Rattle.cf_base.proofs.Common.{AllByRecursion, eqb_tells}
 use Rattle.cf_base.specs.declared.calendar.Day.{Day}
 use Rattle.cf_calls.specs.declared.acts.Act.{Act}
 use Rattle.cf_calls.specs.declared.acts.Act.TheVariants as act
@@ -11,24 +10,16 @@ use Rattle.cf_calls.specs.declared.acts.FundMoveKind.TheVariants as move
 use Rattle.cf_calls.specs.declared.acts.LeaveAct.TheVariants.{Earn, Use, Mature}
 use Rattle.cf_calls.specs.declared.acts.Period.TheVariants as period
 use Rattle.cf_calls.specs.declared.entry.Drawn.{Drawn}
-use Rattle.cf_calls.specs.Form.{IsActInForm, month_number}
+use Rattle.cf_calls.specs.Common.{IsActInForm, month_number}
 use Rattle.cf_chart.specs.declared.rows.Function.{Function}
-use Rattle.cf_chart.specs.Plan.{Plan, source_at}
-use Rattle.cf_model.specs.Calendar.{year_of_day, document_year}
-use Rattle.cf_model.specs.Documents.{Expenditure}
-use Rattle.cf_model.specs.Moves.{spent_by}
-use Rattle.cf_model.specs.Deeds.{bonds_deeds, collect_deeds, deeds_of, dispose_deed, due_deeds, function_charge, fund_deed, pay_deed, pay_items, spent_item, write_off_deeds}
+use Rattle.cf_chart.specs.Common.{Plan, source_at}
+use Rattle.cf_model.specs.Common.{year_of_day, document_year, Expenditure, spent_by, bonds_deeds, collect_deeds, deeds_of, dispose_deed, due_deeds, function_charge, fund_deed, pay_deed, pay_items, spent_item, write_off_deeds, leased, owned, Bond, Due, dues, dues_from, next_due, bond_step, bonds_by, start_month, number_of_day, year_at, bill_at, window_if, year_in, Registers}
 use Rattle.cf_model.proofs.Posted.{IsBookYear, AreBookYears, all_filter}
 use Rattle.cf_model.proofs.Tidy.{all_append, all_map, all_new}
 use Rattle.cf_post.specs.declared.deed.Deed.TheVariants as deed
 use Rattle.cf_post.specs.declared.deed.FundsAmount.{FundsAmount}
-use Rattle.cf_model.specs.Assets.{leased, owned}
-use Rattle.cf_model.specs.Bonds.{Bond, Due, dues, dues_from, next_due, bond_step, bonds_by}
-use Rattle.cf_model.specs.Months.{start_month, number_of_day, year_at}
-use Rattle.cf_model.specs.Receivables.{Bill, bill_at, window_if}
-use Rattle.cf_base.specs.Windows.{is_in_window, year_end}
-use Rattle.cf_model.specs.Recognition.{year_in}
-use Rattle.cf_model.specs.Registers.{Registers}
+use Rattle.cf_model.specs.Receivables.{Bill}
+use Rattle.cf_base.specs.Common.{is_in_window, year_end}
 use Rattle.cf_model.proofs.MonthNumbers.{HasCalendar}
 
 -- a month up to December 2199 is of a fiscal year up to 2200

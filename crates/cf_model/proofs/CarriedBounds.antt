@@ -1,10 +1,7 @@
 -- What rolls carry over a legal history is small: no more than the order items have, each time.
 use Rattle.std.proofs.Common.{◌≡◌, ℕ, suc, ◌+◌, ◌*◌, ◌-◌, ◌^◌, ◌<◌, ◌≤◌, Bool, true, false, not, if◌then◌else◌, ◌&&◌, List, [], ◌∷◌, ◌++◌, length, length-append, map, None, ℤ, pos, negsuc, ◌+ℤ◌, unsigned_abs, refl, sym, subst, ap, ◌∙◌, ◌==◌, ◌≤ℤ◌, arith}
-use Rattle.std.specs.List.{AllByRecursion}
-use Rattle.std.proofs.lemmas.Int.{ints}
-use Rattle.std.proofs.lemmas.List.{length-map}
-use Rattle.std.proofs.lemmas.List.Sums.{sum_by-cons}
-use Rattle.cf_base.specs.Limits.{most_cents, most_entries}
+use Rattle.cf_base.proofs.Common.{AllByRecursion, ints, length-map, sum_by-cons}
+use Rattle.cf_base.specs.Common.{most_cents, most_entries}
 use Rattle.cf_calls.specs.declared.acts.Act.{Act}
 use Rattle.cf_calls.specs.declared.acts.Act.TheVariants.{Order, ChangeOrder, CancelOrder, Voucher, VoidVoucher, Close}
 use Rattle.cf_calls.specs.declared.entry.Entry.{Entry}
@@ -12,15 +9,10 @@ use Rattle.cf_calls.specs.declared.items.AccountItem.{AccountItem}
 use Rattle.cf_calls.specs.declared.items.Charge.{Charge}
 use Rattle.cf_calls.specs.declared.items.Charge.TheVariants.{Direct, OnOrder}
 use Rattle.cf_calls.specs.declared.items.VoucherItem.{VoucherItem}
-use Rattle.cf_calls.specs.Form.{IsActInForm}
+use Rattle.cf_calls.specs.Common.{IsActInForm}
 use Rattle.cf_base.specs.declared.calendar.Day.{Day}
-use Rattle.cf_chart.specs.Plan.{Plan}
-use Rattle.cf_model.specs.Calendar.{document_year, rolls}
-use Rattle.cf_model.specs.Documents.{Documents, documents_of, carried_in, no_documents}
-use Rattle.cf_model.specs.LineNumbers.{carried_sum, counts}
-use Rattle.cf_model.specs.OrderItems.{OrderItem, Carried, carried_of, charge_item, charge_items, is_live, is_named, item_step, items_by, items_from, lapses, lapsed, cancelled, liquidated_sum, nonnegative, open_of, rolled, shifted}
-use Rattle.cf_model.specs.Rules.{amount, amount_refusal, bad_amount, first_refusal}
-use Rattle.cf_model.specs.Step.{Adds, IsLegal}
+use Rattle.cf_chart.specs.Common.{Plan}
+use Rattle.cf_model.specs.Common.{document_year, rolls, Documents, documents_of, carried_in, no_documents, carried_sum, counts, OrderItem, Carried, carried_of, charge_item, charge_items, is_live, is_named, item_step, items_by, items_from, lapses, lapsed, cancelled, liquidated_sum, nonnegative, open_of, rolled, shifted, amount, amount_refusal, bad_amount, first_refusal, Adds, IsLegal}
 use Rattle.cf_model.proofs.Accepted.{accepted, accepted_fits}
 use Rattle.cf_model.proofs.Bounds.{small}
 use Rattle.cf_model.proofs.Changed.{carried_push}

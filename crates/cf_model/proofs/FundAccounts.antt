@@ -1,17 +1,12 @@
 -- The accounts that a fund has below 300000: its fund balance is what these come to.
 use Rattle.std.proofs.Common.{◌≡◌, ◌⊎◌, inl, inr, ℕ, ◌+◌, ◌≤◌, ◌<◌, Bool, true, false, if◌then◌else◌, ◌==◌, ◌&&◌, nat_lt, nat_le, List, [], ◌∷◌, ℤ, pos, ◌+ℤ◌, refl, sym, ap, subst, ◌∙◌, arith}
-use Rattle.std.proofs.lemmas.Grind.{common_steps}
-use Rattle.std.proofs.lemmas.Int.{ints}
-use Rattle.std.specs.List.{AllByRecursion}
+use Rattle.cf_base.proofs.Common.{common_steps, ints, AllByRecursion}
 use Rattle.cf_calls.specs.declared.entry.Entry.{Entry}
 use Rattle.cf_calls.specs.declared.read.Basis.TheVariants.{Fund as FundBasis}
-use Rattle.cf_chart.specs.Plan.{Plan}
+use Rattle.cf_chart.specs.Common.{Plan}
 use Rattle.cf_ledger.specs.declared.post.Post.{Post}
 use Rattle.cf_ledger.specs.Posts.{balance, is_in_total, sum_where}
-use Rattle.cf_model.specs.Deeds.{deeds_of}
-use Rattle.cf_model.specs.Postings.{balance_of, posts_after, posts_in}
-use Rattle.cf_model.specs.Registers.{Registers, no_registers, registers_step}
-use Rattle.cf_model.specs.Report.{fund_balance}
+use Rattle.cf_model.specs.Common.{deeds_of, balance_of, posts_after, posts_in, Registers, no_registers, registers_step, fund_balance}
 use Rattle.cf_model.proofs.Posted.{all_posts}
 use Rattle.cf_model.proofs.Tidy.{all_append}
 use Rattle.cf_post.specs.declared.deed.Deed.{Deed}

@@ -1,10 +1,8 @@
 -- What the acts of a legal history enter in the registers of assets and bonds: few of each an
 -- entry, of amounts within bounds.
 use Rattle.std.proofs.Common.{◌≡◌, ℕ, zero, suc, ◌+◌, ◌-◌, ◌*◌, ◌≤◌, Bool, true, false, if◌then◌else◌, ◌==◌, List, [], ◌∷◌, ◌++◌, map, length, Some, None, slice_get, refl, sym, ap, subst, arith, length-append}
-use Rattle.std.specs.List.{AllByRecursion}
-use Rattle.std.proofs.lemmas.Grind.{common_steps}
-use Rattle.std.proofs.lemmas.List.{length-map}
-use Rattle.cf_base.specs.Limits.{most_cents}
+use Rattle.cf_base.proofs.Common.{AllByRecursion, common_steps, length-map}
+use Rattle.cf_base.specs.Common.{most_cents}
 use Rattle.cf_base.specs.declared.calendar.Day.{Day}
 use Rattle.cf_calls.specs.declared.acts.Act.{Act}
 use Rattle.cf_calls.specs.declared.acts.Act.TheVariants as act
@@ -13,17 +11,9 @@ use Rattle.cf_calls.specs.declared.entry.Drawn.{Drawn}
 use Rattle.cf_calls.specs.declared.entry.Entry.{Entry}
 use Rattle.cf_calls.specs.declared.items.VoucherItem.{VoucherItem}
 use Rattle.cf_calls.specs.declared.refusal.Refusal.TheVariants as refusal
-use Rattle.cf_calls.specs.Form.{IsActInForm, IsPaymentNumber, is_period}
-use Rattle.cf_chart.specs.Plan.{Plan, object_at}
-use Rattle.cf_model.specs.Assets.{Asset, asset_step, assets_by, bought, disposed, new_asset, void, voucher_of, purchase, life_of}
-use Rattle.cf_model.specs.Bonds.{Bond, Due, bond_step, bonds_by, dues, dues_from}
-use Rattle.cf_model.specs.Calendar.{document_year, year_of_day}
-use Rattle.cf_model.specs.Charted.{is_capital}
-use Rattle.cf_model.specs.Documents.{is_number}
-use Rattle.cf_model.specs.Registers.{Registers, no_registers, registers_of}
-use Rattle.cf_model.specs.Results.{bond_at, draws, payment_if, payment_number}
-use Rattle.cf_model.specs.Rules.{amount, amount_or_none, amount_refusal, bad_amount, first_refusal}
-use Rattle.cf_model.specs.Step.{Adds, IsLegal}
+use Rattle.cf_calls.specs.Common.{IsActInForm, IsPaymentNumber, is_period}
+use Rattle.cf_chart.specs.Common.{Plan, object_at}
+use Rattle.cf_model.specs.Common.{Asset, asset_step, assets_by, bought, disposed, new_asset, void, voucher_of, purchase, life_of, Bond, Due, bond_step, bonds_by, dues, dues_from, document_year, year_of_day, is_capital, is_number, Registers, no_registers, registers_of, bond_at, draws, payment_if, payment_number, amount, amount_or_none, amount_refusal, bad_amount, first_refusal, Adds, IsLegal}
 use Rattle.cf_model.proofs.Accepted.{accepted}
 use Rattle.cf_model.proofs.BookYears.{IsTimely, timely_new, timely_step}
 use Rattle.cf_model.proofs.Bounds.{small}

@@ -1,11 +1,10 @@
 -- What a requisition's hold and a voucher's item keep through each act.
 use Rattle.std.proofs.Common.{◌≡◌, Bool, true, false, if◌then◌else◌, ◌==◌, Some, refl}
-use Rattle.std.specs.List.{list_any}
+use Rattle.cf_base.proofs.Common.{list_any}
 use Rattle.cf_calls.specs.declared.acts.Act.{Act}
 use Rattle.cf_calls.specs.declared.acts.Act.TheVariants.{Adopt, Amend, Transfer, Requisition, Withdraw, Order, ChangeOrder, CancelOrder, Voucher, VoidVoucher, Pay, Receive, Interfund, Close}
-use Rattle.cf_chart.specs.Plan.{Plan}
-use Rattle.cf_model.specs.Calendar.{rolls}
-use Rattle.cf_model.specs.Documents.{Hold, Expenditure, hold_step, expenditure_step, is_number}
+use Rattle.cf_chart.specs.Common.{Plan}
+use Rattle.cf_model.specs.Common.{rolls, Hold, Expenditure, hold_step, expenditure_step, is_number}
 
 -- a hold of the same requisition, account and year
 pub record IsSameHold (h k : Hold) : Type 0 where

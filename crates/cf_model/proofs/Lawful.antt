@@ -1,11 +1,8 @@
 -- What the rules give of an entry that none of them refuses, and what each such entry keeps.
-use Rattle.std.proofs.Common.{◌≡◌, ◌⊎◌, inl, inr, ℕ, suc, ◌+◌, ◌-◌, ◌<◌, ◌≤◌, Bool, true, false, not, if◌then◌else◌, ◌==◌, ◌||◌, ◌&&◌, nat_lt, List, [], ◌∷◌, ◌++◌, map, length, Option, Some, None, is_some, refl, sym, subst, ◌∙◌, arith}
-use Rattle.std.specs.List.{filter, AllByRecursion}
-use Rattle.std.proofs.lemmas.Bool.Decides.{leb_tells, eqb_tells}
-use Rattle.std.proofs.lemmas.Grind.{common_steps}
+use Rattle.std.proofs.Common.{◌≡◌, ◌⊎◌, inl, inr, ℕ, suc, ◌+◌, ◌-◌, ◌<◌, ◌≤◌, Bool, true, false, not, if◌then◌else◌, ◌==◌, ◌||◌, ◌&&◌, nat_lt, List, [], ◌∷◌, ◌++◌, map, length, Option, Some, None, is_some, refl, sym, subst, ◌∙◌, arith, filter}
+use Rattle.cf_base.proofs.Common.{AllByRecursion, leb_tells, eqb_tells, common_steps, parts}
 use Rattle.cf_base.specs.declared.calendar.Day.{Day}
-use Rattle.cf_base.specs.Calendar.{is_day}
-use Rattle.cf_base.proofs.DayNumbers.{parts}
+use Rattle.cf_base.specs.Common.{is_day, is_in_window, year_end}
 use Rattle.cf_calls.specs.declared.acts.Act.{Act}
 use Rattle.cf_calls.specs.declared.acts.Act.TheVariants as act
 use Rattle.cf_calls.specs.declared.acts.AssetAct.TheVariants.{Donate, Dispose}
@@ -20,23 +17,14 @@ use Rattle.cf_calls.specs.declared.refusal.Refusal.{Refusal}
 use Rattle.cf_calls.specs.declared.refusal.Refusal.TheVariants as refusal
 use Rattle.cf_calls.specs.declared.shown.VoucherState.{VoucherState}
 use Rattle.cf_calls.specs.declared.shown.VoucherState.TheVariants as voucher
-use Rattle.cf_calls.specs.Acts.{is_back}
+use Rattle.cf_calls.specs.Common.{is_back}
 use Rattle.cf_chart.specs.declared.rows.Function.{Function}
-use Rattle.cf_chart.specs.Plan.{Plan, department_at, fund_at, object_at, source_at}
-use Rattle.cf_model.specs.Calendar.{year_of_day, document_year, is_before}
-use Rattle.cf_model.specs.DocumentRules.{state_refusal, voided_state, not_open_voucher}
-use Rattle.cf_model.specs.Documents.{Documents, Expenditure, is_number, voucher_at}
-use Rattle.cf_model.specs.Charted.{is_capital, function_of}
-use Rattle.cf_model.specs.Rules.{first_refusal, refuse_if, period_refusal, name_refusal, unknown, unknown_if, account_name, voucher_names, charge_names}
+use Rattle.cf_chart.specs.Common.{Plan, department_at, fund_at, object_at, source_at}
+use Rattle.cf_model.specs.Common.{year_of_day, document_year, is_before, state_refusal, voided_state, not_open_voucher, Documents, Expenditure, is_number, voucher_at, is_capital, function_of, first_refusal, refuse_if, period_refusal, name_refusal, unknown, unknown_if, account_name, voucher_names, charge_names, Asset, Stage, void, disposed, depreciation, asset_step, assets_by, new_asset, bought, voucher_of, Origin, purchase, gift, lease, is_leased, life_of, leased_life, number_of_day, year_at, months_to, bill_at, window_if, collected_year, year_in, month_at, same_month, order_refusal, later_levy, levy_refusal, register_name_refusal, unknown_dept, unknown_fund, is_gone, voided_asset, not_held, disposed_asset, asset_refusal, Registers, no_registers, registers_of, closed_after}
 use Rattle.cf_model.proofs.First.{or_else_none, refuse_none, first_refusal-append}
 use Rattle.cf_model.proofs.Tidy.{all_append, all_map}
-use Rattle.cf_model.specs.Assets.{Asset, Stage, held, void, disposed, depreciation, asset_step, assets_by, new_asset, bought, voucher_of, Origin, purchase, gift, lease, is_leased, life_of, leased_life}
-use Rattle.cf_model.specs.Months.{number_of_day, year_at, months_to}
-use Rattle.cf_model.specs.Receivables.{Bill, bill_at, window_if, collected_year}
-use Rattle.cf_base.specs.Windows.{is_in_window, year_end}
-use Rattle.cf_model.specs.Recognition.{year_in}
-use Rattle.cf_model.specs.RegisterRules.{month_at, same_month, order_refusal, later_levy, levy_refusal, register_name_refusal, unknown_dept, unknown_fund, is_gone, voided_asset, not_held, disposed_asset, asset_refusal}
-use Rattle.cf_model.specs.Registers.{Registers, no_registers, registers_of, closed_after}
+use Rattle.cf_model.specs.Assets.{held}
+use Rattle.cf_model.specs.Receivables.{Bill}
 use Rattle.cf_model.proofs.Allowed.{Allows}
 use Rattle.cf_model.proofs.Backed.{IsBacked, is_backed_by, agrees, is_void_state, backed_step}
 use Rattle.cf_model.proofs.Capital.{IsFresh, AreFresh, IsHeldBy, HasFunction}

@@ -1,21 +1,15 @@
 -- No department's leave is ever below zero: no entry of a legal history takes more leave of a
 -- fund's department than it has.
 use Rattle.std.proofs.Common.{◌≡◌, ◌⊎◌, inl, inr, ℕ, ◌≤◌, Bool, true, false, if◌then◌else◌, ◌==◌, ◌&&◌, nat_lt, List, ◌++◌, None, ℤ, pos, negsuc, ◌+ℤ◌, ◌-ℤ◌, ◌≤ℤ◌, unsigned_abs, sym, subst, arith}
-use Rattle.std.proofs.lemmas.Bool.Decides.{eqb_tells}
-use Rattle.std.proofs.lemmas.Grind.{common_steps}
-use Rattle.std.proofs.lemmas.Int.{ints}
+use Rattle.cf_base.proofs.Common.{eqb_tells, common_steps, ints}
 use Rattle.cf_base.specs.declared.calendar.Day.{Day}
 use Rattle.cf_calls.specs.declared.acts.Act.{Act}
 use Rattle.cf_calls.specs.declared.acts.Act.TheVariants as act
 use Rattle.cf_calls.specs.declared.acts.LeaveAct.TheVariants.{Earn, Use, Mature}
 use Rattle.cf_calls.specs.declared.entry.Entry.{Entry}
 use Rattle.cf_calls.specs.declared.refusal.Refusal.TheVariants as refusal
-use Rattle.cf_chart.specs.Plan.{Plan}
-use Rattle.cf_model.specs.Leave.{LeaveChange, leave_by, leave_left, leave_of}
-use Rattle.cf_model.specs.RegisterRules.{leave_refusal, over_leave}
-use Rattle.cf_model.specs.Registers.{Registers, no_registers, registers_of}
-use Rattle.cf_model.specs.Step.{IsLegal}
-use Rattle.cf_model.specs.Sums.{int_sum}
+use Rattle.cf_chart.specs.Common.{Plan}
+use Rattle.cf_model.specs.Common.{LeaveChange, leave_by, leave_left, leave_of, leave_refusal, over_leave, Registers, no_registers, registers_of, IsLegal, int_sum}
 use Rattle.cf_model.proofs.Accepted.{accepted}
 use Rattle.cf_model.proofs.First.{refuse_none}
 use Rattle.cf_model.proofs.Legal.{legal_induction}

@@ -1,9 +1,8 @@
 -- The closed months of a legal history are the first so many.
 use Rattle.std.proofs.Common.{List}
 use Rattle.cf_calls.specs.declared.entry.Entry.{Entry}
-use Rattle.cf_chart.specs.Plan.{Plan}
-use Rattle.cf_model.specs.Registers.{registers_of}
-use Rattle.cf_model.specs.Step.{Adds, IsLegal}
+use Rattle.cf_chart.specs.Common.{Plan}
+use Rattle.cf_model.specs.Common.{registers_of, Adds, IsLegal}
 use Rattle.cf_model.proofs.Accepted.{accepted}
 use Rattle.cf_model.proofs.Lawful.{closes_next}
 use Rattle.cf_model.proofs.Legal.{legal_induction}

@@ -5,14 +5,8 @@ use Rattle.cf_calls.specs.declared.acts.Act.{Act}
 use Rattle.cf_calls.specs.declared.acts.Act.TheVariants as act
 use Rattle.cf_calls.specs.declared.entry.Drawn.{Drawn}
 use Rattle.cf_calls.specs.declared.entry.Entry.{Entry}
-use Rattle.cf_chart.specs.Plan.{Plan}
-use Rattle.cf_model.specs.Changes.{ChangesAddUp}
-use Rattle.cf_model.specs.DocumentRules.{state_refusal}
-use Rattle.cf_model.specs.Items.{Reconciles}
-use Rattle.cf_model.specs.Registers.{Registers, registers_of}
-use Rattle.cf_model.specs.Results.{draws}
-use Rattle.cf_model.specs.Rules.{name_refusal}
-use Rattle.cf_model.specs.Step.{Adds, IsLegal}
+use Rattle.cf_chart.specs.Common.{Plan}
+use Rattle.cf_model.specs.Common.{ChangesAddUp, state_refusal, Reconciles, Registers, registers_of, draws, name_refusal, Adds, IsLegal}
 use Rattle.cf_model.proofs.Accepted.{accepted}
 use Rattle.cf_model.proofs.Lawful as lawful
 use Rattle.cf_model.proofs.Lawful.{DrawsNext, IsLawful, IsWhole, lawful_first, lawful_push}

@@ -19,14 +19,8 @@ use Rattle.cf_chart.specs.declared.rows.Line.{Line}
 use Rattle.cf_chart.specs.declared.rows.LinePart.TheVariants as part
 use Rattle.cf_chart.specs.declared.rows.ObjectKind.TheVariants as object_kind
 use Rattle.cf_chart.specs.declared.rows.Policy.TheVariants as policy
-use Rattle.cf_chart.specs.Plan.{Plan, line_of}
-use Rattle.cf_model.specs.Documents.{documents_of}
-use Rattle.cf_model.specs.DocumentsShown.{order_shown}
-use Rattle.cf_model.specs.LineNumbers.{numbers}
-use Rattle.cf_model.specs.Rules.{name_refusal}
-use Rattle.cf_model.specs.State.{blank_plan}
-use Rattle.cf_model.specs.Step.{line_shown}
-use Rattle.cf_model.specs.Stripes.{touches}
+use Rattle.cf_chart.specs.Common.{Plan, line_of}
+use Rattle.cf_model.specs.Common.{documents_of, order_shown, numbers, name_refusal, blank_plan, line_shown, touches}
 
 abbrev by_object : ℕ → ℕ → Line
 by_object dept object = record { fund = 1; dept = dept; part = part.Object object; later = false }

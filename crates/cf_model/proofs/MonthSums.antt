@@ -1,13 +1,9 @@
 -- The charges of months add up, and interest by civil days.
-use Rattle.std.proofs.Common.{◌≡◌, ◌⊎◌, inl, inr, ℕ, zero, suc, ◌+◌, ◌-◌, ◌*◌, ◌/◌, ◌%◌, ◌<◌, ◌≤◌, Bool, true, false, not, if◌then◌else◌, nat_le, List, [], ◌∷◌, sum_by, find, Some, ℤ, pos, ◌+ℤ◌, ◌-ℤ◌, unsigned_abs, refl, sym, ap, ◌∙◌, arith}
-use Rattle.std.specs.List.{filter}
-use Rattle.std.proofs.lemmas.Bool.Decides.{leb_tells}
-use Rattle.std.proofs.lemmas.Int.{ints}
-use Rattle.cf_chart.specs.Plan.{Plan}
-use Rattle.cf_model.specs.Assets.{Asset, Stage, held, void, disposed, counted, depreciation}
-use Rattle.cf_model.specs.Bonds.{Bond, Due, coupon, dues, dues_from, earned, interest_for}
-use Rattle.cf_model.specs.Laws.{charges_to, interest_to, ChargesAddUp, InterestAddsUp, EarnsByDays, days_run, running_interest}
-use Rattle.cf_model.specs.Months.{start_month}
+use Rattle.std.proofs.Common.{◌≡◌, ◌⊎◌, inl, inr, ℕ, zero, suc, ◌+◌, ◌-◌, ◌*◌, ◌/◌, ◌%◌, ◌<◌, ◌≤◌, Bool, true, false, not, if◌then◌else◌, nat_le, List, [], ◌∷◌, sum_by, find, Some, ℤ, pos, ◌+ℤ◌, ◌-ℤ◌, unsigned_abs, refl, sym, ap, ◌∙◌, arith, filter}
+use Rattle.cf_base.proofs.Common.{leb_tells, ints}
+use Rattle.cf_chart.specs.Common.{Plan}
+use Rattle.cf_model.specs.Common.{Asset, Stage, void, disposed, counted, depreciation, Bond, Due, coupon, dues, dues_from, earned, interest_for, charges_to, interest_to, ChargesAddUp, InterestAddsUp, EarnsByDays, days_run, running_interest, start_month}
+use Rattle.cf_model.specs.Assets.{held}
 use Rattle.cf_model.proofs.Debt.{earned_le, next_part}
 use Rattle.cf_model.proofs.Depreciated.{depreciated_le, not_depreciated}
 use Rattle.cf_model.proofs.InterestFormula.{days_to, is_running, earned_is, none_earned}

@@ -1,13 +1,10 @@
 -- The rows of a legal history are numbered 1, 2, 3 .. in the order in which they are entered, so a
 -- number names at most one.
-use Rattle.std.proofs.Common.{◌≡◌, ℕ, suc, ◌+◌, ◌≤◌, Bool, true, false, if◌then◌else◌, ◌==◌, List, [], ◌∷◌, ◌++◌, map, length, find, Some, option_to_list, refl, sym, subst, ap, ◌∙◌, arith}
-use Rattle.std.specs.List.{filter}
-use Rattle.std.proofs.lemmas.Grind.{common_steps}
+use Rattle.std.proofs.Common.{◌≡◌, ℕ, suc, ◌+◌, ◌≤◌, Bool, true, false, if◌then◌else◌, ◌==◌, List, [], ◌∷◌, ◌++◌, map, length, find, Some, option_to_list, refl, sym, subst, ap, ◌∙◌, arith, filter}
+use Rattle.cf_base.proofs.Common.{common_steps}
 use Rattle.cf_calls.specs.declared.entry.Entry.{Entry}
-use Rattle.cf_chart.specs.Plan.{Plan}
-use Rattle.cf_model.specs.Registers.{Registers, no_registers, registers_of, registers_step}
-use Rattle.cf_model.specs.Results.{draws}
-use Rattle.cf_model.specs.Step.{Adds, IsLegal}
+use Rattle.cf_chart.specs.Common.{Plan}
+use Rattle.cf_model.specs.Common.{Registers, no_registers, registers_of, registers_step, draws, Adds, IsLegal}
 use Rattle.cf_model.proofs.Accepted.{accepted}
 use Rattle.cf_model.proofs.Legal.{legal_induction}
 use Rattle.cf_model.proofs.Pushes.{registers_push}

@@ -1,20 +1,15 @@
 -- Years close one by one, in order: the closed ones are those before the open year.
 use Rattle.std.proofs.Common.{◌≡◌, ◌⊎◌, inl, inr, ℕ, zero, suc, ◌+◌, ◌<◌, ◌≤◌, Bool, true, false, ◌==◌, ◌||◌, nat_lt, List, [], ◌∷◌, ◌++◌, length, length-append, None, refl, sym, subst, ap, ◌∙◌, arith}
-use Rattle.std.specs.List.{list_any}
-use Rattle.std.proofs.lemmas.Bool.Decides.{leb_tells, eqb_tells}
-use Rattle.std.proofs.lemmas.Bool.{cases_lt}
+use Rattle.cf_base.proofs.Common.{list_any, leb_tells, eqb_tells, cases_lt}
 use Rattle.cf_base.specs.declared.calendar.Day.{Day}
 use Rattle.cf_calls.specs.declared.acts.Act.{Act}
 use Rattle.cf_calls.specs.declared.acts.Act.TheVariants.{Close}
 use Rattle.cf_calls.specs.declared.acts.Period.TheVariants as period
 use Rattle.cf_calls.specs.declared.entry.Entry.{Entry}
 use Rattle.cf_calls.specs.declared.refusal.Refusal.TheVariants as refusal
-use Rattle.cf_calls.specs.Acts.{closes_year}
-use Rattle.cf_calls.specs.Form.{IsActInForm}
-use Rattle.cf_chart.specs.Plan.{Plan}
-use Rattle.cf_model.specs.Calendar.{is_year_closed, open_year, open_year_after, first_failing}
-use Rattle.cf_model.specs.Rules.{closing_refusal, closed_refusal, closed_year}
-use Rattle.cf_model.specs.Step.{Adds, IsLegal}
+use Rattle.cf_calls.specs.Common.{closes_year, IsActInForm}
+use Rattle.cf_chart.specs.Common.{Plan}
+use Rattle.cf_model.specs.Common.{is_year_closed, open_year, open_year_after, first_failing, closing_refusal, closed_refusal, closed_year, Adds, IsLegal}
 use Rattle.cf_model.proofs.Accepted.{accepted}
 use Rattle.cf_model.proofs.First.{or_else_none, refuse_none}
 use Rattle.cf_model.proofs.Legal.{legal_induction}

@@ -1,9 +1,8 @@
 -- The deeds of each act fit the posting table: only the close of a month makes deeds of sums, over
 -- at most as many assets and bonds as entries allow.
-use Rattle.std.proofs.Common.{ℕ, ◌≤◌, ◌<◌, ◌^◌, ◌==◌, Bool, not, List, [], ◌∷◌, map, length, All, Option, Some, None, arith}
-use Rattle.std.specs.List.{filter, AllByRecursion}
-use Rattle.std.proofs.lemmas.List.Elements.{All-from_recursion}
-use Rattle.cf_base.specs.Limits.{most_entries, most_cents}
+use Rattle.std.proofs.Common.{ℕ, ◌≤◌, ◌<◌, ◌^◌, ◌==◌, Bool, not, List, [], ◌∷◌, map, length, All, Option, Some, None, arith, filter}
+use Rattle.cf_base.proofs.Common.{AllByRecursion, All-from_recursion}
+use Rattle.cf_base.specs.Common.{most_entries, most_cents}
 use Rattle.cf_base.specs.declared.calendar.Day.{Day}
 use Rattle.cf_calls.specs.declared.acts.Act.{Act}
 use Rattle.cf_calls.specs.declared.acts.Act.TheVariants.{Voucher, VoidVoucher, Pay, Bill, Collect, Receive, WriteOff, Asset, Issue, PayDue, Leave, Interfund, Close, Lease}
@@ -14,18 +13,9 @@ use Rattle.cf_calls.specs.declared.acts.LeaveAct.TheVariants.{Earn, Use, Mature}
 use Rattle.cf_calls.specs.declared.acts.Period.TheVariants as period
 use Rattle.cf_calls.specs.declared.entry.Entry.{Entry}
 use Rattle.cf_chart.specs.declared.rows.Function.{Function}
-use Rattle.cf_chart.specs.Plan.{Plan}
-use Rattle.cf_model.specs.Assets.{Asset as CapitalAsset, is_leased, leased, owned}
-use Rattle.cf_model.specs.Bonds.{Bond, Due, next_due}
-use Rattle.cf_model.specs.Calendar.{document_year, year_of_day}
-use Rattle.cf_model.specs.Deeds.{bonds_deeds, close_deeds, collect_deeds, deeds_of, dispose_deed, due_deeds, function_charge, fund_deed, pay_deed, pay_items, spent_item, write_off_deeds}
-use Rattle.cf_model.specs.Documents.{Expenditure}
-use Rattle.cf_model.specs.Moves.{spent_by}
+use Rattle.cf_chart.specs.Common.{Plan}
+use Rattle.cf_model.specs.Common.{Asset as CapitalAsset, is_leased, leased, owned, Bond, Due, next_due, document_year, year_of_day, bonds_deeds, close_deeds, collect_deeds, deeds_of, dispose_deed, due_deeds, function_charge, fund_deed, pay_deed, pay_items, spent_item, write_off_deeds, Expenditure, spent_by, bill_at, year_at, Registers, registers_of, IsLegal}
 use Rattle.cf_model.specs.Receivables as receivables
-use Rattle.cf_model.specs.Receivables.{bill_at}
-use Rattle.cf_model.specs.Months.{year_at}
-use Rattle.cf_model.specs.Registers.{Registers, registers_of}
-use Rattle.cf_model.specs.Step.{IsLegal}
 use Rattle.cf_model.proofs.CloseBounds.{IsSmallBond, bonds_most, function_most}
 use Rattle.cf_model.proofs.Holdings.{AreHoldings, IsLowBond, IsLowCost, are_held}
 use Rattle.cf_model.proofs.Posted.{all_filter}

@@ -1,26 +1,18 @@
 -- The posts of a legal history are in the years of the books.
 use Rattle.std.proofs.Common.{◌≡◌, ℕ, ◌≤◌, true, List, [], ◌∷◌, ◌++◌, All, None, sym, subst, arith}
-use Rattle.std.specs.List.{AllByRecursion}
-use Rattle.std.proofs.lemmas.List.Elements.{All-from_recursion}
+use Rattle.cf_base.proofs.Common.{AllByRecursion, All-from_recursion}
 use Rattle.cf_base.specs.declared.calendar.Day.{Day}
-use Rattle.cf_base.specs.Calendar.{is_day}
+use Rattle.cf_base.specs.Common.{is_day}
 use Rattle.cf_calls.specs.declared.acts.Act.{Act}
 use Rattle.cf_calls.specs.declared.acts.Act.TheVariants as act
 use Rattle.cf_calls.specs.declared.acts.Period.TheVariants as period
 use Rattle.cf_calls.specs.declared.entry.Entry.{Entry}
 use Rattle.cf_calls.specs.declared.read.Basis.{Basis}
-use Rattle.cf_calls.specs.Form.{IsActInForm}
-use Rattle.cf_chart.specs.Plan.{Plan}
+use Rattle.cf_calls.specs.Common.{IsActInForm}
+use Rattle.cf_chart.specs.Common.{Plan}
 use Rattle.cf_ledger.specs.Posts.{IsInYears}
-use Rattle.cf_model.specs.Calendar.{year_of_day, document_year}
-use Rattle.cf_model.specs.Deeds.{deeds_of}
-use Rattle.cf_model.specs.Documents.{Expenditure}
-use Rattle.cf_model.specs.Postings.{act_posts}
-use Rattle.cf_model.specs.Receivables.{Bill, bills_by}
-use Rattle.cf_model.specs.Registers.{Registers, registers_of, no_registers}
-use Rattle.cf_model.specs.Rules.{closed_refusal, period_refusal}
-use Rattle.cf_model.specs.RegisterRules.{order_refusal}
-use Rattle.cf_model.specs.Step.{Adds, IsLegal}
+use Rattle.cf_model.specs.Common.{year_of_day, document_year, deeds_of, Expenditure, act_posts, bills_by, Registers, registers_of, no_registers, closed_refusal, period_refusal, order_refusal, Adds, IsLegal}
+use Rattle.cf_model.specs.Receivables.{Bill}
 use Rattle.cf_model.proofs.Accepted.{accepted}
 use Rattle.cf_model.proofs.BookYears.{HasYears, IsTimely, deeds_years, year_at_most}
 use Rattle.cf_model.proofs.Holdings.{are_timely}

@@ -1,6 +1,6 @@
 -- A change that was taken is known from then on.
 use Rattle.std.proofs.Common.{◌≡◌, ◌⊎◌, inl, inr, ℕ, zero, suc, ◌+◌, ◌-◌, ◌<◌, ◌≤◌, Bool, true, false, if◌then◌else◌, ◌&&◌, nat_lt, List, [], ◌∷◌, ◌++◌, length, Option, Some, None, slice_get, refl, sym, ap, ◌∙◌, arith}
-use Rattle.std.proofs.lemmas.Bool.Decides.{leb_tells}
+use Rattle.cf_base.proofs.Common.{leb_tells}
 use Rattle.cf_calls.specs.declared.call.Change.{Change}
 use Rattle.cf_calls.specs.declared.entry.Drawn.{Drawn}
 use Rattle.cf_calls.specs.declared.entry.Entry.{Entry}
@@ -8,14 +8,11 @@ use Rattle.cf_calls.specs.declared.refusal.Refusal.{Refusal}
 use Rattle.cf_calls.specs.declared.refusal.Refusal.TheVariants as refusal
 use Rattle.cf_calls.specs.declared.reply.Verdict.{Verdict}
 use Rattle.cf_calls.specs.declared.reply.Verdict.TheVariants.{Accept, Repeat, Refuse}
-use Rattle.cf_calls.specs.Same.{same_act, same_call, same_day, same_key}
+use Rattle.cf_calls.specs.Common.{same_act, same_call, same_day}
+use Rattle.cf_calls.specs.Same.{same_key}
 use Rattle.cf_calls.proofs.SameCalls.{same_call_decides}
-use Rattle.cf_chart.specs.Plan.{Plan}
-use Rattle.cf_model.specs.Laws.{history_after, IsTaken, RepeatsAddNothing}
-use Rattle.cf_model.specs.Registers.{registers_of}
-use Rattle.cf_model.specs.Results.{draws}
-use Rattle.cf_model.specs.Rules.{ahead_refusal, desk_refusal, first_of, or_else, place_from}
-use Rattle.cf_model.specs.Step.{entry_at, is_same, known_at, later_rules, next_by, verdict_after, verdict_by, verdict_new, verdict_of}
+use Rattle.cf_chart.specs.Common.{Plan}
+use Rattle.cf_model.specs.Common.{history_after, IsTaken, RepeatsAddNothing, registers_of, draws, ahead_refusal, desk_refusal, first_of, or_else, place_from, entry_at, is_same, known_at, later_rules, next_by, verdict_after, verdict_by, verdict_new, verdict_of}
 use Rattle.cf_model.proofs.First.{refuse_none}
 
 -- the history has the change, at the first place of its desk and key

@@ -1,27 +1,16 @@
 -- The roll of a fiscal year asks nothing of any line: what it carries raises the next year's
 -- appropriation by as much.
-use Rattle.std.proofs.Common.{◌≡◌, ℕ, ◌+◌, Bool, true, false, not, ◌&&◌, if◌then◌else◌, List, [], ◌∷◌, ◌++◌, map, Some, None, ℤ, pos, ◌+ℤ◌, ◌-ℤ◌, ◌≤ℤ◌, refl, sym, subst, ap, ◌∙◌, arith}
-use Rattle.std.specs.List.{filter}
-use Rattle.std.proofs.lemmas.Int.{ints}
-use Rattle.std.proofs.lemmas.List.Sums.{sum_by-cons}
+use Rattle.std.proofs.Common.{◌≡◌, ℕ, ◌+◌, Bool, true, false, not, ◌&&◌, if◌then◌else◌, List, [], ◌∷◌, ◌++◌, map, Some, None, ℤ, pos, ◌+ℤ◌, ◌-ℤ◌, ◌≤ℤ◌, refl, sym, subst, ap, ◌∙◌, arith, filter}
+use Rattle.cf_base.proofs.Common.{ints, sum_by-cons}
 use Rattle.cf_calls.specs.declared.acts.Act.{Act}
 use Rattle.cf_calls.specs.declared.acts.Act.TheVariants.{Amend, Transfer, Close}
 use Rattle.cf_calls.specs.declared.acts.Amendment.{Amendment}
 use Rattle.cf_calls.specs.declared.acts.LineTransfer.{LineTransfer}
-use Rattle.cf_calls.specs.Acts.{amendment_of, transfer_of}
+use Rattle.cf_calls.specs.Common.{amendment_of, transfer_of, IsActInForm}
 use Rattle.cf_calls.specs.declared.acts.Period.{Period}
 use Rattle.cf_calls.specs.declared.entry.Entry.{Entry}
-use Rattle.cf_calls.specs.Form.{IsActInForm}
-use Rattle.cf_chart.specs.Plan.{Plan}
-use Rattle.cf_model.specs.Calendar.{rolled_year, rolls}
-use Rattle.cf_model.specs.Documents.{Hold}
-use Rattle.cf_model.specs.LineNumbers.{carried_sum, counts, held_amount}
-use Rattle.cf_model.specs.Moves.{Move, asked_of, asks_of_moves, lapses_of, release_move, roll_moves}
-use Rattle.cf_model.specs.OrderItems.{OrderItem, Carried, carried_of, is_live, lapses, open_of}
-use Rattle.cf_model.specs.Registers.{Registers, registers_of}
-use Rattle.cf_model.specs.Rules.{exceed_refusal}
-use Rattle.cf_model.specs.LineNumbers.{years_end}
-use Rattle.cf_model.specs.Step.{IsLegal}
+use Rattle.cf_chart.specs.Common.{Plan}
+use Rattle.cf_model.specs.Common.{rolled_year, rolls, Hold, carried_sum, counts, held_amount, Move, asked_of, asks_of_moves, lapses_of, release_move, roll_moves, OrderItem, Carried, carried_of, is_live, lapses, open_of, Registers, registers_of, exceed_refusal, years_end, IsLegal}
 use Rattle.cf_model.proofs.Asked.{least_excess, none_excess}
 use Rattle.cf_model.proofs.Changed.{asked_is}
 use Rattle.cf_model.proofs.Moved.{moved_append}

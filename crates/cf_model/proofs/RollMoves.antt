@@ -1,23 +1,15 @@
 -- What the roll of a fiscal year makes of a line's numbers: nothing of the year stays held or
 -- encumbered, and in the year after its line, which may be of another level, is encumbered by what
 -- is carried onto it, with as much appropriation.
-use Rattle.std.proofs.Common.{◌≡◌, ℕ, ◌+◌, ◌<◌, ◌≤◌, Bool, true, false, not, if◌then◌else◌, ◌==◌, ◌&&◌, List, [], ◌∷◌, ◌++◌, length, map, Option, Some, None, ℤ, pos, ◌+ℤ◌, ◌-ℤ◌, ◌-◌, refl, sym, ap, ◌∙◌, arith}
-use Rattle.std.specs.List.{filter, position}
-use Rattle.std.proofs.lemmas.Grind.{common_steps}
-use Rattle.std.proofs.lemmas.List.Quantifiers.{position-Some}
-use Rattle.std.proofs.lemmas.Int.{ints}
-use Rattle.std.proofs.lemmas.List.Sums.{sum_by-cons}
+use Rattle.std.proofs.Common.{◌≡◌, ℕ, ◌+◌, ◌<◌, ◌≤◌, Bool, true, false, not, if◌then◌else◌, ◌==◌, ◌&&◌, List, [], ◌∷◌, ◌++◌, length, map, Option, Some, None, ℤ, pos, ◌+ℤ◌, ◌-ℤ◌, ◌-◌, refl, sym, ap, ◌∙◌, arith, filter, position}
+use Rattle.cf_base.proofs.Common.{common_steps, position-Some, ints, sum_by-cons}
 use Rattle.cf_calls.specs.declared.acts.Act.{Act}
 use Rattle.cf_calls.specs.declared.items.AccountItem.{AccountItem}
 use Rattle.cf_chart.specs.declared.rows.Line.{Line}
 use Rattle.cf_chart.specs.declared.rows.LinePart.TheVariants as line_part
 use Rattle.cf_chart.specs.declared.rows.Object.{Object}
-use Rattle.cf_chart.specs.Plan.{Plan, covers, is_later, line_for, object_at}
-use Rattle.cf_model.specs.Calendar.{is_year, rolled_year, rolls}
-use Rattle.cf_model.specs.Documents.{Hold}
-use Rattle.cf_model.specs.LineNumbers.{carried_sum, counts, encumbered_sum, held_amount, held_sum, is_line, is_on}
-use Rattle.cf_model.specs.Moves.{Move, carried_to, goes_on, lapses_of, moved_sum, release_move, roll_moves}
-use Rattle.cf_model.specs.OrderItems.{OrderItem, Carried, carried_of, is_live, lapses, liquidated_sum, open_of}
+use Rattle.cf_chart.specs.Common.{Plan, covers, is_later, line_for, object_at}
+use Rattle.cf_model.specs.Common.{is_year, rolled_year, rolls, Hold, carried_sum, counts, encumbered_sum, held_amount, held_sum, is_line, is_on, Move, carried_to, goes_on, lapses_of, moved_sum, release_move, roll_moves, OrderItem, Carried, carried_of, is_live, lapses, liquidated_sum, open_of}
 use Rattle.cf_model.proofs.Moved.{moved_append}
 
 -- ---- one item

@@ -22,9 +22,8 @@ use Rattle.cf_chart.specs.declared.rows.Level.TheVariants as level
 use Rattle.cf_chart.specs.declared.rows.LinePart.TheVariants as part
 use Rattle.cf_chart.specs.declared.rows.ObjectKind.TheVariants as object_kind
 use Rattle.cf_chart.specs.declared.rows.Policy.TheVariants as policy
-use Rattle.cf_chart.specs.Plan.{Plan}
-use Rattle.cf_model.specs.State.{blank_plan}
-use Rattle.cf_model.specs.Step.{verdict_of}
+use Rattle.cf_chart.specs.Common.{Plan}
+use Rattle.cf_model.specs.Common.{blank_plan, verdict_of}
 
 -- the fiscal year 2026 begins in July 2025; fund 1 and department 10 have a line, and fund 2 has
 -- none

@@ -1,17 +1,14 @@
 -- What an act spends beside documents: at most two amounts, in years that have numbers.
-use Rattle.std.proofs.Common.{◌≡◌, ℕ, zero, suc, ◌≤◌, ◌<◌, true, ◌==◌, List, [], ◌∷◌, slice_get, arith}
-use Rattle.std.specs.List.{filter, AllByRecursion}
+use Rattle.std.proofs.Common.{◌≡◌, ℕ, zero, suc, ◌≤◌, ◌<◌, true, ◌==◌, List, [], ◌∷◌, slice_get, arith, filter}
+use Rattle.cf_base.proofs.Common.{AllByRecursion}
 use Rattle.cf_base.specs.declared.calendar.Day.{Day}
-use Rattle.cf_base.specs.Calendar.{is_day}
+use Rattle.cf_base.specs.Common.{is_day}
 use Rattle.cf_calls.specs.declared.acts.Act.{Act}
 use Rattle.cf_calls.specs.declared.acts.Act.TheVariants as act
 use Rattle.cf_calls.specs.declared.acts.DebtPayment.{DebtPayment}
 use Rattle.cf_calls.specs.declared.acts.LeaveAct.TheVariants.{Earn, Use, Mature}
-use Rattle.cf_chart.specs.Plan.{Plan}
-use Rattle.cf_model.specs.Bonds.{Bond, Due, dues, next_due}
-use Rattle.cf_model.specs.Months.{year_at}
-use Rattle.cf_model.specs.Registers.{Registers}
-use Rattle.cf_model.specs.Spendings.{Spending, bonds_spendings, due_spendings, spendings_by}
+use Rattle.cf_chart.specs.Common.{Plan}
+use Rattle.cf_model.specs.Common.{Bond, Due, dues, next_due, year_at, Registers, Spending, bonds_spendings, due_spendings, spendings_by}
 use Rattle.cf_model.proofs.BookYears.{IsTimely}
 use Rattle.cf_model.proofs.Posted.{all_filter}
 use Rattle.cf_model.proofs.Tidy.{all_append}

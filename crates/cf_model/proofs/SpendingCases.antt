@@ -7,9 +7,8 @@ use Rattle.cf_calls.specs.declared.entry.Entry.{Entry}
 use Rattle.cf_calls.specs.declared.items.Charge.TheVariants.{Direct}
 use Rattle.cf_chart.specs.declared.rows.LinePart.TheVariants as part
 use Rattle.cf_chart.specs.declared.rows.ObjectKind.TheVariants as object_kind
-use Rattle.cf_chart.specs.Plan.{Plan}
-use Rattle.cf_model.specs.LineNumbers.{expended}
-use Rattle.cf_model.specs.State.{blank_plan}
+use Rattle.cf_chart.specs.Common.{Plan}
+use Rattle.cf_model.specs.Common.{expended, blank_plan}
 
 -- the fiscal year 2026 begins in July 2025; a department has one line for its people, and one each
 -- for principal and interest

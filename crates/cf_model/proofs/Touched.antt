@@ -1,9 +1,6 @@
 -- An entry that doesn't touch a stripe leaves the numbers of its lines.
-use Rattle.std.proofs.Common.{◌≡◌, ℕ, ◌+◌, Bool, true, false, not, ◌==◌, ◌&&◌, ◌||◌, if◌then◌else◌, List, [], ◌∷◌, ◌++◌, map, Option, Some, None, is_some, ℤ, pos, ◌+ℤ◌, ◌-ℤ◌, refl, sym, subst, arith, ◌∙◌, ap, append-nil, append_assoc}
-use Rattle.std.specs.List.{list_any, filter, AllByRecursion, count_by}
-use Rattle.std.proofs.lemmas.Grind.{common_steps}
-use Rattle.std.proofs.lemmas.Int.{ints}
-use Rattle.std.proofs.lemmas.List.Sums.{sum_by-cons}
+use Rattle.std.proofs.Common.{◌≡◌, ℕ, ◌+◌, Bool, true, false, not, ◌==◌, ◌&&◌, ◌||◌, if◌then◌else◌, List, [], ◌∷◌, ◌++◌, map, Option, Some, None, is_some, ℤ, pos, ◌+ℤ◌, ◌-ℤ◌, refl, sym, subst, arith, ◌∙◌, ap, append-nil, append_assoc, filter, count_by}
+use Rattle.cf_base.proofs.Common.{list_any, AllByRecursion, common_steps, ints, sum_by-cons}
 use Rattle.cf_base.specs.declared.calendar.Day.{Day}
 use Rattle.cf_calls.specs.declared.acts.Act.{Act}
 use Rattle.cf_calls.specs.declared.acts.Act.TheVariants.{Adopt, Amend, Transfer, Requisition, Withdraw, Order, ChangeOrder, CancelOrder, Voucher, VoidVoucher, Pay, Bill, Collect, Receive, WriteOff, Asset, Issue, PayDue, Leave, Interfund, Close, Lease}
@@ -16,20 +13,10 @@ use Rattle.cf_calls.specs.declared.items.Charge.TheVariants.{Direct, OnOrder}
 use Rattle.cf_calls.specs.declared.items.LineAmount.{LineAmount}
 use Rattle.cf_calls.specs.declared.items.VoucherItem.{VoucherItem}
 use Rattle.cf_calls.specs.declared.refusal.Refusal.TheVariants as refusal
-use Rattle.cf_calls.specs.Form.{is_distinct}
-use Rattle.cf_chart.specs.Plan.{Plan, is_later, line_in}
-use Rattle.cf_model.specs.Bonds.{Bond, Due, next_due}
-use Rattle.cf_model.specs.Calendar.{document_year, rolled_year}
-use Rattle.cf_model.specs.OrderItems.{OrderItem, is_named, item_named, item_step}
-use Rattle.cf_model.specs.Documents.{Hold, Documents, documents_of, is_number}
-use Rattle.cf_model.specs.DocumentRules.{on_order_refusal, charge_not_on_order, not_on_order, has_account, is_account}
-use Rattle.cf_model.specs.LineNumbers.{counts, carried_sum, is_on, is_line, amount_for, adopted_by, added_by, removed_by, original, appropriated, held, encumbered, expended, numbers}
-use Rattle.cf_model.specs.Moves.{Move, document_moves, moves_of, carried_by, moved_sum, spending_move, releases, release_move, hold_move, order_move, item_move, spend_move, charge_move, move_if}
-use Rattle.cf_model.specs.Registers.{Registers, registers_of}
-use Rattle.cf_model.specs.Rules.{first_refusal}
-use Rattle.cf_model.specs.Spendings.{Spending, due_spendings, bonds_spendings, spendings_by}
-use Rattle.cf_model.specs.Step.{Adds, IsLegal, IsLegalAfter}
-use Rattle.cf_model.specs.Stripes.{stripe_of, is_line_in, is_in, is_item_in, touches, entry_touches}
+use Rattle.cf_calls.specs.Common.{is_distinct}
+use Rattle.cf_chart.specs.Common.{Plan, is_later, line_in}
+use Rattle.cf_model.specs.Common.{Bond, Due, next_due, document_year, rolled_year, OrderItem, is_named, item_named, item_step, Hold, Documents, documents_of, is_number, on_order_refusal, charge_not_on_order, not_on_order, has_account, is_account, counts, carried_sum, is_on, is_line, amount_for, adopted_by, added_by, removed_by, original, appropriated, encumbered, expended, numbers, Move, document_moves, moves_of, carried_by, moved_sum, spending_move, releases, release_move, hold_move, order_move, item_move, spend_move, charge_move, move_if, Registers, registers_of, first_refusal, Spending, due_spendings, bonds_spendings, spendings_by, Adds, IsLegal, IsLegalAfter, stripe_of, is_line_in, is_in, is_item_in, touches, entry_touches}
+use Rattle.cf_model.specs.LineNumbers.{held}
 use Rattle.cf_model.proofs.Accepted.{accepted}
 use Rattle.cf_model.proofs.Changed.{original_push, appropriated_push, held_push, encumbered_push, expended_push, nothing_rolled, unrolled_moves}
 use Rattle.cf_model.proofs.First.{or_else_none, refuse_none}

@@ -1,10 +1,8 @@
 -- The worked rows: each side is computed.
 use Rattle.std.proofs.Common.{refl}
 use Rattle.jiff_core.specs.Calendar.{days_from_civil, day_count, days_of_years, days_of_months}
-use Rattle.cf_base.specs.Calendar.{day_of_number}
-use Rattle.cf_model.specs.LineNumbers.{years_end}
-use Rattle.cf_model.specs.Rules.{exceed_refusal}
-use Rattle.cf_model.specs.Worked.{SpendsToTheCent, TellsRoom, LiquidatesOrders, RollsOrders, RecognisesCollections, DepreciatesByMonths, EarnsInterest, KeepsLeave, JoinsBothBases, TellsRepeats, RefusesInOrder, ClosesInOrder, PaysFromCash}
+use Rattle.cf_base.specs.Common.{day_of_number}
+use Rattle.cf_model.specs.Common.{years_end, exceed_refusal, SpendsToTheCent, TellsRoom, LiquidatesOrders, RollsOrders, RecognisesCollections, DepreciatesByMonths, EarnsInterest, KeepsLeave, JoinsBothBases, TellsRepeats, RefusesInOrder, ClosesInOrder, PaysFromCash}
 
 pub spends_to_the_cent : SpendsToTheCent
 spends_to_the_cent = (refl, refl, refl, refl, refl, refl)

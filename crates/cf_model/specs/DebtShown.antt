@@ -2,7 +2,7 @@
 use Rattle.std.specs.Prelude.{ℕ, ◌-◌, List, Option, option_map, sum_by, ℤ, pos, ◌-ℤ◌}
 use Rattle.cf_calls.specs.declared.shown.Shown.{Shown}
 use Rattle.cf_calls.specs.declared.shown.Shown.TheVariants as shown
-use Rattle.cf_chart.specs.Plan.{Plan}
+use Rattle.cf_chart.specs.Common.{Plan}
 use Rattle.cf_model.specs.Bonds.{Bond, coupon, earned, next_due, paid_dues}
 use Rattle.cf_model.specs.Leave.{LeaveChange, leave_of}
 use Rattle.cf_model.specs.RegisterRules.{due_day}

@@ -7,7 +7,7 @@ use Rattle.cf_calls.specs.declared.call.Change.{Change}
 use Rattle.cf_calls.specs.declared.entry.Entry.{Entry}
 use Rattle.cf_calls.specs.declared.reply.Verdict.{Verdict}
 use Rattle.cf_calls.specs.declared.reply.Verdict.TheVariants.{Accept, Repeat, Refuse}
-use Rattle.cf_chart.specs.Plan.{Plan}
+use Rattle.cf_chart.specs.Common.{Plan}
 use Rattle.cf_model.specs.Assets.{Asset, charge, depreciation}
 use Rattle.cf_model.specs.Bonds.{Bond, Due, coupon, dues, earned, interest_charge, interest_for}
 use Rattle.cf_model.specs.RegisterRules.{month_at}

@@ -2,8 +2,7 @@
 -- 1600). The periods are an own rule.
 use Rattle.std.specs.Prelude.{ℕ, if◌then◌else◌, ◌==◌, ◌||◌}
 use Rattle.cf_base.specs.declared.calendar.Day.{Day}
-use Rattle.cf_base.specs.Calendar.{month_of_day, year_of_month}
-use Rattle.cf_base.specs.Windows.{year_end, is_in_window}
+use Rattle.cf_base.specs.Common.{month_of_day, year_of_month, year_end, is_in_window}
 
 abbrev pub year_in : ℕ → Day → ℕ
 year_in first day = year_of_month first (month_of_day day)

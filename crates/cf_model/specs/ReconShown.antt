@@ -3,7 +3,7 @@
 use Rattle.std.specs.Prelude.{ℕ, List, ℤ, pos, ◌-ℤ◌}
 use Rattle.cf_calls.specs.declared.entry.Entry.{Entry}
 use Rattle.cf_calls.specs.declared.shown.ReconShown.{ReconShown}
-use Rattle.cf_chart.specs.Plan.{Plan}
+use Rattle.cf_chart.specs.Common.{Plan}
 use Rattle.cf_model.specs.Items.{capital, right_to_use, deferred, bonds, leases, accrued, absences, fund_balances, net_position}
 use Rattle.cf_model.specs.Registers.{Registers, registers_of}
 

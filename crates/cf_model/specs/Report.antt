@@ -8,7 +8,7 @@ use Rattle.cf_calls.specs.declared.reply.Row.{Row}
 use Rattle.cf_calls.specs.declared.shown.ReconShown.{ReconShown}
 use Rattle.cf_calls.specs.declared.shown.Shown.{Shown}
 use Rattle.cf_calls.specs.declared.shown.Shown.TheVariants as shown
-use Rattle.cf_chart.specs.Plan.{Plan}
+use Rattle.cf_chart.specs.Common.{Plan}
 use Rattle.cf_ledger.specs.Posts.{is_in_total, sum_where}
 use Rattle.cf_model.specs.Changes.{Changes, changes_of}
 use Rattle.cf_model.specs.Estimates.{estimate}

@@ -28,7 +28,7 @@ use Rattle.cf_chart.specs.declared.rows.LinePart.TheVariants as part
 use Rattle.cf_chart.specs.declared.rows.ObjectKind.TheVariants as object_kind
 use Rattle.cf_chart.specs.declared.rows.Policy.TheVariants as policy
 use Rattle.cf_chart.specs.declared.rows.RevenueKind.TheVariants as revenue_kind
-use Rattle.cf_chart.specs.Plan.{Plan}
+use Rattle.cf_chart.specs.Common.{Plan}
 use Rattle.cf_model.specs.Assets.{depreciation}
 use Rattle.cf_model.specs.Bonds.{earned}
 use Rattle.cf_model.specs.Cash.{cash_refusal}

@@ -1,26 +1,13 @@
 -- The statements of each legal history articulate, in each fiscal year.
 use Rattle.std.proofs.Common.{◌≡◌, ℕ, ◌-◌, ◌≤◌, List, [], ◌∷◌, ◌++◌, flat_map, take, ℤ, pos, neg_ℤ, ◌+ℤ◌, ◌-ℤ◌, codes, Ok, refl, sym, ap, ◌∙◌, arith}
-use Rattle.std.proofs.lemmas.Int.{ints}
+use Rattle.cf_base.proofs.Common.{ints}
 use Rattle.cf_base.specs.declared.statement.Kind.TheVariants as kind
-use Rattle.cf_calls.specs.declared.entry.Entry.{Entry}
-use Rattle.cf_calls.specs.declared.read.Basis.TheVariants.{Fund as FundBasis, Gov as GovBasis}
-use Rattle.cf_calls.specs.declared.reply.Row.{Row}
+use Rattle.cf_model.specs.Common.{Entry, Gov as GovBasis, Row, ChangesAddUp, changes_of, Reconciles, absences, accrued, bonds, capital, deferred, fund_balances, leases, net_position, right_to_use, balance_of, posts_in, registers_of, fund_balance, report_rows, sums_of, IsLegal, int_sum}
+use Rattle.cf_calls.specs.declared.read.Basis.TheVariants.{Fund as FundBasis}
 use Rattle.cf_chart.specs.declared.rows.Fund.{Fund}
-use Rattle.cf_chart.specs.Plan.{Plan}
-use Rattle.cf_chart.specs.Reading.{chart_of}
+use Rattle.cf_chart.specs.Common.{Plan, chart_of}
 use Rattle.cf_ledger.specs.Posts.{is_in_total}
-use Rattle.cf_model.specs.Changes.{ChangesAddUp, changes_of}
-use Rattle.cf_model.specs.Items.{Reconciles, absences, accrued, bonds, capital, deferred, fund_balances, leases, net_position, right_to_use}
-use Rattle.cf_model.specs.Postings.{balance_of, posts_in}
-use Rattle.cf_model.specs.Registers.{registers_of}
-use Rattle.cf_model.specs.Report.{fund_balance, report_rows, sums_of}
-use Rattle.cf_model.specs.Step.{IsLegal}
-use Rattle.cf_model.specs.Sums.{int_sum}
-use Rattle.cf_model.proofs.FundAccounts.{fund_balance_is}
-use Rattle.cf_model.proofs.Lawful.{IsWhole}
-use Rattle.cf_model.proofs.Legal.{legal_take}
-use Rattle.cf_model.proofs.LegalReconciled.{changes_always, reconciles_always}
-use Rattle.cf_model.proofs.Totals.{all_so, sum_same}
+use Rattle.cf_model.proofs.Common.{fund_balance_is, IsWhole, legal_take, changes_always, reconciles_always, all_so, sum_same}
 use Rattle.cf_statements.specs.Activities.{activity_row, change, function_rows as activity_rows, general_rows, gains, interest_of, total_activity}
 use Rattle.cf_statements.specs.Balance as balance
 use Rattle.cf_statements.specs.Operating.{financing_rows, function_rows, net_change, outlay_rows, revenue_rows, total_expenditures, total_revenues}

@@ -1,18 +1,13 @@
 -- What a history posts balances through each year: so what its accounts from 300000 on come to is
 -- what those below come to, turned.
 use Rattle.std.proofs.Common.{◌≡◌, ◌⊎◌, inl, inr, ℕ, zero, suc, ◌+◌, ◌≤◌, ◌<◌, Bool, true, false, not, if◌then◌else◌, ◌==◌, ◌&&◌, nat_le, List, [], ◌∷◌, ℤ, pos, ◌+ℤ◌, refl, sym, ap, ◌∙◌, arith, add-one}
-use Rattle.std.proofs.lemmas.Bool.Decides.{leb_tells, eqb_tells}
-use Rattle.std.proofs.lemmas.Int.{ints}
-use Rattle.cf_calls.specs.declared.entry.Entry.{Entry}
-use Rattle.cf_calls.specs.declared.read.Basis.{Basis}
-use Rattle.cf_chart.specs.Plan.{Plan}
+use Rattle.cf_base.proofs.Common.{leb_tells, eqb_tells, ints}
+use Rattle.cf_model.specs.Common.{Entry, Basis, posts_after, posts_in, Registers, no_registers, registers_step}
+use Rattle.cf_chart.specs.Common.{Plan}
 use Rattle.cf_ledger.specs.declared.post.Post.{Post}
 use Rattle.cf_ledger.specs.Posts.{is_in_total, sum_where}
 use Rattle.cf_ledger.proofs.Sums.{next_year, sum_append}
-use Rattle.cf_model.specs.Postings.{posts_after, posts_in}
-use Rattle.cf_model.specs.Registers.{Registers, no_registers, registers_step}
-use Rattle.cf_model.proofs.Balanced.{each_entry_balances}
-use Rattle.cf_model.proofs.Totals.{none_first}
+use Rattle.cf_model.proofs.Common.{each_entry_balances, none_first}
 use Rattle.cf_post.specs.Balance.{BalancesFunds}
 
 pub same_sum : (s t : Post → Bool) → ((p : Post) → s p ≡ t p) → (posts : List Post) → sum_where s posts ≡ sum_where t posts

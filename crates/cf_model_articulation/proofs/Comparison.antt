@@ -1,51 +1,17 @@
 -- The budgetary comparison of each legal history articulates with its operating statement: what a
 -- fund's lines have expended in a year
 -- is the expenditures of the year.
-use Rattle.std.proofs.Common.{◌≡◌, ℕ, Bool, true, false, not, if◌then◌else◌, ◌==◌, ◌&&◌, List, [], ◌∷◌, ◌++◌, map, Option, Some, None, is_some, ℤ, pos, ◌+ℤ◌, ◌-ℤ◌, refl, sym, ap, subst, ◌∙◌, arith, option_to_list}
-use Rattle.std.specs.List.{filter, list_any, AllByRecursion}
-use Rattle.std.proofs.lemmas.Int.{ints}
-use Rattle.cf_base.specs.declared.calendar.Day.{Day}
-use Rattle.cf_calls.specs.Acts.{voucher_items}
-use Rattle.cf_calls.specs.declared.acts.Act.{Act}
+use Rattle.std.proofs.Common.{◌≡◌, ℕ, Bool, true, false, not, if◌then◌else◌, ◌==◌, ◌&&◌, List, [], ◌∷◌, ◌++◌, map, Option, Some, None, is_some, ℤ, pos, ◌+ℤ◌, ◌-ℤ◌, refl, sym, ap, subst, ◌∙◌, arith, option_to_list, filter}
+use Rattle.cf_base.proofs.Common.{list_any, AllByRecursion, ints}
+use Rattle.cf_model.specs.Common.{Day, Act, Donate, Dispose, DebtPayment, Earn, Use, Mature, Entry, VoucherItem, VoucherState, Object, Bond, Due, coupon, next_due, document_year, year_of_day, is_capital, is_current, is_interest, is_principal, bonds_deeds, deeds_of, due_deeds, spent_item, state_refusal, Documents, Expenditure, documents_of, expenditure_of, expenditure_step, paid_after, expended_amount, year_at, spent_by, bill_at, due_year, payment_year, register_name_refusal, unknown_bond, unknown_payment, Registers, no_registers, registers_of, bond_at, draws, sums_of, account_name, charge_names, first_refusal, is_spending, name_refusal, unknown, unknown_account, unknown_if, voucher_names, Spending, bonds_spendings, due_spendings, spendings_by, spendings_in, Adds, IsLegal, int_sum}
+use Rattle.cf_calls.specs.Common.{voucher_items}
 use Rattle.cf_calls.specs.declared.acts.Act.TheVariants as act
-use Rattle.cf_calls.specs.declared.acts.AssetAct.TheVariants.{Donate, Dispose}
-use Rattle.cf_calls.specs.declared.acts.DebtPayment.{DebtPayment}
-use Rattle.cf_calls.specs.declared.acts.LeaveAct.TheVariants.{Earn, Use, Mature}
 use Rattle.cf_calls.specs.declared.acts.Period.TheVariants as period
-use Rattle.cf_calls.specs.declared.entry.Entry.{Entry}
-use Rattle.cf_calls.specs.declared.items.VoucherItem.{VoucherItem}
 use Rattle.cf_calls.specs.declared.names.NameKind.TheVariants as kind
 use Rattle.cf_calls.specs.declared.refusal.Refusal.TheVariants as refusal
-use Rattle.cf_calls.specs.declared.shown.VoucherState.{VoucherState}
 use Rattle.cf_calls.specs.declared.shown.VoucherState.TheVariants as voucher
-use Rattle.cf_chart.specs.declared.rows.Object.{Object}
-use Rattle.cf_chart.specs.Plan.{Plan, department_at, fund_at, line_of, object_at}
-use Rattle.cf_model.specs.Bonds.{Bond, Due, coupon, next_due}
-use Rattle.cf_model.specs.Calendar.{document_year, year_of_day}
-use Rattle.cf_model.specs.Charted.{is_capital, is_current, is_interest, is_principal}
-use Rattle.cf_model.specs.Deeds.{bonds_deeds, deeds_of, due_deeds, spent_item}
-use Rattle.cf_model.specs.DocumentRules.{state_refusal}
-use Rattle.cf_model.specs.Documents.{Documents, Expenditure, documents_of, expenditure_of, expenditure_step, paid_after}
-use Rattle.cf_model.specs.LineNumbers.{expended_amount}
-use Rattle.cf_model.specs.Months.{year_at}
-use Rattle.cf_model.specs.Moves.{spent_by}
-use Rattle.cf_model.specs.Receivables.{bill_at}
-use Rattle.cf_model.specs.RegisterRules.{due_year, payment_year, register_name_refusal, unknown_bond, unknown_payment}
-use Rattle.cf_model.specs.Registers.{Registers, no_registers, registers_of}
-use Rattle.cf_model.specs.Results.{bond_at, draws}
-use Rattle.cf_model.specs.Report.{sums_of}
-use Rattle.cf_model.specs.Rules.{account_name, charge_names, first_refusal, is_spending, name_refusal, unknown, unknown_account, unknown_if, voucher_names}
-use Rattle.cf_model.specs.Spendings.{Spending, bonds_spendings, due_spendings, spendings_by, spendings_in}
-use Rattle.cf_model.specs.Step.{Adds, IsLegal}
-use Rattle.cf_model.specs.Sums.{int_sum}
-use Rattle.cf_model.proofs.Accepted.{accepted}
-use Rattle.cf_model.proofs.BondNumbers.{bonds_named}
-use Rattle.cf_model.proofs.First.{first_refusal-append, or_else_none}
-use Rattle.cf_model.proofs.Legal.{legal_induction, legal_push}
-use Rattle.cf_model.proofs.Pushes.{documents_are, registers_push}
-use Rattle.cf_model.proofs.SpendingPushes.{spendings_push}
-use Rattle.cf_model.proofs.Tidy.{all_append, all_map}
-use Rattle.cf_model.proofs.Totals.{all_so, none_last, stepped_all, stepped_sum, sum_append, sum_filter, sum_map, sum_none}
+use Rattle.cf_chart.specs.Common.{Plan, department_at, fund_at, line_of, object_at}
+use Rattle.cf_model.proofs.Common.{accepted, bonds_named, first_refusal-append, or_else_none, legal_induction, legal_push, documents_are, registers_push, spendings_push, all_append, all_map, all_so, none_last, stepped_all, stepped_sum, sum_append, sum_filter, sum_map, sum_none}
 use Rattle.cf_post.specs.declared.deed.Deed.TheVariants as deed
 use Rattle.cf_model_articulation.specs.Comparison.{Compares}
 use Rattle.cf_model_articulation.specs.OwnAccounts.{HasOwnAccounts}

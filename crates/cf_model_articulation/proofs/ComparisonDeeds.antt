@@ -1,27 +1,14 @@
 -- What each deed spends of a fund in a year, and that the total expenditures of a fund's operating
 -- statement come to that.
 use Rattle.std.proofs.Common.{◌≡◌, ◌⊎◌, inl, inr, ℕ, suc, ◌+◌, ◌-◌, ◌<◌, ◌≤◌, Bool, true, false, not, if◌then◌else◌, ◌==◌, ◌&&◌, nat_lt, nat_le, List, [], ◌∷◌, ◌++◌, ℤ, pos, ◌+ℤ◌, ◌-ℤ◌, refl, sym, ap, subst, ◌∙◌, arith}
-use Rattle.std.specs.List.{AllByRecursion}
-use Rattle.std.proofs.lemmas.Bool.Decides.{leb_tells}
-use Rattle.std.proofs.lemmas.Grind.{common_steps}
-use Rattle.std.proofs.lemmas.Int.{ints}
-use Rattle.cf_calls.specs.declared.entry.Entry.{Entry}
+use Rattle.cf_base.proofs.Common.{AllByRecursion, leb_tells, common_steps, ints}
+use Rattle.cf_model.specs.Common.{Entry, deeds_of, documents_of, balance_of, posts_in, registers_of, sums_of, Adds, IsLegal, int_sum}
 use Rattle.cf_calls.specs.declared.read.Basis.TheVariants.{Fund as FundBasis}
-use Rattle.cf_chart.specs.Plan.{Plan}
+use Rattle.cf_chart.specs.Common.{Plan}
 use Rattle.cf_ledger.specs.declared.post.Post.{Post}
 use Rattle.cf_ledger.specs.Posts.{sum_where}
 use Rattle.cf_ledger.proofs.Sums.{next_year}
-use Rattle.cf_model.specs.Deeds.{deeds_of}
-use Rattle.cf_model.specs.Documents.{documents_of}
-use Rattle.cf_model.specs.Postings.{balance_of, posts_in}
-use Rattle.cf_model.specs.Registers.{registers_of}
-use Rattle.cf_model.specs.Report.{sums_of}
-use Rattle.cf_model.specs.Step.{Adds, IsLegal}
-use Rattle.cf_model.specs.Sums.{int_sum}
-use Rattle.cf_model.proofs.Accepted.{accepted}
-use Rattle.cf_model.proofs.Legal.{legal_induction, legal_push}
-use Rattle.cf_model.proofs.Tidy.{all_append, both}
-use Rattle.cf_model.proofs.Totals.{all_so, none_first, none_last, same_all, sum_append}
+use Rattle.cf_model.proofs.Common.{accepted, legal_induction, legal_push, all_append, both, all_so, none_first, none_last, same_all, sum_append}
 use Rattle.cf_post.specs.declared.deed.Deed.{Deed}
 use Rattle.cf_post.specs.declared.deed.Deed.TheVariants as deed
 use Rattle.cf_post.specs.declared.deed.Spent.{Spent}

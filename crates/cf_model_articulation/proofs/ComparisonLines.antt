@@ -1,22 +1,10 @@
 -- The actual amounts of the budgetary comparison: of a fund's sources, and of its lines, item by
 -- item of what was spent.
 use Rattle.std.proofs.Common.{◌≡◌, ℕ, ◌+◌, ◌<◌, Bool, true, false, cond, not, if◌then◌else◌, ◌==◌, ◌&&◌, nat_lt, List, [], ◌∷◌, ◌++◌, length, Option, Some, None, is_some, sum_by, ℤ, pos, ◌+ℤ◌, refl, sym, ap, ◌∙◌, arith}
-use Rattle.std.specs.Bool.{beq}
-use Rattle.std.specs.List.{AllByRecursion, position_or_len}
-use Rattle.std.proofs.lemmas.Int.{ints}
-use Rattle.cf_calls.specs.declared.entry.Entry.{Entry}
-use Rattle.cf_calls.specs.declared.items.AccountItem.{AccountItem}
-use Rattle.cf_chart.specs.declared.rows.Line.{Line}
-use Rattle.cf_chart.specs.declared.rows.Object.{Object}
-use Rattle.cf_chart.specs.declared.rows.RevenueSource.{RevenueSource}
-use Rattle.cf_chart.specs.Plan.{Plan, covers, in_part, is_later, is_of_year, line_for, line_of, object_at}
-use Rattle.cf_model.specs.Documents.{Expenditure, documents_of}
-use Rattle.cf_model.specs.LineNumbers.{counts, expended, expended_amount, expended_sum, is_line, is_on, spending_sum}
-use Rattle.cf_model.specs.Report.{sums_of}
-use Rattle.cf_model.specs.Spendings.{Spending, spendings_in}
-use Rattle.cf_model.specs.Sums.{int_sum}
-use Rattle.cf_model.proofs.Tidy.{both}
-use Rattle.cf_model.proofs.Totals.{none_first, none_last, sum_pos, sum_same}
+use Rattle.cf_base.proofs.Common.{beq, AllByRecursion, position_or_len, ints}
+use Rattle.cf_model.specs.Common.{Entry, AccountItem, Line, Object, RevenueSource, Expenditure, documents_of, counts, expended, expended_amount, expended_sum, is_line, is_on, spending_sum, sums_of, Spending, spendings_in, int_sum}
+use Rattle.cf_chart.specs.Common.{Plan, covers, in_part, is_later, is_of_year, line_for, line_of, object_at}
+use Rattle.cf_model.proofs.Common.{both, none_first, none_last, sum_pos, sum_same}
 use Rattle.cf_statements.specs.Budget.{fund_revenue, line_row, line_rows, source_row, source_rows}
 use Rattle.cf_statements.specs.Operating.{total_revenues}
 use Rattle.cf_statements.specs.Sums.{Sums}

@@ -1,11 +1,8 @@
 -- How many elements of a list pass a test, where ids rise: the one that is found.
-use Rattle.std.proofs.Common.{◌≡◌, ◌⊎◌, inl, inr, ℕ, suc, ◌+◌, ◌<◌, ◌≤◌, Bool, true, false, if◌then◌else◌, ◌==◌, ◌&&◌, ◌||◌, nat_lt, List, [], ◌∷◌, ◌++◌, map, find, Option, Some, None, is_some, refl, sym, ap, subst, ◌∙◌, arith}
-use Rattle.std.specs.List.{filter, list_all, list_any, AllByRecursion}
-use Rattle.std.proofs.lemmas.Bool.{and_parts}
-use Rattle.std.proofs.lemmas.Bool.Decides.{leb_tells, eqb_tells}
-use Rattle.std.proofs.lemmas.List.Sums.{sum_by-cons}
-use Rattle.cf_chart.specs.Rising.{is_rising}
-use Rattle.cf_model.proofs.Totals.{passing}
+use Rattle.std.proofs.Common.{◌≡◌, ◌⊎◌, inl, inr, ℕ, suc, ◌+◌, ◌<◌, ◌≤◌, Bool, true, false, if◌then◌else◌, ◌==◌, ◌&&◌, ◌||◌, nat_lt, List, [], ◌∷◌, ◌++◌, map, find, Option, Some, None, is_some, refl, sym, ap, subst, ◌∙◌, arith, filter}
+use Rattle.cf_base.proofs.Common.{list_all, list_any, AllByRecursion, and_parts, leb_tells, eqb_tells, sum_by-cons}
+use Rattle.cf_chart.specs.Common.{is_rising}
+use Rattle.cf_model.proofs.Common.{passing}
 
 passing_cons : {A : Type 0} (p : A → Bool) (x : A) (xs : List A) → passing p (x ∷ xs) ≡ (if p x then 1 else 0) + passing p xs
 passing_cons p x xs = sum_by-cons (λ x. if p x then 1 else 0) x xs

@@ -1,32 +1,15 @@
 -- What a history does to accounts, as one list of deeds, and what sums of their posts come to.
-use Rattle.std.proofs.Common.{◌≡◌, ℕ, ◌==◌, List, [], ◌∷◌, ◌++◌, map, sum_by, Option, Some, None, Bool, ℤ, pos, ◌+ℤ◌, refl, sym, ap, ◌∙◌, append_assoc, append-nil, arith}
-use Rattle.std.specs.List.{filter}
-use Rattle.std.proofs.lemmas.Int.{ints}
-use Rattle.cf_base.specs.declared.calendar.Day.{Day}
-use Rattle.cf_calls.specs.declared.acts.BillAmount.{BillAmount}
-use Rattle.cf_calls.specs.declared.acts.Disposal.{Disposal}
-use Rattle.cf_calls.specs.declared.acts.FundMoveKind.{FundMoveKind}
+use Rattle.std.proofs.Common.{◌≡◌, ℕ, ◌==◌, List, [], ◌∷◌, ◌++◌, map, sum_by, Option, Some, None, Bool, ℤ, pos, ◌+ℤ◌, refl, sym, ap, ◌∙◌, append_assoc, append-nil, arith, filter}
+use Rattle.cf_base.proofs.Common.{ints}
+use Rattle.cf_model.specs.Common.{Day, BillAmount, Disposal, FundMoveKind, Entry, VoucherItem, Basis, Function, Asset, leased, owned, Bond, Due, interest_charge, next_due, bonds_deeds, collect_deeds, deeds_of, dispose_deed, due_deeds, fund_deed, pay_deed, pay_items, spent_item, write_off_deeds, Expenditure, year_at, spent_by, act_posts, posts_after, posts_by, posts_in, rows_of, Registers, no_registers, registers_after, registers_of, registers_step, int_sum}
 use Rattle.cf_calls.specs.declared.acts.FundMoveKind.TheVariants as move
-use Rattle.cf_calls.specs.declared.entry.Entry.{Entry}
-use Rattle.cf_calls.specs.declared.items.VoucherItem.{VoucherItem}
-use Rattle.cf_calls.specs.declared.read.Basis.{Basis}
-use Rattle.cf_chart.specs.declared.rows.Function.{Function}
-use Rattle.cf_chart.specs.Plan.{Plan}
+use Rattle.cf_chart.specs.Common.{Plan}
 use Rattle.cf_ledger.specs.declared.post.Post.{Post}
 use Rattle.cf_ledger.specs.Posts.{sum_where}
 use Rattle.cf_ledger.proofs.Sums.{sum_append as posts_append}
-use Rattle.cf_model.specs.Assets.{Asset, leased, owned}
-use Rattle.cf_model.specs.Bonds.{Bond, Due, interest_charge, next_due}
-use Rattle.cf_model.specs.Deeds.{bonds_deeds, collect_deeds, deeds_of, dispose_deed, due_deeds, fund_deed, pay_deed, pay_items, spent_item, write_off_deeds}
-use Rattle.cf_model.specs.Documents.{Expenditure}
-use Rattle.cf_model.specs.Months.{year_at}
-use Rattle.cf_model.specs.Moves.{spent_by}
-use Rattle.cf_model.specs.Postings.{act_posts, posts_after, posts_by, posts_in, rows_of}
 use Rattle.cf_model.specs.Receivables.{Bill}
-use Rattle.cf_model.specs.Registers.{Registers, no_registers, registers_after, registers_of, registers_step}
-use Rattle.cf_model.specs.Sums.{int_sum}
 use Rattle.cf_model.proofs.Capital as assets
-use Rattle.cf_model.proofs.Totals.{none_first, sum_append, sum_map, sum_none}
+use Rattle.cf_model.proofs.Common.{none_first, sum_append, sum_map, sum_none}
 use Rattle.cf_post.specs.Rows.{without_zeros}
 use Rattle.cf_post.proofs.Balances.{sum_stays}
 use Rattle.cf_post.specs.declared.deed.Collection.{Collection}

@@ -1,26 +1,13 @@
 -- What a legal history posts in the funds is of funds of the chart, on accounts below 300000 and on
 -- those of the operating statement's rows.
-use Rattle.std.proofs.Common.{◌≡◌, ◌⊎◌, inl, inr, ℕ, ◌+◌, ◌<◌, ◌≤◌, true, not, if◌then◌else◌, ◌==◌, nat_lt, nat_le, ℤ, List, [], ◌∷◌, ◌++◌, map, refl, sym, ap, subst, ◌∙◌, arith}
-use Rattle.std.specs.List.{filter, AllByRecursion}
-use Rattle.cf_calls.specs.declared.entry.Entry.{Entry}
+use Rattle.std.proofs.Common.{◌≡◌, ◌⊎◌, inl, inr, ℕ, ◌+◌, ◌<◌, ◌≤◌, true, not, if◌then◌else◌, ◌==◌, nat_lt, nat_le, ℤ, List, [], ◌∷◌, ◌++◌, map, refl, sym, ap, subst, ◌∙◌, arith, filter}
+use Rattle.cf_base.proofs.Common.{AllByRecursion}
+use Rattle.cf_model.specs.Common.{Entry, Function, RevenueSource, fund_if, deeds_of, documents_of, act_posts, posts_in, registers_of, Adds, IsLegal}
 use Rattle.cf_calls.specs.declared.read.Basis.TheVariants.{Fund as FundBasis}
-use Rattle.cf_chart.specs.declared.rows.Function.{Function}
 use Rattle.cf_chart.specs.declared.rows.Fund.{Fund}
-use Rattle.cf_chart.specs.declared.rows.RevenueSource.{RevenueSource}
-use Rattle.cf_chart.specs.Plan.{Plan, fund_at, source_at}
+use Rattle.cf_chart.specs.Common.{Plan, fund_at, source_at}
 use Rattle.cf_ledger.specs.declared.post.Post.{Post}
-use Rattle.cf_model.specs.Charted.{fund_if}
-use Rattle.cf_model.specs.Deeds.{deeds_of}
-use Rattle.cf_model.specs.Documents.{documents_of}
-use Rattle.cf_model.specs.Postings.{act_posts, posts_in}
-use Rattle.cf_model.specs.Registers.{registers_of}
-use Rattle.cf_model.specs.Step.{Adds, IsLegal}
-use Rattle.cf_model.proofs.Accepted.{accepted}
-use Rattle.cf_model.proofs.Funded.{IsFund}
-use Rattle.cf_model.proofs.Legal.{legal_induction, legal_push}
-use Rattle.cf_model.proofs.Posted.{all_filter, all_posts, posts_push}
-use Rattle.cf_model.proofs.Tidy.{all_append, le_true}
-use Rattle.cf_model.proofs.Totals.{passing}
+use Rattle.cf_model.proofs.Common.{accepted, IsFund, legal_induction, legal_push, all_filter, all_posts, posts_push, all_append, le_true, passing}
 use Rattle.cf_post.specs.declared.deed.Deed.{Deed}
 use Rattle.cf_post.specs.declared.deed.Deed.TheVariants as deed
 use Rattle.cf_post.specs.declared.deed.Spent.{Spent}

@@ -1,50 +1,19 @@
 -- After each legal history each item of the summary reconciliation is what its own accounts have.
 use Rattle.std.proofs.Common.{◌≡◌, ◌⊎◌, inl, inr, ℕ, suc, ◌<◌, ◌≤◌, Bool, true, false, not, if◌then◌else◌, ◌==◌, ◌||◌, nat_lt, List, [], ◌∷◌, ◌++◌, Option, Some, None, is_some, ℤ, pos, ◌+ℤ◌, ◌-ℤ◌, refl, sym, ap, subst, ◌∙◌, arith}
-use Rattle.std.proofs.lemmas.Bool.Decides.{leb_tells}
-use Rattle.std.proofs.lemmas.Int.{ints}
-use Rattle.cf_base.specs.Calendar.{is_day}
-use Rattle.cf_base.specs.Windows.{is_in_window, year_end}
-use Rattle.cf_base.specs.declared.calendar.Day.{Day}
-use Rattle.cf_base.proofs.DayNumbers.{parts}
-use Rattle.cf_calls.specs.declared.acts.Act.{Act}
+use Rattle.cf_base.proofs.Common.{leb_tells, ints, parts}
+use Rattle.cf_base.specs.Common.{is_day, is_in_window, year_end}
+use Rattle.cf_model.specs.Common.{Day, Act, Donate, Dispose, Drawn, Entry, Gov as GovBasis, Refusal, Asset, asset_step, assets_by, is_leased, net, Bond, bond_step, bonds_by, owed_through, is_before, year_of_day, deeds_of, absences, accrued, deferred, fund_balances, items, net_position, right_to_use, posts_in, bill_at, collected_year, window_if, year_in, asset_refusal, disposed_asset, later_levy, levy_refusal, not_held, register_name_refusal, Registers, closed_after, no_registers, registers_of, registers_step, draws, period_refusal, refuse_if, Adds, IsLegal, int_sum}
 use Rattle.cf_calls.specs.declared.acts.Act.TheVariants as act
-use Rattle.cf_calls.specs.declared.acts.AssetAct.TheVariants.{Donate, Dispose}
-use Rattle.cf_calls.specs.declared.entry.Drawn.{Drawn}
-use Rattle.cf_calls.specs.declared.entry.Entry.{Entry}
 use Rattle.cf_calls.specs.declared.names.NameKind.TheVariants as kind
-use Rattle.cf_calls.specs.declared.read.Basis.TheVariants.{Fund as FundBasis, Gov as GovBasis}
+use Rattle.cf_calls.specs.declared.read.Basis.TheVariants.{Fund as FundBasis}
 use Rattle.cf_calls.specs.declared.refusal.AssetFault.TheVariants as fault
-use Rattle.cf_calls.specs.declared.refusal.Refusal.{Refusal}
 use Rattle.cf_calls.specs.declared.refusal.Refusal.TheVariants as refusal
-use Rattle.cf_chart.specs.Plan.{Plan, source_at}
+use Rattle.cf_chart.specs.Common.{Plan, source_at}
 use Rattle.cf_ledger.specs.Posts.{sum_where, total}
 use Rattle.cf_ledger.specs.declared.post.Post.{Post}
-use Rattle.cf_model.specs.Assets.{Asset, asset_step, assets_by, is_leased, net}
-use Rattle.cf_model.specs.Bonds.{Bond, bond_step, bonds_by, owed_through}
-use Rattle.cf_model.specs.Calendar.{is_before, year_of_day}
-use Rattle.cf_model.specs.Deeds.{deeds_of}
 use Rattle.cf_model.specs.Items as item
-use Rattle.cf_model.specs.Items.{absences, accrued, deferred, fund_balances, items, net_position, right_to_use}
-use Rattle.cf_model.specs.Postings.{posts_in}
-use Rattle.cf_model.specs.Receivables.{Bill, bill_at, collected_year, window_if}
-use Rattle.cf_model.specs.Recognition.{year_in}
-use Rattle.cf_model.specs.RegisterRules.{asset_refusal, disposed_asset, later_levy, levy_refusal, not_held, register_name_refusal}
-use Rattle.cf_model.specs.Registers.{Registers, closed_after, no_registers, registers_of, registers_step}
-use Rattle.cf_model.specs.Results.{draws}
-use Rattle.cf_model.specs.Rules.{period_refusal, refuse_if}
-use Rattle.cf_model.specs.Step.{Adds, IsLegal}
-use Rattle.cf_model.specs.Sums.{int_sum}
-use Rattle.cf_model.proofs.Accepted.{accepted}
-use Rattle.cf_model.proofs.DeedLaw.{deeds_law, to_absences, to_accrued, to_deferred, to_items}
-use Rattle.cf_model.proofs.Deferred.{by_bill}
-use Rattle.cf_model.proofs.First.{or_else_none, refuse_none}
-use Rattle.cf_model.proofs.ItemMoves.{deferred_now}
-use Rattle.cf_model.proofs.Lawful.{IsLawful, IsWhole, passed}
-use Rattle.cf_model.proofs.Legal.{legal_induction, legal_push}
-use Rattle.cf_model.proofs.LegalReconciled.{is_lawful, reconciles_always}
-use Rattle.cf_model.proofs.MonthNumbers.{early}
-use Rattle.cf_model.proofs.Pushes.{registers_push}
-use Rattle.cf_model.proofs.Totals.{all_so, sum_negated, sum_plus, sum_same}
+use Rattle.cf_model.specs.Receivables.{Bill}
+use Rattle.cf_model.proofs.Common.{accepted, deeds_law, to_absences, to_accrued, to_deferred, to_items, by_bill, or_else_none, refuse_none, deferred_now, IsLawful, IsWhole, passed, legal_induction, legal_push, is_lawful, reconciles_always, early, registers_push, all_so, sum_negated, sum_plus, sum_same}
 use Rattle.cf_post.specs.declared.deed.Deed.{Deed}
 use Rattle.cf_post.specs.Table.{fund_rows}
 use Rattle.cf_model_articulation.specs.ItemAccounts.{ItemsAreAccounts, city_account, funds_account}

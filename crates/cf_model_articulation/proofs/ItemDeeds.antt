@@ -1,12 +1,11 @@
 -- What each deed adds to each item of the summary reconciliation, and that its posts on the item's
 -- own accounts come to that.
 use Rattle.std.proofs.Common.{◌≡◌, ℕ, ◌+◌, ◌-◌, ◌<◌, ◌≤◌, ◌&&◌, Bool, true, false, if◌then◌else◌, ◌==◌, nat_le, List, [], ◌∷◌, ℤ, pos, ◌+ℤ◌, ◌-ℤ◌, refl, sym, ap, ◌∙◌, arith}
-use Rattle.std.proofs.lemmas.Int.{ints}
+use Rattle.cf_base.proofs.Common.{ints}
 use Rattle.cf_ledger.specs.declared.post.Post.{Post}
 use Rattle.cf_ledger.specs.Posts.{sum_where}
-use Rattle.cf_model.specs.Sums.{int_sum, through}
-use Rattle.cf_model.proofs.DeedLaw.{capital_part, to_absences, to_accrued, to_bonds, to_capital, to_deferred, to_items}
-use Rattle.cf_model.proofs.Totals.{none_first, none_last}
+use Rattle.cf_model.specs.Common.{int_sum, through}
+use Rattle.cf_model.proofs.Common.{capital_part, to_absences, to_accrued, to_bonds, to_capital, to_deferred, to_items, none_first, none_last}
 use Rattle.cf_post.specs.declared.deed.Deed.{Deed}
 use Rattle.cf_post.specs.declared.deed.Deed.TheVariants.{Voucher, VoidVoucher, Bill, Collect, Receive, WriteOff, Donate, Dispose, Issue, PayDue, EarnLeave, UseLeave, MatureLeave, Depreciate, AccrueInterest, Lease, Amortize}
 use Rattle.cf_post.specs.declared.deed.DuePayment.{DuePayment}

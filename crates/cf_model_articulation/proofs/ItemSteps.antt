@@ -1,41 +1,17 @@
 -- What an entry makes of each item of the summary reconciliation is what its deeds add to it.
-use Rattle.std.proofs.Common.{◌≡◌, ℕ, ◌+◌, ◌<◌, ◌≤◌, Bool, true, false, not, if◌then◌else◌, ◌==◌, nat_le, List, [], ◌∷◌, ◌++◌, map, length, Option, Some, None, option_map, sum_by, ℤ, pos, ◌+ℤ◌, ◌-ℤ◌, refl, sym, ap, ◌∙◌, arith, append-nil}
-use Rattle.std.specs.List.{filter, AllByRecursion}
-use Rattle.std.proofs.lemmas.Int.{ints}
-use Rattle.cf_base.specs.declared.calendar.Day.{Day}
-use Rattle.cf_calls.specs.declared.acts.Act.{Act}
+use Rattle.std.proofs.Common.{◌≡◌, ℕ, ◌+◌, ◌<◌, ◌≤◌, Bool, true, false, not, if◌then◌else◌, ◌==◌, nat_le, List, [], ◌∷◌, ◌++◌, map, length, Option, Some, None, option_map, sum_by, ℤ, pos, ◌+ℤ◌, ◌-ℤ◌, refl, sym, ap, ◌∙◌, arith, append-nil, filter}
+use Rattle.cf_base.proofs.Common.{AllByRecursion, ints}
+use Rattle.cf_model.specs.Common.{Day, Act, Donate, Dispose, Earn, Use, Mature, Drawn, VoucherItem, Function, Asset, Origin, Stage, asset_step, assets_by, bought, disposed, gift, is_leased, lease, leased, leased_life, life_of, net, new_asset, owned, purchase, void, voucher_of, Bond, Due, accrued_through, bond_step, bonds_by, coupon, interest_charge, issues, next_due, owed_through, document_year, year_of_day, is_capital, bonds_deeds, collect_deeds, deeds_of, due_deeds, function_charge, write_off_deeds, is_number, absences, accrued, LeaveChange, leave_by, year_at, spent_by, Settlement, bill_at, bills_by, collected_of, collected_year, settlements_by, Registers, closed_after, int_sum, through}
 use Rattle.cf_calls.specs.declared.acts.Act.TheVariants as act
-use Rattle.cf_calls.specs.declared.acts.AssetAct.TheVariants.{Donate, Dispose}
-use Rattle.cf_calls.specs.declared.acts.LeaveAct.TheVariants.{Earn, Use, Mature}
 use Rattle.cf_calls.specs.declared.acts.Period.TheVariants as period
-use Rattle.cf_calls.specs.declared.entry.Drawn.{Drawn}
-use Rattle.cf_calls.specs.declared.items.VoucherItem.{VoucherItem}
-use Rattle.cf_calls.specs.Acts.{schedule_of}
-use Rattle.cf_chart.specs.declared.rows.Function.{Function}
-use Rattle.cf_chart.specs.Plan.{Plan, object_at}
-use Rattle.cf_model.specs.Assets.{Asset, Origin, Stage, asset_step, assets_by, bought, disposed, gift, is_leased, lease, leased, leased_life, life_of, net, new_asset, owned, purchase, void, voucher_of}
-use Rattle.cf_model.specs.Bonds.{Bond, Due, accrued_through, bond_step, bonds_by, coupon, interest_charge, issues, next_due, owed_through}
+use Rattle.cf_calls.specs.Common.{schedule_of}
+use Rattle.cf_chart.specs.Common.{Plan, object_at}
 use Rattle.cf_model.specs.Bonds as bond
-use Rattle.cf_model.specs.Calendar.{document_year, year_of_day}
-use Rattle.cf_model.specs.Charted.{is_capital}
-use Rattle.cf_model.specs.Deeds.{bonds_deeds, collect_deeds, deeds_of, due_deeds, function_charge, write_off_deeds}
-use Rattle.cf_model.specs.Documents.{is_number}
-use Rattle.cf_model.specs.Items.{absences, accrued}
-use Rattle.cf_model.specs.Leave.{LeaveChange, leave_by}
-use Rattle.cf_model.specs.Months.{year_at}
-use Rattle.cf_model.specs.Moves.{spent_by}
-use Rattle.cf_model.specs.Receivables.{Bill, Settlement, bill_at, bills_by, collected_of, collected_year, settlements_by}
-use Rattle.cf_model.specs.Registers.{Registers, closed_after}
-use Rattle.cf_model.specs.Sums.{int_sum, through}
-use Rattle.cf_model.proofs.Allowed.{FindsBill, IsEarly, IsSound}
+use Rattle.cf_model.specs.Receivables.{Bill}
+use Rattle.cf_model.proofs.Common.{FindsBill, IsEarly, to_absences, to_accrued, to_deferred, to_items, billed_one, left_through, settled_one, IsSoundAsset, deferred_now, one_bill, still_deferred, all_filter, all_so, none_first, none_last, stepped_all, sum_append, sum_filter, sum_map, sum_none, sum_same}
+use Rattle.cf_model.proofs.Allowed.{IsSound}
 use Rattle.cf_model.proofs.Capital as assets
 use Rattle.cf_model.proofs.Debt as debt
-use Rattle.cf_model.proofs.DeedLaw.{to_absences, to_accrued, to_deferred, to_items}
-use Rattle.cf_model.proofs.Deferred.{billed_one, left_through, settled_one}
-use Rattle.cf_model.proofs.Depreciated.{IsSoundAsset}
-use Rattle.cf_model.proofs.ItemMoves.{deferred_now, one_bill, still_deferred}
-use Rattle.cf_model.proofs.Posted.{all_filter}
-use Rattle.cf_model.proofs.Totals.{all_so, none_first, none_last, stepped_all, sum_append, sum_filter, sum_map, sum_none, sum_same}
 use Rattle.cf_post.specs.declared.deed.Deed.{Deed}
 use Rattle.cf_post.specs.declared.deed.Deed.TheVariants as deed
 use Rattle.cf_model_articulation.proofs.DeedSums.{between_none, close_none, collect_none, dispose_none, dues_none, pay_none, void_none, voucher_none, write_off_none}

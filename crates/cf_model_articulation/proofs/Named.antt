@@ -1,39 +1,15 @@
 -- What the registers of a legal history name is of the chart: the accounts of vouchers, the sources
 -- of bills, the functions of assets.
 use Rattle.std.proofs.Common.{◌≡◌, ℕ, ◌+◌, Bool, true, false, not, if◌then◌else◌, ◌==◌, List, [], ◌∷◌, ◌++◌, map, Option, None, is_some, refl, sym, ap, subst, ◌∙◌}
-use Rattle.std.specs.List.{list_any, AllByRecursion}
-use Rattle.cf_base.specs.declared.calendar.Day.{Day}
-use Rattle.cf_calls.specs.declared.acts.Act.{Act}
+use Rattle.cf_base.proofs.Common.{list_any, AllByRecursion}
+use Rattle.cf_model.specs.Common.{Day, Act, Donate, Dispose, Drawn, Entry, AccountItem, VoucherItem, Refusal, Department, Function, Object, Asset, asset_step, assets_by, bought, disposed, life_of, new_asset, purchase, void, voucher_of, document_year, year_of_day, function_if, function_of, is_capital, Documents, Expenditure, documents_of, expenditure_of, expenditure_step, is_number, bills_by, register_name_refusal, unknown_dept, Registers, no_registers, registers_of, account_name, any_source_name, charge_names, first_refusal, is_spending, name_refusal, refuse_if, unknown, unknown_account, unknown_if, voucher_names, Adds, IsLegal}
 use Rattle.cf_calls.specs.declared.acts.Act.TheVariants as act
-use Rattle.cf_calls.specs.declared.acts.AssetAct.TheVariants.{Donate, Dispose}
-use Rattle.cf_calls.specs.declared.entry.Drawn.{Drawn}
-use Rattle.cf_calls.specs.declared.entry.Entry.{Entry}
-use Rattle.cf_calls.specs.declared.items.AccountItem.{AccountItem}
-use Rattle.cf_calls.specs.declared.items.VoucherItem.{VoucherItem}
 use Rattle.cf_calls.specs.declared.names.NameKind.TheVariants as kind
-use Rattle.cf_calls.specs.declared.refusal.Refusal.{Refusal}
 use Rattle.cf_calls.specs.declared.refusal.Refusal.TheVariants as refusal
-use Rattle.cf_calls.specs.Acts.{voucher_items}
-use Rattle.cf_chart.specs.declared.rows.Department.{Department}
-use Rattle.cf_chart.specs.declared.rows.Function.{Function}
-use Rattle.cf_chart.specs.declared.rows.Object.{Object}
-use Rattle.cf_chart.specs.Levels.{has_function}
-use Rattle.cf_chart.specs.Plan.{Plan, department_at, fund_at, object_at, source_at}
-use Rattle.cf_model.specs.Assets.{Asset, asset_step, assets_by, bought, disposed, life_of, new_asset, purchase, void, voucher_of}
-use Rattle.cf_model.specs.Calendar.{document_year, year_of_day}
-use Rattle.cf_model.specs.Charted.{function_if, function_of, is_capital}
-use Rattle.cf_model.specs.Documents.{Documents, Expenditure, documents_of, expenditure_of, expenditure_step, is_number}
-use Rattle.cf_model.specs.Receivables.{Bill, bills_by}
-use Rattle.cf_model.specs.RegisterRules.{register_name_refusal, unknown_dept}
-use Rattle.cf_model.specs.Registers.{Registers, no_registers, registers_of}
-use Rattle.cf_model.specs.Rules.{account_name, any_source_name, charge_names, first_refusal, is_spending, name_refusal, refuse_if, unknown, unknown_account, unknown_if, voucher_names}
-use Rattle.cf_model.specs.Step.{Adds, IsLegal}
-use Rattle.cf_model.proofs.Accepted.{accepted}
-use Rattle.cf_model.proofs.First.{first_refusal-append, or_else_none, refuse_none}
-use Rattle.cf_model.proofs.Funded.{IsFund}
-use Rattle.cf_model.proofs.Legal.{legal_induction}
-use Rattle.cf_model.proofs.Pushes.{registers_push}
-use Rattle.cf_model.proofs.Tidy.{all_append, all_map}
+use Rattle.cf_calls.specs.Common.{voucher_items}
+use Rattle.cf_chart.specs.Common.{has_function, Plan, department_at, fund_at, object_at, source_at}
+use Rattle.cf_model.specs.Receivables.{Bill}
+use Rattle.cf_model.proofs.Common.{accepted, first_refusal-append, or_else_none, refuse_none, IsFund, legal_induction, registers_push, all_append, all_map}
 use Rattle.cf_model_articulation.specs.OwnAccounts.{HasOwnAccounts}
 use Rattle.cf_model_articulation.proofs.Counts.{all_of, found_has, some_is}
 

@@ -1,38 +1,15 @@
 -- The deeds of a legal history are of funds, sources and functions of the chart.
-use Rattle.std.proofs.Common.{◌≡◌, ℕ, Bool, true, false, if◌then◌else◌, ◌==◌, ◌||◌, List, [], ◌∷◌, map, Option, Some, None, is_some, refl, ap}
-use Rattle.std.specs.List.{filter, list_any, AllByRecursion}
-use Rattle.cf_base.specs.declared.calendar.Day.{Day}
-use Rattle.cf_calls.specs.declared.acts.Act.{Act}
+use Rattle.std.proofs.Common.{◌≡◌, ℕ, Bool, true, false, if◌then◌else◌, ◌==◌, ◌||◌, List, [], ◌∷◌, map, Option, Some, None, is_some, refl, ap, filter}
+use Rattle.cf_base.proofs.Common.{list_any, AllByRecursion}
+use Rattle.cf_model.specs.Common.{Day, Act, Donate, Dispose, FundMoveKind, Earn, Use, Mature, AccountItem, VoucherItem, Function, Asset, leased, owned, Bond, Due, next_due, document_year, year_of_day, fund_of, function_of, is_capital, is_current, is_interest, is_principal, bonds_deeds, collect_deeds, deeds_of, dispose_deed, due_deeds, function_charge, fund_deed, pay_deed, pay_items, spent_item, spent_on, write_off_deeds, Documents, Expenditure, year_at, spent_by, bill_at, payment_year, register_name_refusal, unknown_asset, unknown_bond, unknown_dept, unknown_fund, unknown_payment, Registers, bond_at, fund_name, name_refusal, unknown, unknown_account}
 use Rattle.cf_calls.specs.declared.acts.Act.TheVariants as act
-use Rattle.cf_calls.specs.declared.acts.AssetAct.TheVariants.{Donate, Dispose}
-use Rattle.cf_calls.specs.declared.acts.FundMoveKind.{FundMoveKind}
 use Rattle.cf_calls.specs.declared.acts.FundMoveKind.TheVariants as move
-use Rattle.cf_calls.specs.declared.acts.LeaveAct.TheVariants.{Earn, Use, Mature}
 use Rattle.cf_calls.specs.declared.acts.Period.TheVariants as period
-use Rattle.cf_calls.specs.declared.items.AccountItem.{AccountItem}
-use Rattle.cf_calls.specs.declared.items.VoucherItem.{VoucherItem}
 use Rattle.cf_calls.specs.declared.names.NameKind.TheVariants as kind
 use Rattle.cf_calls.specs.declared.refusal.Refusal.TheVariants as refusal
-use Rattle.cf_chart.specs.declared.rows.Function.{Function}
-use Rattle.cf_chart.specs.Plan.{Plan, department_at, fund_at, object_at}
-use Rattle.cf_model.specs.Assets.{Asset, leased, owned}
-use Rattle.cf_model.specs.Bonds.{Bond, Due, next_due}
-use Rattle.cf_model.specs.Calendar.{document_year, year_of_day}
-use Rattle.cf_model.specs.Charted.{fund_of, function_of, is_capital, is_current, is_interest, is_principal}
-use Rattle.cf_model.specs.Deeds.{bonds_deeds, collect_deeds, deeds_of, dispose_deed, due_deeds, function_charge, fund_deed, pay_deed, pay_items, spent_item, spent_on, write_off_deeds}
-use Rattle.cf_model.specs.Documents.{Documents, Expenditure}
-use Rattle.cf_model.specs.Months.{year_at}
-use Rattle.cf_model.specs.Moves.{spent_by}
-use Rattle.cf_model.specs.Receivables.{Bill, bill_at}
-use Rattle.cf_model.specs.RegisterRules.{payment_year, register_name_refusal, unknown_asset, unknown_bond, unknown_dept, unknown_fund, unknown_payment}
-use Rattle.cf_model.specs.Registers.{Registers}
-use Rattle.cf_model.specs.Results.{bond_at}
-use Rattle.cf_model.specs.Rules.{fund_name, name_refusal, unknown, unknown_account}
-use Rattle.cf_model.proofs.First.{or_else_none}
-use Rattle.cf_model.proofs.Funded.{IsFund}
-use Rattle.cf_model.proofs.Posted.{all_filter}
-use Rattle.cf_model.proofs.Tidy.{all_append, all_map}
-use Rattle.cf_model.proofs.Totals.{all_so}
+use Rattle.cf_chart.specs.Common.{Plan, department_at, fund_at, object_at}
+use Rattle.cf_model.specs.Receivables.{Bill}
+use Rattle.cf_model.proofs.Common.{or_else_none, IsFund, all_filter, all_append, all_map, all_so}
 use Rattle.cf_post.specs.declared.deed.Deed.{Deed}
 use Rattle.cf_post.specs.declared.deed.Deed.TheVariants as deed
 use Rattle.cf_post.specs.declared.deed.FundsAmount.{FundsAmount}

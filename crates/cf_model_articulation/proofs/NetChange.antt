@@ -1,19 +1,12 @@
 -- A fund's net change in fund balance, as the operating statement has it, is the change of its fund
 -- balance.
-use Rattle.std.proofs.Common.{◌≡◌, ℕ, ◌+◌, ◌-◌, Bool, true, false, if◌then◌else◌, ◌==◌, List, ◌++◌, ℤ, pos, neg_ℤ, ◌+ℤ◌, ◌-ℤ◌, refl, sym, ap, subst, ◌∙◌, arith}
-use Rattle.std.specs.List.{filter}
-use Rattle.std.proofs.lemmas.Int.{ints}
-use Rattle.cf_calls.specs.declared.entry.Entry.{Entry}
+use Rattle.std.proofs.Common.{◌≡◌, ℕ, ◌+◌, ◌-◌, Bool, true, false, if◌then◌else◌, ◌==◌, List, ◌++◌, ℤ, pos, neg_ℤ, ◌+ℤ◌, ◌-ℤ◌, refl, sym, ap, subst, ◌∙◌, arith, filter}
+use Rattle.cf_base.proofs.Common.{ints}
+use Rattle.cf_model.specs.Common.{Entry, Function, RevenueSource, balance_of, posts_in, fund_balance, sums_of, IsLegal, int_sum}
 use Rattle.cf_calls.specs.declared.read.Basis.TheVariants.{Fund as FundBasis}
-use Rattle.cf_chart.specs.declared.rows.Function.{Function}
-use Rattle.cf_chart.specs.declared.rows.RevenueSource.{RevenueSource}
-use Rattle.cf_chart.specs.Plan.{Plan}
+use Rattle.cf_chart.specs.Common.{Plan}
 use Rattle.cf_ledger.specs.declared.post.Post.{Post}
-use Rattle.cf_model.specs.Postings.{balance_of, posts_in}
-use Rattle.cf_model.specs.Report.{fund_balance, sums_of}
-use Rattle.cf_model.specs.Step.{IsLegal}
-use Rattle.cf_model.specs.Sums.{int_sum}
-use Rattle.cf_model.proofs.Totals.{all_so, sum_append, sum_filter, sum_map, sum_same}
+use Rattle.cf_model.proofs.Common.{all_so, sum_append, sum_filter, sum_map, sum_same}
 use Rattle.cf_statements.specs.Operating.{net_change}
 use Rattle.cf_statements.specs.Sums as statement
 use Rattle.cf_model_articulation.specs.OwnAccounts.{HasOwnAccounts}

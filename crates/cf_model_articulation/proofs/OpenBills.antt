@@ -1,41 +1,17 @@
 -- What is left of bills is what their funds' receivables have.
-use Rattle.std.proofs.Common.{◌≡◌, ◌⊎◌, inl, inr, ℕ, suc, ◌+◌, ◌-◌, ◌<◌, ◌≤◌, Bool, true, false, if◌then◌else◌, ◌==◌, ◌&&◌, nat_lt, List, [], ◌∷◌, ◌++◌, length, sum_by, Option, Some, None, option_map, ℤ, pos, ◌+ℤ◌, ◌-ℤ◌, refl, sym, ap, subst, ◌∙◌, arith, append-nil}
-use Rattle.std.specs.List.{filter, AllByRecursion}
-use Rattle.std.proofs.lemmas.Bool.Decides.{leb_tells}
-use Rattle.std.proofs.lemmas.Int.{ints}
-use Rattle.std.proofs.lemmas.List.Sums.{sum_by-cons}
-use Rattle.cf_base.specs.declared.calendar.Day.{Day}
-use Rattle.cf_calls.specs.declared.acts.Act.{Act}
+use Rattle.std.proofs.Common.{◌≡◌, ◌⊎◌, inl, inr, ℕ, suc, ◌+◌, ◌-◌, ◌<◌, ◌≤◌, Bool, true, false, if◌then◌else◌, ◌==◌, ◌&&◌, nat_lt, List, [], ◌∷◌, ◌++◌, length, sum_by, Option, Some, None, option_map, ℤ, pos, ◌+ℤ◌, ◌-ℤ◌, refl, sym, ap, subst, ◌∙◌, arith, append-nil, filter}
+use Rattle.cf_base.proofs.Common.{AllByRecursion, leb_tells, ints, sum_by-cons}
+use Rattle.cf_model.specs.Common.{Day, Act, Donate, Dispose, Earn, Use, Mature, Drawn, Entry, document_year, year_of_day, fund_of, collect_deeds, deeds_of, write_off_deeds, spent_by, posts_in, bill_refusal, over_bill, over_refusal, Receivables, Settlement, bill_at, bills_by, collected_of, collected_year, left_of, settled_of, settlements_by, Registers, no_registers, registers_of, Adds, IsLegal, int_sum}
 use Rattle.cf_calls.specs.declared.acts.Act.TheVariants as act
-use Rattle.cf_calls.specs.declared.acts.AssetAct.TheVariants.{Donate, Dispose}
-use Rattle.cf_calls.specs.declared.acts.LeaveAct.TheVariants.{Earn, Use, Mature}
 use Rattle.cf_calls.specs.declared.acts.Period.TheVariants as period
-use Rattle.cf_calls.specs.declared.entry.Drawn.{Drawn}
-use Rattle.cf_calls.specs.declared.entry.Entry.{Entry}
 use Rattle.cf_calls.specs.declared.read.Basis.TheVariants.{Fund as FundBasis}
 use Rattle.cf_calls.specs.declared.refusal.Refusal.TheVariants as refusal
-use Rattle.cf_chart.specs.Plan.{Plan}
+use Rattle.cf_chart.specs.Common.{Plan}
 use Rattle.cf_ledger.specs.declared.post.Post.{Post}
 use Rattle.cf_ledger.specs.Posts.{is_of, sum_where}
-use Rattle.cf_model.specs.Calendar.{document_year, year_of_day}
-use Rattle.cf_model.specs.Charted.{fund_of}
-use Rattle.cf_model.specs.Deeds.{collect_deeds, deeds_of, write_off_deeds}
-use Rattle.cf_model.specs.Moves.{spent_by}
-use Rattle.cf_model.specs.Postings.{posts_in}
-use Rattle.cf_model.specs.ReceivableRules.{bill_refusal, over_bill, over_refusal}
-use Rattle.cf_model.specs.Receivables.{Bill, Receivables, Settlement, bill_at, bills_by, collected_of, collected_year, left_of, settled_of, settlements_by}
-use Rattle.cf_model.specs.Registers.{Registers, no_registers, registers_of}
-use Rattle.cf_model.specs.Step.{Adds, IsLegal}
-use Rattle.cf_model.specs.Sums.{int_sum}
-use Rattle.cf_model.proofs.Accepted.{accepted}
+use Rattle.cf_model.specs.Receivables.{Bill}
+use Rattle.cf_model.proofs.Common.{accepted, first_of_none, refuse_none, one_bill, IsWhole, legal_induction, legal_push, is_lawful, registers_push, all_so, find_sum, none_last, passing, same_all, sum_append, sum_plus, sum_same}
 use Rattle.cf_model.proofs.Allowed.{IsSound}
-use Rattle.cf_model.proofs.First.{first_of_none, refuse_none}
-use Rattle.cf_model.proofs.ItemMoves.{one_bill}
-use Rattle.cf_model.proofs.Lawful.{IsWhole}
-use Rattle.cf_model.proofs.Legal.{legal_induction, legal_push}
-use Rattle.cf_model.proofs.LegalReconciled.{is_lawful}
-use Rattle.cf_model.proofs.Pushes.{registers_push}
-use Rattle.cf_model.proofs.Totals.{all_so, find_sum, none_last, passing, same_all, sum_append, sum_plus, sum_same}
 use Rattle.cf_post.specs.declared.deed.Deed.{Deed}
 use Rattle.cf_post.specs.declared.deed.Deed.TheVariants as deed
 use Rattle.cf_post.specs.declared.deed.Spent.{Spent}

@@ -1,41 +1,16 @@
 -- What is open of vouchers is what their funds' vouchers payable have.
-use Rattle.std.proofs.Common.{◌≡◌, ℕ, ◌+◌, ◌≤◌, Bool, true, false, not, if◌then◌else◌, ◌==◌, ◌&&◌, ◌||◌, List, [], ◌∷◌, ◌++◌, map, Option, Some, None, ℤ, pos, ◌+ℤ◌, ◌-ℤ◌, refl, sym, ap, subst, ◌∙◌, arith}
-use Rattle.std.specs.List.{filter, list_any, AllByRecursion}
-use Rattle.std.proofs.lemmas.Grind.{common_steps}
-use Rattle.std.proofs.lemmas.Int.{ints}
-use Rattle.cf_base.specs.declared.calendar.Day.{Day}
-use Rattle.cf_calls.specs.Acts.{voucher_items}
-use Rattle.cf_calls.specs.Form.{IsActInForm, is_distinct, same_number}
-use Rattle.cf_calls.specs.declared.acts.Act.{Act}
+use Rattle.std.proofs.Common.{◌≡◌, ℕ, ◌+◌, ◌≤◌, Bool, true, false, not, if◌then◌else◌, ◌==◌, ◌&&◌, ◌||◌, List, [], ◌∷◌, ◌++◌, map, Option, Some, None, ℤ, pos, ◌+ℤ◌, ◌-ℤ◌, refl, sym, ap, subst, ◌∙◌, arith, filter}
+use Rattle.cf_base.proofs.Common.{list_any, AllByRecursion, common_steps, ints}
+use Rattle.cf_model.specs.Common.{Day, Act, Donate, Dispose, Earn, Use, Mature, Entry, VoucherItem, VoucherState, document_year, year_of_day, deeds_of, pay_deed, pay_items, spent_item, not_open_voucher, paid_state, state_refusal, voided_state, Documents, Expenditure, expenditure_of, expenditure_step, paid_after, voucher_at, spent_by, posts_in, bill_at, Registers, no_registers, registers_of, first_refusal, Adds, IsLegal, int_sum}
+use Rattle.cf_calls.specs.Common.{voucher_items, IsActInForm, is_distinct, same_number}
 use Rattle.cf_calls.specs.declared.acts.Act.TheVariants as act
-use Rattle.cf_calls.specs.declared.acts.AssetAct.TheVariants.{Donate, Dispose}
-use Rattle.cf_calls.specs.declared.acts.LeaveAct.TheVariants.{Earn, Use, Mature}
 use Rattle.cf_calls.specs.declared.acts.Period.TheVariants as period
-use Rattle.cf_calls.specs.declared.entry.Entry.{Entry}
-use Rattle.cf_calls.specs.declared.items.VoucherItem.{VoucherItem}
 use Rattle.cf_calls.specs.declared.read.Basis.TheVariants.{Fund as FundBasis}
-use Rattle.cf_calls.specs.declared.shown.VoucherState.{VoucherState}
 use Rattle.cf_calls.specs.declared.shown.VoucherState.TheVariants as voucher
-use Rattle.cf_chart.specs.Plan.{Plan}
+use Rattle.cf_chart.specs.Common.{Plan}
 use Rattle.cf_ledger.specs.declared.post.Post.{Post}
 use Rattle.cf_ledger.specs.Posts.{is_of, sum_where}
-use Rattle.cf_model.specs.Calendar.{document_year, year_of_day}
-use Rattle.cf_model.specs.Deeds.{deeds_of, pay_deed, pay_items, spent_item}
-use Rattle.cf_model.specs.DocumentRules.{not_open_voucher, paid_state, state_refusal, voided_state}
-use Rattle.cf_model.specs.Documents.{Documents, Expenditure, expenditure_of, expenditure_step, paid_after, voucher_at}
-use Rattle.cf_model.specs.Moves.{spent_by}
-use Rattle.cf_model.specs.Postings.{posts_in}
-use Rattle.cf_model.specs.Receivables.{bill_at}
-use Rattle.cf_model.specs.Registers.{Registers, no_registers, registers_of}
-use Rattle.cf_model.specs.Rules.{first_refusal}
-use Rattle.cf_model.specs.Step.{Adds, IsLegal}
-use Rattle.cf_model.specs.Sums.{int_sum}
-use Rattle.cf_model.proofs.Accepted.{accepted}
-use Rattle.cf_model.proofs.First.{or_else_none}
-use Rattle.cf_model.proofs.Legal.{legal_induction}
-use Rattle.cf_model.proofs.Pushes.{documents_are, registers_push}
-use Rattle.cf_model.proofs.Tidy.{both, not_true}
-use Rattle.cf_model.proofs.Totals.{all_so, none_first, none_last, stepped_all, sum_append, sum_filter, sum_map, sum_negated, sum_none, sum_plus, sum_same}
+use Rattle.cf_model.proofs.Common.{accepted, or_else_none, legal_induction, documents_are, registers_push, both, not_true, all_so, none_first, none_last, stepped_all, sum_append, sum_filter, sum_map, sum_negated, sum_none, sum_plus, sum_same}
 use Rattle.cf_post.specs.declared.deed.Deed.{Deed}
 use Rattle.cf_post.specs.declared.deed.Deed.TheVariants as deed
 use Rattle.cf_post.specs.declared.deed.Spent.{Spent}

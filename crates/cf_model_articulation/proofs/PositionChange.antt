@@ -1,22 +1,12 @@
 -- The change in net position, as the statement of activities has it, is the change of net position.
 use Rattle.std.proofs.Common.{◌≡◌, ℕ, ◌+◌, ◌-◌, Bool, true, if◌then◌else◌, ◌==◌, ◌&&◌, nat_le, List, [], ◌∷◌, ◌++◌, ℤ, pos, neg_ℤ, ◌+ℤ◌, ◌-ℤ◌, refl, sym, ap, ◌∙◌, arith}
-use Rattle.std.specs.List.{AllByRecursion}
-use Rattle.std.proofs.lemmas.Int.{ints}
-use Rattle.cf_calls.specs.declared.entry.Entry.{Entry}
-use Rattle.cf_calls.specs.declared.read.Basis.TheVariants.{Gov as GovBasis}
-use Rattle.cf_chart.specs.declared.rows.Function.{Function}
-use Rattle.cf_chart.specs.declared.rows.RevenueKind.{RevenueKind}
+use Rattle.cf_base.proofs.Common.{AllByRecursion, ints}
+use Rattle.cf_model.specs.Common.{Entry, Gov as GovBasis, Function, RevenueKind, RevenueSource, net_position, balance_of, posts_in, sums_of, IsLegal, int_sum}
 use Rattle.cf_chart.specs.declared.rows.RevenueKind.TheVariants as kind
-use Rattle.cf_chart.specs.declared.rows.RevenueSource.{RevenueSource}
-use Rattle.cf_chart.specs.Plan.{Plan}
+use Rattle.cf_chart.specs.Common.{Plan}
 use Rattle.cf_ledger.specs.declared.post.Post.{Post}
 use Rattle.cf_ledger.specs.Posts.{is_in_total, sum_where}
-use Rattle.cf_model.specs.Items.{net_position}
-use Rattle.cf_model.specs.Postings.{balance_of, posts_in}
-use Rattle.cf_model.specs.Report.{sums_of}
-use Rattle.cf_model.specs.Step.{IsLegal}
-use Rattle.cf_model.specs.Sums.{int_sum}
-use Rattle.cf_model.proofs.Totals.{all_so, exchange, none_first, none_last, one_passes, passing, same_all, sum_append, sum_map, sum_none, sum_plus, sum_same}
+use Rattle.cf_model.proofs.Common.{all_so, exchange, none_first, none_last, one_passes, passing, same_all, sum_append, sum_map, sum_none, sum_plus, sum_same}
 use Rattle.cf_statements.specs.declared.activity.RevenueClass.{RevenueClass}
 use Rattle.cf_statements.specs.declared.activity.RevenueClass.TheVariants as class
 use Rattle.cf_statements.specs.Activities.{change, is_in, of_functions, program_revenues, revenue, revenues}

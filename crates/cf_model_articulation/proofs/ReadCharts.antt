@@ -1,30 +1,18 @@
 -- A chart that was read has what statements need of it.
 use Rattle.std.proofs.Common.{◌≡◌, ℕ, Bool, true, false, if◌then◌else◌, ◌==◌, nat_le, List, length, Option, Some, None, option_and_then, Ok, Err, refl, sym, ap, subst, ◌∙◌}
-use Rattle.std.specs.List.{list_all, list_any}
+use Rattle.cf_base.proofs.Common.{list_all, list_any}
 use Rattle.toml.specs.Data.{Data, get}
-use Rattle.cf_chart.specs.declared.fault.ChartFault.TheVariants.{TooLong, Window}
-use Rattle.cf_chart.specs.declared.fault.KeyName.{KeyName}
+use Rattle.cf_model.specs.Common.{TooLong, Window, KeyName, Place, Function, RevenueKind, RevenueSource, SourceWord}
 use Rattle.cf_chart.specs.declared.fault.KeyName.TheVariants as key
-use Rattle.cf_chart.specs.declared.fault.Place.{Place}
 use Rattle.cf_chart.specs.declared.fault.TableName.TheVariants as table_name
-use Rattle.cf_chart.specs.declared.rows.Function.{Function}
 use Rattle.cf_chart.specs.declared.rows.Fund.{Fund}
-use Rattle.cf_chart.specs.declared.rows.RevenueKind.{RevenueKind}
 use Rattle.cf_chart.specs.declared.rows.RevenueKind.TheVariants as kind
-use Rattle.cf_chart.specs.declared.rows.RevenueSource.{RevenueSource}
-use Rattle.cf_chart.specs.declared.words.SourceWord.{SourceWord}
 use Rattle.cf_chart.specs.declared.words.SourceWord.TheVariants as word
-use Rattle.cf_chart.specs.Faults.{Checked, ◌>>=◌, must, word_of}
-use Rattle.cf_chart.specs.Levels.{has_function, longest_of}
-use Rattle.cf_chart.specs.Plan.{Plan}
-use Rattle.cf_chart.specs.Reading.{chart_of, checked_plan, department_row, departments_of, desks_of, function_key, function_row, functions_of, fund_row, funds_of, lines_of, objects_of, one_general, plan_of, source_row, sources_of, sizes, top, value_of, with_function}
-use Rattle.cf_chart.specs.Values.{as_name, as_word, kept, named, need, present, source_words, within}
+use Rattle.cf_chart.specs.Common.{Checked, ◌>>=◌, must, word_of, has_function, longest_of, Plan, chart_of, checked_plan, department_row, departments_of, desks_of, function_key, function_row, functions_of, fund_row, funds_of, lines_of, objects_of, one_general, plan_of, source_row, sources_of, sizes, top, value_of, with_function, as_name, as_word, kept, named, need, present, source_words, within}
 use Rattle.cf_chart.proofs.RowFacts.{department_known}
 use Rattle.cf_chart.proofs.Steps.{AllFit, need_within, ok_is, or_fault_ok, sizes_ok}
 use Rattle.cf_chart.proofs.TableFacts.{table_all, table_few, table_rises}
-use Rattle.cf_model.proofs.Functions.{whole}
-use Rattle.cf_model.proofs.Lawful.{IsWhole}
-use Rattle.cf_model.proofs.Tidy.{true_le}
+use Rattle.cf_model.proofs.Common.{whole, IsWhole, true_le}
 use Rattle.cf_model_articulation.specs.OwnAccounts.{HasOwnAccounts, is_of_function, is_of_fund}
 
 -- what holds of what was read, if it was read

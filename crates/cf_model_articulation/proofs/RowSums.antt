@@ -1,14 +1,12 @@
 -- The sum of the balances of some accounts, of which each account that is posted to is one.
 use Rattle.std.proofs.Common.{◌≡◌, ℕ, ◌+◌, Bool, true, false, if◌then◌else◌, ◌==◌, ◌&&◌, nat_le, List, [], ◌∷◌, ℤ, pos, neg_ℤ, ◌+ℤ◌, ◌-ℤ◌, refl, sym, ap, ◌∙◌, arith}
-use Rattle.std.specs.List.{AllByRecursion}
-use Rattle.std.proofs.lemmas.Int.{ints}
-use Rattle.std.proofs.lemmas.List.Sums.{sum_by-cons}
+use Rattle.cf_base.proofs.Common.{AllByRecursion, ints, sum_by-cons}
 use Rattle.cf_chart.specs.declared.rows.Fund.{Fund}
 use Rattle.cf_ledger.specs.declared.post.Post.{Post}
 use Rattle.cf_ledger.specs.Posts.{balance, sum_where}
-use Rattle.cf_model.specs.Sums.{int_sum}
+use Rattle.cf_model.specs.Common.{int_sum}
 use Rattle.cf_statements.specs.Sums as statement
-use Rattle.cf_model.proofs.Totals.{none_first, one_passes, passing, sum_none, sum_plus, sum_same}
+use Rattle.cf_model.proofs.Common.{none_first, one_passes, passing, sum_none, sum_plus, sum_same}
 
 -- ---- an amount that is counted as often as a test passes, which is once or never
 

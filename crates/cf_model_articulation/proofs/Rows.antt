@@ -1,14 +1,10 @@
 -- The accounts of rows, and that an account which is posted to is one of them: that of a row of the
 -- chart by its id, or one of a few others.
-use Rattle.std.proofs.Common.{◌≡◌, ◌⊎◌, inl, inr, ℕ, suc, ◌+◌, ◌<◌, ◌≤◌, Bool, true, if◌then◌else◌, false, not, ◌==◌, nat_lt, nat_le, List, map, refl, sym, ap, ◌∙◌, arith}
-use Rattle.std.specs.List.{filter, list_all, AllByRecursion}
-use Rattle.std.proofs.lemmas.Bool.Decides.{leb_tells}
-use Rattle.cf_chart.specs.declared.rows.Function.{Function}
-use Rattle.cf_chart.specs.declared.rows.RevenueSource.{RevenueSource}
-use Rattle.cf_chart.specs.Plan.{Plan}
-use Rattle.cf_model.specs.Charted.{fund_if}
-use Rattle.cf_model.proofs.Tidy.{le_true}
-use Rattle.cf_model.proofs.Totals.{passing}
+use Rattle.std.proofs.Common.{◌≡◌, ◌⊎◌, inl, inr, ℕ, suc, ◌+◌, ◌<◌, ◌≤◌, Bool, true, if◌then◌else◌, false, not, ◌==◌, nat_lt, nat_le, List, map, refl, sym, ap, ◌∙◌, arith, filter}
+use Rattle.cf_base.proofs.Common.{list_all, AllByRecursion, leb_tells}
+use Rattle.cf_model.specs.Common.{Function, RevenueSource, fund_if}
+use Rattle.cf_chart.specs.Common.{Plan}
+use Rattle.cf_model.proofs.Common.{le_true, passing}
 use Rattle.cf_model_articulation.specs.OwnAccounts.{HasOwnAccounts}
 use Rattle.cf_model_articulation.proofs.Counts.{all_of, found_has, found_passes, found_row, none_passes, number_is, one_passes, other_numbers, passing_filter, passing_map, same_numbers, same_passing, some_is}
 use Rattle.cf_model_articulation.proofs.Named.{IsFunction}

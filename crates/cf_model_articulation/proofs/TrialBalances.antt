@@ -1,16 +1,11 @@
 -- The trial balance of each legal history balances, under any chart whose accounts are its own.
 use Rattle.std.proofs.Common.{◌≡◌, ℕ, List, ℤ, pos, ◌+ℤ◌, ◌∙◌, arith}
-use Rattle.std.proofs.lemmas.Int.{ints}
-use Rattle.cf_calls.specs.declared.entry.Entry.{Entry}
-use Rattle.cf_calls.specs.declared.read.Basis.TheVariants.{Fund as FundBasis, Gov as GovBasis}
-use Rattle.cf_chart.specs.Plan.{Plan}
+use Rattle.cf_base.proofs.Common.{ints}
+use Rattle.cf_model.specs.Common.{Entry, Gov as GovBasis, balance_of, posts_in, fund_balance, IsLegal, int_sum}
+use Rattle.cf_calls.specs.declared.read.Basis.TheVariants.{Fund as FundBasis}
+use Rattle.cf_chart.specs.Common.{Plan}
 use Rattle.cf_ledger.specs.Posts.{is_in_total}
-use Rattle.cf_model.specs.Postings.{balance_of, posts_in}
-use Rattle.cf_model.specs.Report.{fund_balance}
-use Rattle.cf_model.specs.Step.{IsLegal}
-use Rattle.cf_model.specs.Sums.{int_sum}
-use Rattle.cf_model.proofs.FundAccounts.{fund_balance_is}
-use Rattle.cf_model.proofs.Totals.{all_so, sum_append}
+use Rattle.cf_model.proofs.Common.{fund_balance_is, all_so, sum_append}
 use Rattle.cf_model_articulation.specs.OwnAccounts.{HasOwnAccounts}
 use Rattle.cf_model_articulation.specs.TrialBalances.{Balances, fund_accounts, gov_accounts}
 use Rattle.cf_model_articulation.proofs.Closing.{is_change, parts_close}

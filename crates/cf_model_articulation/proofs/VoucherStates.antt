@@ -1,16 +1,11 @@
 -- The items of a voucher have one state, so those of a voucher that may be voided are open.
 use Rattle.std.proofs.Common.{◌≡◌, ℕ, ◌+◌, ◌≤◌, Bool, true, false, if◌then◌else◌, ◌==◌, List, [], ◌∷◌, ◌++◌, map, find, Option, Some, None, refl, sym, ap, ◌∙◌, arith}
-use Rattle.std.specs.List.{list_any, AllByRecursion}
-use Rattle.cf_base.specs.declared.calendar.Day.{Day}
-use Rattle.cf_calls.specs.Acts.{voucher_items}
-use Rattle.cf_calls.specs.declared.acts.Act.{Act}
+use Rattle.cf_base.proofs.Common.{list_any, AllByRecursion}
+use Rattle.cf_model.specs.Common.{Day, Act, VoucherState, not_open_voucher, voided_state, Expenditure, draws_voucher, expenditure_of, expenditure_step, paid_after, voucher_at}
+use Rattle.cf_calls.specs.Common.{voucher_items}
 use Rattle.cf_calls.specs.declared.acts.Act.TheVariants as act
-use Rattle.cf_calls.specs.declared.shown.VoucherState.{VoucherState}
 use Rattle.cf_calls.specs.declared.shown.VoucherState.TheVariants as voucher
-use Rattle.cf_model.specs.DocumentRules.{not_open_voucher, voided_state}
-use Rattle.cf_model.specs.Documents.{Expenditure, draws_voucher, expenditure_of, expenditure_step, paid_after, voucher_at}
-use Rattle.cf_model.proofs.Tidy.{all_append, all_map, all_new}
-use Rattle.cf_model.proofs.Totals.{all_so}
+use Rattle.cf_model.proofs.Common.{all_append, all_map, all_new, all_so}
 use Rattle.cf_model_articulation.proofs.Counts.{found_has, found_passes, number_is, other_numbers, same_numbers}
 
 -- each item has the state of its voucher, which was drawn

@@ -2,12 +2,9 @@
 -- same amounts stand in them (GASB Statement 34).
 use Rattle.std.specs.Prelude.{◌≡◌, ℕ, ◌-◌, ◌≤◌, ℤ, pos, ◌+ℤ◌, ◌-ℤ◌, List, [], ◌∷◌, take}
 use Rattle.cf_base.specs.declared.statement.Kind.TheVariants as kind
-use Rattle.cf_calls.specs.declared.entry.Entry.{Entry}
-use Rattle.cf_calls.specs.declared.reply.Row.{Row}
+use Rattle.cf_model.specs.Common.{Entry, Row, report_rows, sums_of, int_sum}
 use Rattle.cf_chart.specs.declared.rows.Fund.{Fund}
-use Rattle.cf_chart.specs.Plan.{Plan}
-use Rattle.cf_model.specs.Report.{report_rows, sums_of}
-use Rattle.cf_model.specs.Sums.{int_sum}
+use Rattle.cf_chart.specs.Common.{Plan}
 use Rattle.cf_statements.specs.Balance as balance
 use Rattle.cf_statements.specs.Operating as operating
 use Rattle.cf_statements.specs.Position as position

@@ -1,11 +1,8 @@
 -- How the budgetary comparison (GASB Codification 2400) articulates with the operating statement.
 use Rattle.std.specs.Prelude.{◌≡◌, ◌≤◌, ℕ, ℤ, pos, List, [], ◌∷◌}
-use Rattle.cf_calls.specs.declared.entry.Entry.{Entry}
-use Rattle.cf_calls.specs.declared.reply.Row.{Row}
+use Rattle.cf_model.specs.Common.{Entry, Row, sums_of, int_sum}
 use Rattle.cf_chart.specs.declared.rows.Fund.{Fund}
-use Rattle.cf_chart.specs.Plan.{Plan}
-use Rattle.cf_model.specs.Report.{sums_of}
-use Rattle.cf_model.specs.Sums.{int_sum}
+use Rattle.cf_chart.specs.Common.{Plan}
 use Rattle.cf_statements.specs.Budget as budget
 use Rattle.cf_statements.specs.Operating.{total_expenditures, total_revenues}
 

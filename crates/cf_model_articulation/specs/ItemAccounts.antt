@@ -1,12 +1,9 @@
 -- The items between fund balances and net position (GASB Statement 34: the summary reconciliation),
 -- each as the accounts that it is made of.
 use Rattle.std.specs.Prelude.{◌≡◌, ℕ, List, ℤ, pos, ◌+ℤ◌, ◌-ℤ◌}
-use Rattle.cf_calls.specs.declared.entry.Entry.{Entry}
+use Rattle.cf_model.specs.Common.{Entry, recon_shown, sums_of, int_sum}
 use Rattle.cf_chart.specs.declared.rows.Fund.{Fund}
-use Rattle.cf_chart.specs.Plan.{Plan}
-use Rattle.cf_model.specs.ReconShown.{recon_shown}
-use Rattle.cf_model.specs.Report.{sums_of}
-use Rattle.cf_model.specs.Sums.{int_sum}
+use Rattle.cf_chart.specs.Common.{Plan}
 
 -- a government-wide account through a year, and an account of all the chart's funds
 abbrev pub city_account : Plan → List Entry → ℕ → ℕ → ℤ

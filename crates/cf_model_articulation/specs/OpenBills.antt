@@ -1,14 +1,10 @@
 -- What is left of bills, fund by fund, and the account that has it.
 use Rattle.std.specs.Prelude.{◌≡◌, ℕ, ℤ, pos, ◌==◌, if◌then◌else◌, List}
-use Rattle.cf_calls.specs.declared.entry.Entry.{Entry}
+use Rattle.cf_model.specs.Common.{Entry, fund_of, posts_in, Receivables, left_of, registers_of, int_sum}
 use Rattle.cf_calls.specs.declared.read.Basis.TheVariants.{Fund as FundBasis}
-use Rattle.cf_chart.specs.Plan.{Plan}
+use Rattle.cf_chart.specs.Common.{Plan}
 use Rattle.cf_ledger.specs.Posts.{is_of, sum_where}
-use Rattle.cf_model.specs.Charted.{fund_of}
-use Rattle.cf_model.specs.Postings.{posts_in}
-use Rattle.cf_model.specs.Receivables.{Bill, Receivables, left_of}
-use Rattle.cf_model.specs.Registers.{registers_of}
-use Rattle.cf_model.specs.Sums.{int_sum}
+use Rattle.cf_model.specs.Receivables.{Bill}
 
 -- what is left of a bill, where its source is of the fund
 abbrev pub left_part : Plan → ℕ → Receivables → Bill → ℤ

@@ -1,14 +1,10 @@
 -- What is open of vouchers, fund by fund, and the account that has it.
 use Rattle.std.specs.Prelude.{◌≡◌, ℕ, ℤ, pos, ◌-ℤ◌, ◌==◌, if◌then◌else◌, List}
-use Rattle.cf_calls.specs.declared.entry.Entry.{Entry}
+use Rattle.cf_model.specs.Common.{Entry, VoucherState, Expenditure, documents_of, posts_in, int_sum}
 use Rattle.cf_calls.specs.declared.read.Basis.TheVariants.{Fund as FundBasis}
-use Rattle.cf_calls.specs.declared.shown.VoucherState.{VoucherState}
 use Rattle.cf_calls.specs.declared.shown.VoucherState.TheVariants as voucher
-use Rattle.cf_chart.specs.Plan.{Plan}
+use Rattle.cf_chart.specs.Common.{Plan}
 use Rattle.cf_ledger.specs.Posts.{is_of, sum_where}
-use Rattle.cf_model.specs.Documents.{Expenditure, documents_of}
-use Rattle.cf_model.specs.Postings.{posts_in}
-use Rattle.cf_model.specs.Sums.{int_sum}
 
 -- what is neither paid nor void
 abbrev pub open_amount : VoucherState → ℕ → ℕ

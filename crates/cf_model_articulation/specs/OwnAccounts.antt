@@ -2,14 +2,10 @@
 -- a chart sees to it.
 use Rattle.std.specs.Prelude.{◌≡◌, Bool, true, ◌==◌, nat_le, List}
 use Rattle.std.specs.List.{list_all, list_any}
-use Rattle.cf_chart.specs.declared.rows.Function.{Function}
+use Rattle.cf_model.specs.Common.{Function, RevenueKind, RevenueSource}
 use Rattle.cf_chart.specs.declared.rows.Fund.{Fund}
-use Rattle.cf_chart.specs.declared.rows.RevenueKind.{RevenueKind}
 use Rattle.cf_chart.specs.declared.rows.RevenueKind.TheVariants as kind
-use Rattle.cf_chart.specs.declared.rows.RevenueSource.{RevenueSource}
-use Rattle.cf_chart.specs.Levels.{has_function}
-use Rattle.cf_chart.specs.Plan.{Plan}
-use Rattle.cf_chart.specs.Rising.{is_rising}
+use Rattle.cf_chart.specs.Common.{has_function, Plan, is_rising}
 
 -- one of these funds has the source
 abbrev pub is_of_fund : List Fund → RevenueSource → Bool

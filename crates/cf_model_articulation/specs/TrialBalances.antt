@@ -2,11 +2,9 @@
 -- equal (GASB Statement 34).
 use Rattle.std.specs.Prelude.{◌≡◌, ℕ, ◌==◌, List, [], ◌∷◌, ◌++◌, map, pos}
 use Rattle.std.specs.List.{filter}
-use Rattle.cf_calls.specs.declared.entry.Entry.{Entry}
-use Rattle.cf_calls.specs.declared.read.Basis.TheVariants.{Fund as FundBasis, Gov as GovBasis}
-use Rattle.cf_chart.specs.Plan.{Plan}
-use Rattle.cf_model.specs.Postings.{balance_of}
-use Rattle.cf_model.specs.Sums.{int_sum}
+use Rattle.cf_model.specs.Common.{Entry, Gov as GovBasis, balance_of, int_sum}
+use Rattle.cf_calls.specs.declared.read.Basis.TheVariants.{Fund as FundBasis}
+use Rattle.cf_chart.specs.Common.{Plan}
 use Rattle.cf_post.specs.Accounts.{cash, receivables, due_from_funds, capital_assets, depreciation, right_to_use, amortization, payables, debt_due, due_to_funds, bonds, leases, accrued_interest, leave, unavailable, revenue_of, donated_to, gain, current_of, capital_outlay, principal, interest, transfers_in, proceeds, asset_sales, leases_issued, transfers_out}
 
 -- what a fund has and owes, its revenues, its expenditures, and its other financing sources and

@@ -2,32 +2,18 @@
 -- hand: what is carried into that
 -- year goes onto lines of the later level, and lapses where there is none.
 use Rattle.std.specs.Prelude.{◌≡◌, ℕ, true, false, List, [], ◌∷◌, Option, Some, None, pos}
-use Rattle.cf_base.specs.declared.calendar.Day.{Day}
-use Rattle.cf_calls.specs.declared.acts.Act.{Act}
-use Rattle.cf_calls.specs.declared.acts.Act.TheVariants.{Adopt, Amend, ChangeOrder, Order, Requisition, Close}
+use Rattle.cf_model.specs.Common.{Day, Act, Adopt, Amend, ChangeOrder, Order, Requisition, Close, Entry, AccountItem, Refusal, Refused, Line, documents_of, order_shown, numbers, name_refusal, blank_plan, line_shown, touches}
 use Rattle.cf_calls.specs.declared.acts.Period.TheVariants as period
-use Rattle.cf_calls.specs.declared.entry.Entry.{Entry}
-use Rattle.cf_calls.specs.declared.items.AccountItem.{AccountItem}
 use Rattle.cf_calls.specs.declared.names.NameKind.TheVariants as kind
-use Rattle.cf_calls.specs.declared.refusal.Refusal.{Refusal}
 use Rattle.cf_calls.specs.declared.refusal.Refusal.TheVariants as refusal
-use Rattle.cf_calls.specs.declared.reply.Body.TheVariants.{Refused}
 use Rattle.cf_calls.specs.declared.shown.ItemState.TheVariants as state
 use Rattle.cf_calls.specs.declared.shown.Shown.TheVariants as shown
 use Rattle.cf_chart.specs.declared.rows.FundType.TheVariants as fund_type
 use Rattle.cf_chart.specs.declared.rows.Level.TheVariants as level
-use Rattle.cf_chart.specs.declared.rows.Line.{Line}
 use Rattle.cf_chart.specs.declared.rows.LinePart.TheVariants as part
 use Rattle.cf_chart.specs.declared.rows.ObjectKind.TheVariants as object_kind
 use Rattle.cf_chart.specs.declared.rows.Policy.TheVariants as policy
-use Rattle.cf_chart.specs.Plan.{Plan, line_of}
-use Rattle.cf_model.specs.Documents.{documents_of}
-use Rattle.cf_model.specs.DocumentsShown.{order_shown}
-use Rattle.cf_model.specs.LineNumbers.{numbers}
-use Rattle.cf_model.specs.Rules.{name_refusal}
-use Rattle.cf_model.specs.State.{blank_plan}
-use Rattle.cf_model.specs.Step.{line_shown}
-use Rattle.cf_model.specs.Stripes.{touches}
+use Rattle.cf_chart.specs.Common.{Plan, line_of}
 
 abbrev pub by_object : ℕ → ℕ → Line
 by_object dept object = record { fund = 1; dept = dept; part = part.Object object; later = false }

@@ -1,14 +1,10 @@
 -- The law of closed fiscal years: each entry of a legal history leaves the years that were closed
 -- before it.
 use Rattle.std.proofs.Common.{◌≡◌, inl, inr, ℕ, ◌<◌, true, false, List, [], ◌∷◌, ◌++◌, sym, ◌∙◌}
-use Rattle.std.proofs.lemmas.Bool.{cases_lt}
-use Rattle.cf_calls.specs.declared.entry.Entry.{Entry}
-use Rattle.cf_chart.specs.Plan.{Plan}
-use Rattle.cf_model.specs.Calendar.{is_year_closed, open_year}
-use Rattle.cf_model.specs.Step.{IsLegal, IsLegalAfter}
-use Rattle.cf_model.proofs.Lawful.{IsWhole}
-use Rattle.cf_model.proofs.Legal.{legal_push}
-use Rattle.cf_model.proofs.OpenYears.{years_are}
+use Rattle.cf_base.proofs.Common.{cases_lt}
+use Rattle.cf_model.specs.Common.{Entry, is_year_closed, open_year, IsLegal, IsLegalAfter}
+use Rattle.cf_chart.specs.Common.{Plan}
+use Rattle.cf_model.proofs.Common.{IsWhole, legal_push, years_are}
 use Rattle.cf_model_closed.specs.ClosedYears.{ClosedYearsStay, LeaveClosedYearsAfter}
 use Rattle.cf_model_closed.proofs.Numbers.{numbers_of_closed}
 use Rattle.cf_model_closed.proofs.Posts.{posts_open}

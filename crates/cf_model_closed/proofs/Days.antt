@@ -1,22 +1,14 @@
 -- Months of days: a later day is of no earlier month. So the window of a fiscal year ends no
 -- earlier than the year, and holds no day of a month after the one in which it ends.
 use Rattle.std.proofs.Common.{◌≡◌, ◌⊎◌, inl, inr, ℕ, zero, suc, ◌+◌, ◌-◌, ◌<◌, ◌≤◌, Bool, true, false, if◌then◌else◌, ◌==◌, ◌&&◌, nat_lt, max, List, [], ◌∷◌, Some, find, ℤ, pos, ◌+ℤ◌, int_le, int_lt, unsigned_abs, ap, arith}
-use Rattle.std.proofs.lemmas.Bool.{cases_lt}
-use Rattle.std.proofs.lemmas.Bool.Decides.{leb_tells, eqb_tells}
-use Rattle.std.proofs.lemmas.Int.{ints}
+use Rattle.cf_base.proofs.Common.{cases_lt, leb_tells, eqb_tells, ints, is_day_from, number_of}
 use Rattle.jiff_core.specs.Calendar.{days_in_month}
 use Rattle.jiff_core.proofs.CalendarLemmas.{days_in_month_bounds}
-use Rattle.cf_base.specs.declared.calendar.Day.{Day}
-use Rattle.cf_base.specs.declared.calendar.Month.{Month}
-use Rattle.cf_base.specs.Calendar.{is_day, month_of_day, day_number, next_day, day_of_number}
-use Rattle.cf_base.specs.Windows.{last_month, year_end, window_end, is_in_window}
-use Rattle.cf_base.proofs.DayNumbers.{is_day_from, number_of}
-use Rattle.cf_calls.specs.Form.{IsYear, month_number}
-use Rattle.cf_chart.specs.declared.rows.RevenueSource.{RevenueSource}
-use Rattle.cf_chart.specs.Plan.{Plan, longest_window}
-use Rattle.cf_model.specs.Receivables.{window_if}
-use Rattle.cf_model.specs.Rules.{window_month}
-use Rattle.cf_model.proofs.MonthNumbers.{HasCalendar, IsNamed}
+use Rattle.cf_model.specs.Common.{Day, Month, RevenueSource, window_if, window_month}
+use Rattle.cf_base.specs.Common.{is_day, month_of_day, day_number, next_day, day_of_number, last_month, year_end, window_end, is_in_window}
+use Rattle.cf_calls.specs.Common.{IsYear, month_number}
+use Rattle.cf_chart.specs.Common.{Plan, longest_window}
+use Rattle.cf_model.proofs.Common.{HasCalendar, IsNamed}
 
 abbrev Less : Bool → ℕ → ℕ → Type 0
 Less b m n = ((b ≡ true) × (suc m ≤ n)) ⊎ ((b ≡ false) × (n < suc m))

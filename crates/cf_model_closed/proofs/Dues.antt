@@ -1,27 +1,13 @@
 -- A bond's next payment is due in a month that isn't closed: no month closes over a payment that is
 -- due in it.
 use Rattle.std.proofs.Common.{◌≡◌, ◌⊎◌, inl, inr, ℕ, zero, suc, ◌+◌, ◌-◌, ◌*◌, ◌<◌, ◌≤◌, Bool, true, false, if◌then◌else◌, ◌==◌, nat_le, List, [], ◌∷◌, ◌++◌, map, Option, Some, None, IfSome, slice_get, refl, sym, subst, arith}
-use Rattle.std.specs.List.{AllByRecursion}
-use Rattle.std.proofs.lemmas.Bool.Decides.{leb_tells}
-use Rattle.cf_base.specs.declared.calendar.Day.{Day}
-use Rattle.cf_calls.specs.declared.acts.Act.{Act}
+use Rattle.cf_base.proofs.Common.{AllByRecursion, leb_tells}
+use Rattle.cf_model.specs.Common.{Day, Act, Drawn, Entry, Bond, Due, bond_step, bonds_by, dues, dues_from, next_due, number_of_day, due_day, unpaid, unpaid_refusal, Registers, no_registers, registers_of, closed_after, first_refusal, Adds, IsLegal}
 use Rattle.cf_calls.specs.declared.acts.Act.TheVariants as act
 use Rattle.cf_calls.specs.declared.acts.Period.TheVariants as period
-use Rattle.cf_calls.specs.declared.entry.Drawn.{Drawn}
-use Rattle.cf_calls.specs.declared.entry.Entry.{Entry}
 use Rattle.cf_calls.specs.declared.refusal.Refusal.TheVariants as refusal
-use Rattle.cf_chart.specs.Plan.{Plan}
-use Rattle.cf_model.specs.Bonds.{Bond, Due, bond_step, bonds_by, dues, dues_from, next_due}
-use Rattle.cf_model.specs.Months.{number_of_day}
-use Rattle.cf_model.specs.RegisterRules.{due_day, unpaid, unpaid_refusal}
-use Rattle.cf_model.specs.Registers.{Registers, no_registers, registers_of, closed_after}
-use Rattle.cf_model.specs.Rules.{first_refusal}
-use Rattle.cf_model.specs.Step.{Adds, IsLegal}
-use Rattle.cf_model.proofs.Accepted.{accepted}
-use Rattle.cf_model.proofs.First.{or_else_none, refuse_none}
-use Rattle.cf_model.proofs.MonthNumbers.{HasCalendar}
-use Rattle.cf_model.proofs.Pushes.{registers_push}
-use Rattle.cf_model.proofs.Tidy.{all_append, all_map}
+use Rattle.cf_chart.specs.Common.{Plan}
+use Rattle.cf_model.proofs.Common.{accepted, or_else_none, refuse_none, HasCalendar, registers_push, all_append, all_map}
 use Rattle.cf_model_closed.proofs.Over.{in_time, legal_by_steps}
 
 -- ---- the months in which payments are due

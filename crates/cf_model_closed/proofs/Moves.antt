@@ -1,33 +1,12 @@
 -- What an entry moves in closed fiscal years: nothing, where it cancels no order.
-use Rattle.std.proofs.Common.{◌≡◌, ◌⊎◌, inl, inr, ℕ, ◌+◌, ◌<◌, ◌≤◌, Bool, true, false, not, if◌then◌else◌, ◌==◌, ◌&&◌, List, [], ◌∷◌, map, Option, Some, None, IfSome, pos, ◌-ℤ◌, refl, sym, ap, ◌∙◌, arith}
-use Rattle.std.specs.List.{filter, AllByRecursion}
-use Rattle.std.proofs.lemmas.Bool.Decides.{eqb_tells}
-use Rattle.std.proofs.lemmas.Int.{ints}
-use Rattle.cf_base.specs.declared.calendar.Day.{Day}
-use Rattle.cf_base.specs.Calendar.{year_of_month}
-use Rattle.cf_calls.specs.declared.acts.Act.{Act}
-use Rattle.cf_calls.specs.declared.acts.Act.TheVariants.{Requisition, Withdraw, Order, ChangeOrder, CancelOrder, Voucher, VoidVoucher, PayDue, Leave, Close, Lease}
-use Rattle.cf_calls.specs.declared.acts.DebtPayment.{DebtPayment}
-use Rattle.cf_calls.specs.declared.acts.LeaveAct.TheVariants.{Mature}
+use Rattle.std.proofs.Common.{◌≡◌, ◌⊎◌, inl, inr, ℕ, ◌+◌, ◌<◌, ◌≤◌, Bool, true, false, not, if◌then◌else◌, ◌==◌, ◌&&◌, List, [], ◌∷◌, map, Option, Some, None, IfSome, pos, ◌-ℤ◌, refl, sym, ap, ◌∙◌, arith, filter}
+use Rattle.cf_base.proofs.Common.{AllByRecursion, eqb_tells, ints}
+use Rattle.cf_model.specs.Common.{Day, Act, Requisition, Withdraw, Order, ChangeOrder, CancelOrder, Voucher, VoidVoucher, PayDue, Leave, Close, Lease, DebtPayment, Mature, Charge, Direct, OnOrder, VoucherItem, Bond, Due, next_due, document_year, is_last_month, is_year, rolls, year_of_day, charge_state, charged_state, state_refusal, Expenditure, Hold, is_number, Move, charge_move, charged_item, hold_move, item_move, lapses_of, move_if, moves_of, order_move, release_move, releases, reopen_move, roll_moves, spend_move, spending_move, spent_by, unspend_move, Carried, Liquidated, OrderItem, carried_of, is_live, is_named, item_named, item_step, lapses, open_of, without, Registers, closed_year, first_refusal, item_years, posted_years, Spending, bonds_spendings, due_spendings, spendings_by}
+use Rattle.cf_base.specs.Common.{year_of_month}
 use Rattle.cf_calls.specs.declared.acts.Period.TheVariants as period
-use Rattle.cf_calls.specs.declared.items.Charge.{Charge}
-use Rattle.cf_calls.specs.declared.items.Charge.TheVariants.{Direct, OnOrder}
-use Rattle.cf_calls.specs.declared.items.VoucherItem.{VoucherItem}
-use Rattle.cf_calls.specs.Form.{is_distinct}
-use Rattle.cf_chart.specs.Plan.{Plan}
-use Rattle.cf_model.specs.Bonds.{Bond, Due, next_due}
-use Rattle.cf_model.specs.Calendar.{document_year, is_last_month, is_year, rolls, year_of_day}
-use Rattle.cf_model.specs.DocumentRules.{charge_state, charged_state, state_refusal}
-use Rattle.cf_model.specs.Documents.{Expenditure, Hold, is_number}
-use Rattle.cf_model.specs.Moves.{Move, charge_move, charged_item, hold_move, item_move, lapses_of, move_if, moves_of, order_move, release_move, releases, reopen_move, roll_moves, spend_move, spending_move, spent_by, unspend_move}
-use Rattle.cf_model.specs.OrderItems.{Carried, Liquidated, OrderItem, carried_of, is_live, is_named, item_named, item_step, lapses, open_of, without}
-use Rattle.cf_model.specs.Registers.{Registers}
-use Rattle.cf_model.specs.Rules.{closed_year, first_refusal, item_years, posted_years}
-use Rattle.cf_model.specs.Spendings.{Spending, bonds_spendings, due_spendings, spendings_by}
-use Rattle.cf_model.proofs.First.{or_else_none}
-use Rattle.cf_model.proofs.MonthNumbers.{ClosesNext, HasCalendar}
-use Rattle.cf_model.proofs.Posted.{all_filter}
-use Rattle.cf_model.proofs.Tidy.{all_append, all_map, all_new, both, same_place}
+use Rattle.cf_calls.specs.Common.{is_distinct}
+use Rattle.cf_chart.specs.Common.{Plan}
+use Rattle.cf_model.proofs.Common.{or_else_none, ClosesNext, HasCalendar, all_filter, all_append, all_map, all_new, both, same_place}
 use Rattle.cf_model_closed.specs.ClosedYears.{cancels}
 use Rattle.cf_model_closed.proofs.Dues.{IsUnpaidLater, next_later}
 use Rattle.cf_model_closed.proofs.OpenHolds.{IsOpenFrom, nothing_held, rolled_is}

@@ -1,30 +1,10 @@
 -- An entry that cancels no order leaves the numbers of every control line in closed fiscal years.
 use Rattle.std.proofs.Common.{◌≡◌, ◌⊎◌, inl, inr, ℕ, ◌+◌, ◌<◌, ◌≤◌, Bool, true, false, if◌then◌else◌, ◌==◌, ◌&&◌, List, [], ◌∷◌, ◌++◌, None, ℤ, pos, ◌+ℤ◌, ◌-ℤ◌, refl, sym, subst, ◌∙◌, arith}
-use Rattle.std.specs.List.{AllByRecursion}
-use Rattle.std.proofs.lemmas.Bool.Decides.{eqb_tells}
-use Rattle.std.proofs.lemmas.Int.{ints}
-use Rattle.std.proofs.lemmas.List.Sums.{sum_by-cons}
-use Rattle.cf_base.specs.declared.calendar.Day.{Day}
-use Rattle.cf_calls.specs.declared.acts.Act.{Act}
-use Rattle.cf_calls.specs.declared.acts.Act.TheVariants.{Adopt, Amend, Transfer}
-use Rattle.cf_calls.specs.declared.entry.Entry.{Entry}
-use Rattle.cf_chart.specs.Plan.{Plan}
-use Rattle.cf_model.specs.Calendar.{open_year, rolls}
-use Rattle.cf_model.specs.DocumentRules.{state_refusal}
-use Rattle.cf_model.specs.Documents.{Documents, documents_of}
-use Rattle.cf_model.specs.LineNumbers.{added_by, adopted_by, amount_for, appropriated, carried_sum, counts, encumbered, expended, fall_of, held, is_on, numbers, original, removed_by, rise_of}
-use Rattle.cf_model.specs.Moves.{Move, carried_by, moved_sum, moves_of}
-use Rattle.cf_model.specs.OrderItems.{Carried, carried_of}
-use Rattle.cf_model.specs.Registers.{registers_of}
-use Rattle.cf_model.specs.Rules.{closed_year, first_refusal, posted_years}
-use Rattle.cf_model.specs.Step.{Adds, IsLegal}
-use Rattle.cf_model.proofs.Accepted.{accepted}
-use Rattle.cf_model.proofs.Changed.{original_push, appropriated_push, held_push, encumbered_push, expended_push}
-use Rattle.cf_model.proofs.LegalMonths.{next_named}
-use Rattle.cf_model.proofs.MonthNumbers.{HasCalendar}
-use Rattle.cf_model.proofs.Pushes.{documents_are}
-use Rattle.cf_model.proofs.Tidy.{IsTidy, tidy_always}
-use Rattle.cf_model.proofs.Totals.{all_so}
+use Rattle.cf_base.proofs.Common.{AllByRecursion, eqb_tells, ints, sum_by-cons}
+use Rattle.cf_model.specs.Common.{Day, Act, Adopt, Amend, Transfer, Entry, open_year, rolls, state_refusal, Documents, documents_of, added_by, adopted_by, amount_for, appropriated, carried_sum, counts, encumbered, expended, fall_of, is_on, numbers, original, removed_by, rise_of, Move, carried_by, moved_sum, moves_of, Carried, carried_of, registers_of, closed_year, first_refusal, posted_years, Adds, IsLegal}
+use Rattle.cf_chart.specs.Common.{Plan}
+use Rattle.cf_model.specs.LineNumbers.{held}
+use Rattle.cf_model.proofs.Common.{accepted, original_push, appropriated_push, held_push, encumbered_push, expended_push, next_named, HasCalendar, documents_are, IsTidy, tidy_always, all_so}
 use Rattle.cf_model_closed.specs.ClosedYears.{cancels}
 use Rattle.cf_model_closed.proofs.Moves.{IsIdleBefore, IsOpenOn, IsPassed, carried_from, moves_idle, rolled_from}
 use Rattle.cf_model_closed.proofs.OpenHolds.{open_holds}

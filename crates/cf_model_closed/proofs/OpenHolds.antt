@@ -1,31 +1,14 @@
 -- An open requisition is of the fiscal year of the first month that isn't closed, or of a later
 -- one: the roll of its year lapses it.
 use Rattle.std.proofs.Common.{◌≡◌, ◌⊎◌, inl, inr, ℕ, ◌+◌, ◌-◌, ◌*◌, ◌/◌, ◌<◌, ◌≤◌, Bool, true, false, if◌then◌else◌, ◌==◌, List, [], ◌∷◌, ◌++◌, map, Some, None, pos, ◌-ℤ◌, refl, sym, ap, subst, ◌∙◌, arith}
-use Rattle.std.specs.List.{AllByRecursion}
-use Rattle.std.proofs.lemmas.Bool.{cases_lt}
-use Rattle.std.proofs.lemmas.Bool.Decides.{eqb_tells}
-use Rattle.cf_base.specs.declared.calendar.Day.{Day}
-use Rattle.cf_base.specs.declared.calendar.Month.{Month}
-use Rattle.cf_base.specs.Calendar.{year_of_month}
-use Rattle.cf_calls.specs.declared.acts.Act.{Act}
-use Rattle.cf_calls.specs.declared.acts.Act.TheVariants.{Requisition, Withdraw, Order, Close}
+use Rattle.cf_base.proofs.Common.{AllByRecursion, cases_lt, eqb_tells}
+use Rattle.cf_model.specs.Common.{Day, Month, Act, Requisition, Withdraw, Order, Close, Entry, RequisitionState, document_year, is_last_month, is_year, year_of_day, Hold, hold_of, hold_step, is_number, leaves, held_amount, number_of, year_at, release_move, Registers, no_registers, registers_of, closed_after, Adds, IsLegal}
+use Rattle.cf_base.specs.Common.{year_of_month}
 use Rattle.cf_calls.specs.declared.acts.Period.TheVariants as period
-use Rattle.cf_calls.specs.declared.entry.Entry.{Entry}
-use Rattle.cf_calls.specs.declared.shown.RequisitionState.{RequisitionState}
 use Rattle.cf_calls.specs.declared.shown.RequisitionState.TheVariants as requisition
-use Rattle.cf_calls.specs.Acts.{requisition_items}
-use Rattle.cf_chart.specs.Plan.{Plan}
-use Rattle.cf_model.specs.Calendar.{document_year, is_last_month, is_year, year_of_day}
-use Rattle.cf_model.specs.Documents.{Hold, hold_of, hold_step, is_number, leaves}
-use Rattle.cf_model.specs.LineNumbers.{held_amount}
-use Rattle.cf_model.specs.Months.{number_of, year_at}
-use Rattle.cf_model.specs.Moves.{release_move}
-use Rattle.cf_model.specs.Registers.{Registers, no_registers, registers_of, closed_after}
-use Rattle.cf_model.specs.Step.{Adds, IsLegal}
-use Rattle.cf_model.proofs.LegalMonths.{next_named}
-use Rattle.cf_model.proofs.MonthNumbers.{HasCalendar, ClosesNext, year_is}
-use Rattle.cf_model.proofs.Pushes.{registers_push}
-use Rattle.cf_model.proofs.Tidy.{all_append, all_map, all_new}
+use Rattle.cf_calls.specs.Common.{requisition_items}
+use Rattle.cf_chart.specs.Common.{Plan}
+use Rattle.cf_model.proofs.Common.{next_named, HasCalendar, ClosesNext, year_is, registers_push, all_append, all_map, all_new}
 use Rattle.cf_model_closed.proofs.Over.{in_time, legal_by_steps, now_year}
 
 abbrev Equal : Bool → ℕ → ℕ → Type 0

@@ -1,28 +1,13 @@
 -- A closed fiscal year is over: the month in which its longest window ends is closed. So every
 -- month that isn't closed is of the open year or of a later one, and so is an entry's day.
 use Rattle.std.proofs.Common.{◌≡◌, ◌⊎◌, inl, inr, ℕ, suc, ◌+◌, ◌-◌, ◌*◌, ◌<◌, ◌≤◌, Bool, true, false, not, if◌then◌else◌, ◌==◌, List, [], ◌∷◌, ◌++◌, None, refl, sym, ap, subst, ◌∙◌, arith}
-use Rattle.std.proofs.lemmas.Bool.{cases_lt}
-use Rattle.std.proofs.lemmas.Bool.Decides.{leb_tells, eqb_tells}
-use Rattle.cf_base.specs.declared.calendar.Day.{Day}
-use Rattle.cf_calls.specs.declared.acts.Act.{Act}
-use Rattle.cf_calls.specs.declared.acts.Act.TheVariants.{Close}
+use Rattle.cf_base.proofs.Common.{cases_lt, leb_tells, eqb_tells}
+use Rattle.cf_model.specs.Common.{Day, Act, Close, Entry, year_of_day, is_month_closed, open_year, open_year_after, start_month, number_of_day, year_at, Registers, no_registers, registers_of, closed_after, closing_refusal, closed_refusal, window_refusal, window_month, Adds, IsLegal}
 use Rattle.cf_calls.specs.declared.acts.Period.TheVariants as period
-use Rattle.cf_calls.specs.declared.entry.Entry.{Entry}
 use Rattle.cf_calls.specs.declared.refusal.Refusal.TheVariants as refusal
-use Rattle.cf_calls.specs.Form.{IsActInForm, IsYear}
-use Rattle.cf_chart.specs.Plan.{Plan}
-use Rattle.cf_model.specs.Calendar.{year_of_day, is_month_closed, open_year, open_year_after}
-use Rattle.cf_model.specs.Months.{start_month, number_of_day, year_at}
-use Rattle.cf_model.specs.Registers.{Registers, no_registers, registers_of, closed_after}
-use Rattle.cf_model.specs.Rules.{closing_refusal, closed_refusal, window_refusal, window_month}
-use Rattle.cf_model.specs.Step.{Adds, IsLegal}
-use Rattle.cf_model.proofs.Accepted.{accepted}
-use Rattle.cf_model.proofs.First.{refuse_none}
-use Rattle.cf_model.proofs.Legal.{legal_induction, legal_push}
-use Rattle.cf_model.proofs.LegalMonths.{closed_are}
-use Rattle.cf_model.proofs.MonthNumbers.{HasCalendar, ClosedAre, early, day_year_is}
-use Rattle.cf_model.proofs.OpenYears.{closes_open, open_year_push, years_are}
-use Rattle.cf_model.proofs.Pushes.{registers_push}
+use Rattle.cf_calls.specs.Common.{IsActInForm, IsYear}
+use Rattle.cf_chart.specs.Common.{Plan}
+use Rattle.cf_model.proofs.Common.{accepted, refuse_none, legal_induction, legal_push, closed_are, HasCalendar, ClosedAre, early, day_year_is, closes_open, open_year_push, years_are, registers_push}
 use Rattle.cf_model_closed.proofs.Days.{window_number, window_named, end_le}
 
 -- what holds of the empty history and is kept by each step over a legal history holds of each legal

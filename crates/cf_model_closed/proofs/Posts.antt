@@ -1,41 +1,16 @@
 -- No post of an entry is of a closed fiscal year.
-use Rattle.std.proofs.Common.{◌≡◌, ◌⊎◌, inl, inr, ℕ, suc, ◌<◌, ◌≤◌, Bool, true, false, if◌then◌else◌, ◌==◌, nat_lt, List, [], ◌∷◌, map, All, Option, Some, None, IfSome, sym, ap, subst, ◌∙◌, arith}
-use Rattle.std.specs.List.{filter, AllByRecursion}
-use Rattle.std.proofs.lemmas.Bool.Decides.{leb_tells, eqb_tells}
-use Rattle.std.proofs.lemmas.List.Elements.{All-from_recursion}
-use Rattle.cf_base.specs.declared.calendar.Day.{Day}
-use Rattle.cf_calls.specs.declared.acts.Act.{Act}
+use Rattle.std.proofs.Common.{◌≡◌, ◌⊎◌, inl, inr, ℕ, suc, ◌<◌, ◌≤◌, Bool, true, false, if◌then◌else◌, ◌==◌, nat_lt, List, [], ◌∷◌, map, All, Option, Some, None, IfSome, sym, ap, subst, ◌∙◌, arith, filter}
+use Rattle.cf_base.proofs.Common.{AllByRecursion, leb_tells, eqb_tells, All-from_recursion}
+use Rattle.cf_model.specs.Common.{Day, Act, Donate, Dispose, FundMoveKind, Earn, Use, Mature, Entry, Basis, Gov as GovBasis, Function, leased, owned, Bond, Due, next_due, document_year, open_year, year_of_day, bonds_deeds, collect_deeds, deeds_of, dispose_deed, due_deeds, function_charge, fund_deed, pay_deed, pay_items, spent_item, write_off_deeds, Documents, Expenditure, voucher_at, year_at, spent_by, act_posts, rows_of, bill_at, collected_year, Registers, registers_of, closed_refusal, closed_year, first_refusal, voucher_years, Adds, IsLegal}
 use Rattle.cf_calls.specs.declared.acts.Act.TheVariants as act
-use Rattle.cf_calls.specs.declared.acts.AssetAct.TheVariants.{Donate, Dispose}
-use Rattle.cf_calls.specs.declared.acts.FundMoveKind.{FundMoveKind}
 use Rattle.cf_calls.specs.declared.acts.FundMoveKind.TheVariants as move
-use Rattle.cf_calls.specs.declared.acts.LeaveAct.TheVariants.{Earn, Use, Mature}
 use Rattle.cf_calls.specs.declared.acts.Period.TheVariants as period
-use Rattle.cf_calls.specs.declared.entry.Entry.{Entry}
-use Rattle.cf_calls.specs.declared.read.Basis.{Basis}
-use Rattle.cf_calls.specs.declared.read.Basis.TheVariants.{Fund as FundBasis, Gov as GovBasis}
+use Rattle.cf_calls.specs.declared.read.Basis.TheVariants.{Fund as FundBasis}
 use Rattle.cf_calls.specs.declared.refusal.Refusal.TheVariants as refusal
-use Rattle.cf_chart.specs.declared.rows.Function.{Function}
-use Rattle.cf_chart.specs.Plan.{Plan}
+use Rattle.cf_chart.specs.Common.{Plan}
 use Rattle.cf_ledger.specs.declared.post.Post.{Post}
-use Rattle.cf_model.specs.Assets.{leased, owned}
-use Rattle.cf_model.specs.Bonds.{Bond, Due, next_due}
-use Rattle.cf_model.specs.Calendar.{document_year, open_year, year_of_day}
-use Rattle.cf_model.specs.Deeds.{bonds_deeds, collect_deeds, deeds_of, dispose_deed, due_deeds, function_charge, fund_deed, pay_deed, pay_items, spent_item, write_off_deeds}
-use Rattle.cf_model.specs.Documents.{Documents, Expenditure, voucher_at}
-use Rattle.cf_model.specs.Months.{year_at}
-use Rattle.cf_model.specs.Moves.{spent_by}
-use Rattle.cf_model.specs.Postings.{act_posts, rows_of}
-use Rattle.cf_model.specs.Receivables.{Bill, bill_at, collected_year}
-use Rattle.cf_model.specs.Registers.{Registers, registers_of}
-use Rattle.cf_model.specs.Rules.{closed_refusal, closed_year, first_refusal, voucher_years}
-use Rattle.cf_model.specs.Step.{Adds, IsLegal}
-use Rattle.cf_model.proofs.Accepted.{accepted}
-use Rattle.cf_model.proofs.First.{or_else_none, refuse_none}
-use Rattle.cf_model.proofs.MonthNumbers.{HasCalendar}
-use Rattle.cf_model.proofs.Posted.{all_filter, all_posts, years_of}
-use Rattle.cf_model.proofs.Pushes.{documents_are}
-use Rattle.cf_model.proofs.Tidy.{all_append, all_map, all_new}
+use Rattle.cf_model.specs.Receivables.{Bill}
+use Rattle.cf_model.proofs.Common.{accepted, or_else_none, refuse_none, HasCalendar, all_filter, all_posts, years_of, documents_are, all_append, all_map, all_new}
 use Rattle.cf_post.specs.declared.deed.Deed.{Deed}
 use Rattle.cf_post.specs.declared.deed.Deed.TheVariants as deed
 use Rattle.cf_post.specs.declared.deed.FundsAmount.{FundsAmount}

@@ -1,27 +1,13 @@
 -- A collection is revenue of the open fiscal year or of a later one: the window of a closed year is
 -- over.
 use Rattle.std.proofs.Common.{◌≡◌, ◌⊎◌, inl, inr, ℕ, ◌<◌, ◌≤◌, Bool, true, false, if◌then◌else◌, ◌==◌, ◌||◌, List, [], ◌∷◌, ◌++◌, None, refl, sym, subst, arith}
-use Rattle.std.specs.List.{AllByRecursion}
-use Rattle.std.proofs.lemmas.Bool.{cases_lt}
-use Rattle.std.proofs.lemmas.Bool.Decides.{eqb_tells}
-use Rattle.cf_base.specs.declared.calendar.Day.{Day}
-use Rattle.cf_base.specs.Windows.{is_in_window, year_end}
-use Rattle.cf_calls.specs.declared.acts.Act.{Act}
+use Rattle.cf_base.proofs.Common.{AllByRecursion, cases_lt, eqb_tells}
+use Rattle.cf_model.specs.Common.{Day, Act, Entry, open_year, year_of_day, bills_by, collected_year, window_if, year_in, Registers, no_registers, registers_of, closed_refusal, Adds, IsLegal}
+use Rattle.cf_base.specs.Common.{is_in_window, year_end}
 use Rattle.cf_calls.specs.declared.acts.Act.TheVariants as act
-use Rattle.cf_calls.specs.declared.entry.Entry.{Entry}
-use Rattle.cf_chart.specs.Plan.{Plan, source_at}
-use Rattle.cf_model.specs.Calendar.{open_year, year_of_day}
-use Rattle.cf_model.specs.Receivables.{Bill, bills_by, collected_year, window_if}
-use Rattle.cf_model.specs.Recognition.{year_in}
-use Rattle.cf_model.specs.Registers.{Registers, no_registers, registers_of}
-use Rattle.cf_model.specs.Rules.{closed_refusal}
-use Rattle.cf_model.specs.Step.{Adds, IsLegal}
-use Rattle.cf_model.proofs.Accepted.{accepted}
-use Rattle.cf_model.proofs.LegalMonths.{closed_are}
-use Rattle.cf_model.proofs.MonthNumbers.{HasCalendar, from_closed}
-use Rattle.cf_model.proofs.Pushes.{registers_push}
-use Rattle.cf_model.proofs.Spent.{not_closed}
-use Rattle.cf_model.proofs.Tidy.{all_append}
+use Rattle.cf_chart.specs.Common.{Plan, source_at}
+use Rattle.cf_model.specs.Receivables.{Bill}
+use Rattle.cf_model.proofs.Common.{accepted, closed_are, HasCalendar, from_closed, registers_push, not_closed, all_append}
 use Rattle.cf_model_closed.proofs.Days.{in_window, month, window_le, window_number}
 use Rattle.cf_model_closed.proofs.Over.{are_over, in_time, legal_by_steps}
 

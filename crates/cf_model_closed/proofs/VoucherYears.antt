@@ -1,36 +1,14 @@
 -- The items of a voucher are of one fiscal year, and an order's item of which a voucher took
 -- something is of that year.
 use Rattle.std.proofs.Common.{◌≡◌, ◌≢◌, ◌⊎◌, inl, inr, ℕ, ◌+◌, ◌<◌, ◌≤◌, Bool, true, false, not, if◌then◌else◌, ◌==◌, ◌&&◌, ◌||◌, List, [], ◌∷◌, ◌++◌, map, find, Some, None, IfSome, refl, sym, ap, subst, ◌∙◌, arith}
-use Rattle.std.specs.List.{list_any, AllByRecursion}
-use Rattle.std.proofs.lemmas.Bool.Decides.{eqb_tells}
-use Rattle.cf_base.specs.declared.calendar.Day.{Day}
-use Rattle.cf_calls.specs.declared.acts.Act.{Act}
-use Rattle.cf_calls.specs.declared.acts.Act.TheVariants.{Voucher, Close}
-use Rattle.cf_calls.specs.declared.acts.NewVoucher.{NewVoucher}
-use Rattle.cf_calls.specs.declared.entry.Entry.{Entry}
-use Rattle.cf_calls.specs.declared.items.Charge.{Charge}
-use Rattle.cf_calls.specs.declared.items.Charge.TheVariants.{Direct, OnOrder}
-use Rattle.cf_calls.specs.declared.items.VoucherItem.{VoucherItem}
+use Rattle.cf_base.proofs.Common.{list_any, AllByRecursion, eqb_tells}
+use Rattle.cf_model.specs.Common.{Day, Act, Voucher, Close, NewVoucher, Entry, Charge, Direct, OnOrder, VoucherItem, document_year, rolled_year, rolls, charged_state, charge_state, not_live, state_refusal, Expenditure, Documents, documents_of, no_documents, draws_voucher, expenditure_of, expenditure_step, OrderItem, Liquidated, is_live, is_named, item_named, item_step, items_by, lapsed, lapses, open_of, state_of, Registers, registers_of, draws, first_refusal, refuse_if, Adds, IsLegal}
 use Rattle.cf_calls.specs.declared.names.DocumentKind.TheVariants as kind
 use Rattle.cf_calls.specs.declared.refusal.DocumentState.TheVariants as state
 use Rattle.cf_calls.specs.declared.refusal.Refusal.TheVariants as refusal
-use Rattle.cf_calls.specs.Acts.{voucher_items}
-use Rattle.cf_calls.specs.Form.{is_distinct}
-use Rattle.cf_chart.specs.Plan.{Plan}
-use Rattle.cf_model.specs.Calendar.{document_year, rolled_year, rolls}
-use Rattle.cf_model.specs.DocumentRules.{charged_state, charge_state, not_live, state_refusal}
-use Rattle.cf_model.specs.Documents.{Expenditure, Documents, documents_of, no_documents, draws_voucher, expenditure_of, expenditure_step}
-use Rattle.cf_model.specs.OrderItems.{OrderItem, Liquidated, is_live, is_named, item_named, item_step, items_by, lapsed, lapses, open_of, state_of}
-use Rattle.cf_model.specs.Registers.{Registers, registers_of}
-use Rattle.cf_model.specs.Results.{draws}
-use Rattle.cf_model.specs.Rules.{first_refusal, refuse_if}
-use Rattle.cf_model.specs.Step.{Adds, IsLegal}
-use Rattle.cf_model.proofs.Accepted.{accepted}
-use Rattle.cf_model.proofs.First.{or_else_none, refuse_none}
-use Rattle.cf_model.proofs.Kept.{spend_same}
-use Rattle.cf_model.proofs.Pushes.{documents_are}
-use Rattle.cf_model.proofs.Tidy.{IsNewItem, all_append, all_map, all_new, both, charges, documents_push, is_charged, new_items, not_true, same_place, step_same, step_taken, tidy_always}
-use Rattle.cf_model.proofs.Totals.{all_so}
+use Rattle.cf_calls.specs.Common.{voucher_items, is_distinct}
+use Rattle.cf_chart.specs.Common.{Plan}
+use Rattle.cf_model.proofs.Common.{accepted, or_else_none, refuse_none, spend_same, documents_are, IsNewItem, all_append, all_map, all_new, both, charges, documents_push, is_charged, new_items, not_true, same_place, step_same, step_taken, tidy_always, all_so}
 use Rattle.cf_model_closed.proofs.Over.{legal_by_steps}
 
 -- ---- lists

@@ -1,15 +1,8 @@
 -- What entries leave of closed fiscal years (GASB Codification 1700: the fiscal period. That they
 -- leave all but what a cancelled order had open is an own rule).
 use Rattle.std.specs.Prelude.{◌≡◌, ℕ, ◌<◌, ◌≤◌, Bool, true, false, List, [], ◌∷◌, ◌++◌, All}
-use Rattle.cf_calls.specs.declared.acts.Act.{Act}
-use Rattle.cf_calls.specs.declared.acts.Act.TheVariants.{CancelOrder}
-use Rattle.cf_calls.specs.declared.entry.Entry.{Entry}
-use Rattle.cf_calls.specs.declared.read.Basis.{Basis}
-use Rattle.cf_chart.specs.Plan.{Plan}
-use Rattle.cf_model.specs.Calendar.{is_year_closed, open_year}
-use Rattle.cf_model.specs.LineNumbers.{numbers}
-use Rattle.cf_model.specs.Postings.{act_posts}
-use Rattle.cf_model.specs.Registers.{registers_of}
+use Rattle.cf_model.specs.Common.{Act, CancelOrder, Entry, Basis, is_year_closed, open_year, numbers, act_posts, registers_of}
+use Rattle.cf_chart.specs.Common.{Plan}
 
 abbrev pub cancels : Act → Bool
 cancels (CancelOrder n) = true

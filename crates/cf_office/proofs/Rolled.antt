@@ -1,32 +1,18 @@
 -- The changes of a roll, line by line, make what the entry that rolls the year changes.
-use Rattle.std.proofs.Common.{◌≡◌, ◌⊎◌, inl, inr, ℕ, zero, suc, ◌+◌, ◌<◌, ◌≤◌, Bool, true, false, if◌then◌else◌, ◌==◌, ◌&&◌, nat_lt, List, [], ◌∷◌, ◌++◌, length, Some, pos, ◌+ℤ◌, ◌-ℤ◌, refl, sym, ap, subst, ◌∙◌, arith}
-use Rattle.std.specs.List.{filter, list_any, list_all, AllByRecursion}
-use Rattle.std.proofs.lemmas.Bool.{cases_lt}
-use Rattle.std.proofs.lemmas.Bool.Decides.{eqb_tells}
-use Rattle.std.proofs.lemmas.Grind.{common_steps}
-use Rattle.cf_base.specs.declared.calendar.Day.{Day}
-use Rattle.cf_calls.specs.declared.acts.Act.{Act}
-use Rattle.cf_calls.specs.declared.acts.Act.TheVariants.{Close}
-use Rattle.cf_calls.specs.declared.acts.Period.{Period}
-use Rattle.cf_calls.specs.declared.entry.Entry.{Entry}
-use Rattle.cf_calls.specs.Form.{is_distinct, IsActInForm}
-use Rattle.cf_chart.specs.Plan.{Plan}
+use Rattle.std.proofs.Common.{◌≡◌, ◌⊎◌, inl, inr, ℕ, zero, suc, ◌+◌, ◌<◌, ◌≤◌, Bool, true, false, if◌then◌else◌, ◌==◌, ◌&&◌, nat_lt, List, [], ◌∷◌, ◌++◌, length, Some, pos, ◌+ℤ◌, ◌-ℤ◌, refl, sym, ap, subst, ◌∙◌, arith, filter}
+use Rattle.cf_base.proofs.Common.{list_any, list_all, AllByRecursion, cases_lt, eqb_tells, common_steps}
+use Rattle.cf_model.specs.Common.{Day, Act, Close, Period, Entry, is_year, rolled_year, rolls, Documents, documents_of, encumbered, encumbered_sum, held_sum, Move, carried_by, carried_to, lapses_of, moved_sum, release_move, roll_moves, Registers, registers_of}
+use Rattle.cf_calls.specs.Common.{is_distinct, IsActInForm}
+use Rattle.cf_chart.specs.Common.{Plan}
 use Rattle.cf_budget.specs.declared.changes.LineChange.{LineChange}
 use Rattle.cf_budget.specs.declared.row.Row.{Row}
 use Rattle.cf_budget.specs.Changes.{change_at, changes_at, same_place}
 use Rattle.cf_budget.specs.Tables.{carry_row, row_plus, zero_row}
 use Rattle.cf_budget.proofs.Rows.{plus_zero, zero_plus, plus_regroup}
-use Rattle.cf_model.specs.Calendar.{is_year, rolled_year, rolls}
-use Rattle.cf_model.specs.Documents.{Documents, documents_of}
-use Rattle.cf_model.specs.LineNumbers.{encumbered, encumbered_sum, held, held_sum}
-use Rattle.cf_model.specs.Moves.{Move, carried_by, carried_to, lapses_of, moved_sum, release_move, roll_moves}
-use Rattle.cf_model.specs.Registers.{Registers, registers_of}
-use Rattle.cf_model.proofs.Moved.{first, last, moved_append, moved_none, none_both, rolls_none}
-use Rattle.cf_model.proofs.Pushes.{documents_are}
-use Rattle.cf_model.proofs.RollMoves.{encumbers_to, none_carried, none_encumbered, none_held, roll_carries, roll_encumbers, roll_releases}
+use Rattle.cf_model.specs.LineNumbers.{held}
+use Rattle.cf_model.proofs.Common.{first, last, moved_append, moved_none, none_both, rolls_none, documents_are, encumbers_to, none_carried, none_encumbered, none_held, roll_carries, roll_encumbers, roll_releases, all_append as all_both, distinct_append, rolled_below}
 use Rattle.cf_registers.specs.Moved.{Make, is_inside, moved_by}
 use Rattle.cf_office.specs.Rolled.{changes_to, cleared_row, line_changes}
-use Rattle.cf_model.proofs.Tidy.{all_append as all_both, distinct_append, rolled_below}
 use Rattle.cf_registers.proofs.Lending.{are_touched}
 use Rattle.cf_registers.proofs.Moved.{inside_at, less_none}
 

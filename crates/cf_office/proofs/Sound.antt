@@ -1,17 +1,9 @@
 -- A legal history is sound.
 use Rattle.std.proofs.Common.{◌≤◌, ◌+◌, List, ◌∷◌, ◌++◌, [], length, length-append, ◌≡◌, arith}
-use Rattle.cf_base.specs.Limits.{most_entries}
-use Rattle.cf_calls.specs.declared.entry.Entry.{Entry}
-use Rattle.cf_chart.specs.Plan.{Plan}
-use Rattle.cf_model.specs.State.{IsSoundState}
-use Rattle.cf_model.specs.Step.{Adds, IsLegal}
-use Rattle.cf_model.proofs.Accepted.{accepted_fits}
-use Rattle.cf_model.proofs.Balanced.{each_balances}
-use Rattle.cf_model.proofs.CashKept.{cash_at_each}
-use Rattle.cf_model.proofs.Lawful.{IsWhole}
-use Rattle.cf_model.proofs.Legal.{legal_push}
-use Rattle.cf_model.proofs.LegalReconciled.{changes_at_each, reconciles_at_each}
-use Rattle.cf_model.proofs.Room.{room_always}
+use Rattle.cf_base.specs.Common.{most_entries}
+use Rattle.cf_model.specs.Common.{Entry, IsSoundState, Adds, IsLegal}
+use Rattle.cf_chart.specs.Common.{Plan}
+use Rattle.cf_model.proofs.Common.{accepted_fits, each_balances, cash_at_each, IsWhole, legal_push, changes_at_each, reconciles_at_each, room_always}
 
 pub legal_sound : (plan : Plan) (h : List Entry) → IsWhole plan → IsLegal plan h → length h ≤ most_entries → IsSoundState (record { plan = plan; entries = h })
 legal_sound plan h whole legal few = record {

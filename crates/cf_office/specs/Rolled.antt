@@ -1,14 +1,12 @@
 -- What the roll of a fiscal year changes of line numbers, line by line (own rule; GFOA Blue Book:
 -- encumbrances).
 use Rattle.std.specs.Prelude.{ℕ, zero, suc, ◌+◌, List, [], ◌∷◌, ◌++◌, pos, ◌-ℤ◌}
-use Rattle.cf_calls.specs.declared.entry.Entry.{Entry}
-use Rattle.cf_chart.specs.Plan.{Plan}
+use Rattle.cf_model.specs.Common.{Entry, encumbered, documents_of, carried_to}
+use Rattle.cf_chart.specs.Common.{Plan}
 use Rattle.cf_budget.specs.declared.changes.LineChange.{LineChange}
 use Rattle.cf_budget.specs.declared.row.Row.{Row}
 use Rattle.cf_budget.specs.Tables.{carry_row, zero_row}
-use Rattle.cf_model.specs.LineNumbers.{encumbered, held}
-use Rattle.cf_model.specs.Documents.{documents_of}
-use Rattle.cf_model.specs.Moves.{carried_to}
+use Rattle.cf_model.specs.LineNumbers.{held}
 use Rattle.cf_registers.specs.Moved.{change_of}
 
 -- nothing of the year stays held or encumbered

@@ -3,13 +3,8 @@
 ghost use Rattle.std.specs.Prelude.{ℕ, true, ◌≡◌, ◌++◌, ◌∷◌, [], IfOk, IfSome, IsSome, OnOk, OnErr};
 ghost use Rattle.std.specs.Option.{option_copied};
 ghost use Rattle.cf_budget.specs.Tables.{has_line};
-ghost use Rattle.cf_calls.specs.declared.entry.Entry.{Entry};
-ghost use Rattle.cf_model.proofs.Lawful.{IsWhole};
-ghost use Rattle.cf_model.specs.Postings.{act_posts};
-ghost use Rattle.cf_model.specs.Registers.{registers_of};
-ghost use Rattle.cf_model.specs.Results.{made_of};
-ghost use Rattle.cf_model.specs.State.{IsSoundState};
-ghost use Rattle.cf_model.specs.Step.{Adds};
+ghost use Rattle.cf_model.specs.Common.{Entry, act_posts, registers_of, made_of, IsSoundState, Adds};
+ghost use Rattle.cf_model.proofs.Common.{IsWhole};
 ghost use Rattle.cf_office.specs.BookState.{IsPrepared};
 ghost use Rattle.cf_registers.specs.Moved.{AreTablesOf};
 

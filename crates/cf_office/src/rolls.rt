@@ -1,10 +1,10 @@
 //! What the roll of a fiscal year changes of line numbers.
 
 ghost use Rattle.std.specs.Prelude.{◌≡◌, ◌<◌, ◌≤ℤ◌, ◌++◌, ◌-ℤ◌, ◌^◌, ℕ, true, pos, length, IfOk, OnOk};
-ghost use Rattle.cf_base.specs.Limits.{last_fiscal_year};
+ghost use Rattle.cf_base.specs.Common.{last_fiscal_year};
 ghost use Rattle.cf_budget.specs.Tables.{has_line};
 ghost use Rattle.cf_budget.specs.Tables.{zero_row};
-ghost use Rattle.cf_model.specs.Documents.{documents_of};
+ghost use Rattle.cf_model.specs.Common.{documents_of};
 ghost use Rattle.cf_model.specs.Moves as model;
 ghost use Rattle.cf_office.specs.Rolled as spec;
 

@@ -1,19 +1,11 @@
 -- The posts that an accepted entry adds.
-use Rattle.std.proofs.Common.{◌≡◌, ◌<◌, ◌^◌, List, [], ◌∷◌, ◌++◌, Option, Some, None, IfSome, sym, subst, ap, ◌∙◌}
-use Rattle.std.specs.List.{All}
-use Rattle.cf_calls.specs.declared.entry.Entry.{Entry}
-use Rattle.cf_calls.specs.declared.read.Basis.{Basis}
-use Rattle.cf_calls.specs.declared.read.Basis.TheVariants.{Fund, Gov}
-use Rattle.cf_chart.specs.Plan.{Plan}
+use Rattle.std.proofs.Common.{◌≡◌, ◌<◌, ◌^◌, List, [], ◌∷◌, ◌++◌, Option, Some, None, IfSome, sym, subst, ap, ◌∙◌, All}
+use Rattle.cf_model.specs.Common.{Entry, Basis, Gov, Registers, registers_of, act_posts, posts_in, Adds, IsLegal}
+use Rattle.cf_calls.specs.declared.read.Basis.TheVariants.{Fund}
+use Rattle.cf_chart.specs.Common.{Plan}
 use Rattle.cf_ledger.specs.declared.post.Post.{Post}
 use Rattle.cf_ledger.specs.Posts.{sizes, IsInYears}
-use Rattle.cf_model.specs.Registers.{Registers, registers_of}
-use Rattle.cf_model.specs.Postings.{act_posts, posts_in}
-use Rattle.cf_model.specs.Step.{Adds, IsLegal}
-use Rattle.cf_model.proofs.Lawful.{IsWhole}
-use Rattle.cf_model.proofs.Posted.{posts_push}
-use Rattle.cf_model.proofs.PostedYears.{posts_years}
-use Rattle.cf_model.proofs.Sized.{posts_fit}
+use Rattle.cf_model.proofs.Common.{IsWhole, posts_push, posts_years, posts_fit}
 use Rattle.cf_registers.specs.AccountsState.{ready_on}
 use Rattle.cf_office_history.specs.RestView.{IsReady}
 use Rattle.cf_office_history.specs.declared.rest.Rest.TheInside.{Inside}

@@ -1,24 +1,12 @@
 -- The estimate of a revenue source stands in the one adoption of its fund's budget.
 use Rattle.std.proofs.Common.{◌≡◌, ℕ, suc, ◌+◌, ◌-◌, ◌≤◌, Bool, true, false, not, if◌then◌else◌, ◌==◌, ◌&&◌, List, [], ◌∷◌, ◌++◌, map, Option, Some, None, find, slice_get, refl, sym, ap, ◌∙◌, arith}
-use Rattle.std.proofs.lemmas.Grind.{common_steps}
-use Rattle.std.proofs.lemmas.List.Sums.{sum_by_push}
-use Rattle.cf_base.specs.declared.calendar.Day.{Day}
-use Rattle.cf_calls.specs.declared.acts.Act.{Act}
-use Rattle.cf_calls.specs.declared.acts.Act.TheVariants.{Adopt}
-use Rattle.cf_calls.specs.declared.entry.Entry.{Entry}
-use Rattle.cf_calls.specs.declared.items.SourceAmount.{SourceAmount}
+use Rattle.cf_base.proofs.Common.{common_steps, sum_by_push}
+use Rattle.cf_model.specs.Common.{Day, Act, Adopt, Entry, SourceAmount, RevenueSource, Documents, documents_of, amount_if, estimate, estimate_for, estimated_by, adopted_at, first_refusal, fund_name, is_source_of, line_name, name_refusal, place_from, source_name, unknown, Adds, IsLegal}
 use Rattle.cf_calls.specs.declared.names.NameKind.TheVariants as kind
 use Rattle.cf_calls.specs.declared.refusal.Refusal.TheVariants as refusal
-use Rattle.cf_calls.specs.Acts.{adoption_of, adopts}
-use Rattle.cf_chart.specs.declared.rows.RevenueSource.{RevenueSource}
-use Rattle.cf_chart.specs.Plan.{Plan, source_at}
-use Rattle.cf_model.specs.Documents.{Documents, documents_of}
-use Rattle.cf_model.specs.Estimates.{amount_if, estimate, estimate_for, estimated_by}
-use Rattle.cf_model.specs.Rules.{adopted_at, first_refusal, fund_name, is_source_of, line_name, name_refusal, place_from, source_name, unknown}
-use Rattle.cf_model.specs.Step.{Adds, IsLegal}
-use Rattle.cf_model.proofs.Accepted.{IsUnbroken, accepted}
-use Rattle.cf_model.proofs.First.{first_refusal-append, or_else_none, refuse_none}
-use Rattle.cf_model.proofs.Legal.{legal_induction}
+use Rattle.cf_calls.specs.Common.{adoption_of, adopts}
+use Rattle.cf_chart.specs.Common.{Plan, source_at}
+use Rattle.cf_model.proofs.Common.{IsUnbroken, accepted, first_refusal-append, or_else_none, refuse_none, legal_induction}
 use Rattle.cf_office_history.specs.Estimates.{estimated_at, estimated_in, estimates_of}
 use Rattle.cf_office_history.proofs.LookedUp.{budget_new}
 

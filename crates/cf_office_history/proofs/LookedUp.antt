@@ -1,21 +1,12 @@
 -- What is looked up of a history, after one entry more.
-use Rattle.std.proofs.Common.{◌≡◌, ℕ, suc, ◌+◌, Bool, true, false, if◌then◌else◌, ◌==◌, ◌&&◌, List, [], ◌∷◌, ◌++◌, length, Option, Some, None, refl, sym, ap, ◌∙◌, arith}
-use Rattle.std.proofs.lemmas.Grind.{common_steps}
-use Rattle.std.specs.Str.{bytes_eq}
-use Rattle.cf_calls.specs.declared.acts.Act.{Act}
-use Rattle.cf_calls.specs.declared.acts.Act.TheVariants.{Adopt}
-use Rattle.cf_calls.specs.declared.call.Change.{Change}
-use Rattle.cf_calls.specs.declared.entry.Drawn.{Drawn}
-use Rattle.cf_calls.specs.declared.entry.Entry.{Entry}
-use Rattle.cf_calls.specs.declared.refusal.Refusal.{Refusal}
+use Rattle.std.proofs.Common.{◌≡◌, ℕ, suc, ◌+◌, Bool, true, false, if◌then◌else◌, ◌==◌, ◌&&◌, List, [], ◌∷◌, ◌++◌, length, Option, Some, None, refl, sym, ap, ◌∙◌, arith, bytes_eq}
+use Rattle.cf_base.proofs.Common.{common_steps}
+use Rattle.cf_model.specs.Common.{Act, Adopt, Change, Drawn, Entry, Refusal, Accept, Repeat, Refuse, place_from, adopted_at, adopted_refusal, adopted_where, first_of, Adds, verdict_after, verdict_new, is_same, entry_at, known_at, first_rules}
 use Rattle.cf_calls.specs.declared.refusal.Refusal.TheVariants as refusal
-use Rattle.cf_calls.specs.declared.reply.Verdict.TheVariants.{Accept, Repeat, Refuse}
-use Rattle.cf_calls.specs.Acts.{adopts}
+use Rattle.cf_calls.specs.Common.{adopts}
 use Rattle.cf_calls.specs.Same.{same_key}
-use Rattle.cf_chart.specs.Plan.{Plan}
-use Rattle.cf_model.specs.Rules.{place_from, adopted_at, adopted_refusal, adopted_where, first_of}
-use Rattle.cf_model.specs.Step.{Adds, verdict_after, verdict_new, is_same, entry_at, known_at, first_rules}
-use Rattle.cf_model.proofs.Accepted.{accepted}
+use Rattle.cf_chart.specs.Common.{Plan}
+use Rattle.cf_model.proofs.Common.{accepted}
 use Rattle.cf_office_history.specs.Keys.{place_of}
 use Rattle.cf_office_history.proofs.Texts.{same_bytes}
 

@@ -1,10 +1,10 @@
 -- The numbers of a history's row.
 use Rattle.std.proofs.Common.{◌≡◌, ℕ, ◌+◌, List, ℤ, pos, ◌+ℤ◌, ◌-ℤ◌, arith}
-use Rattle.std.proofs.lemmas.Int.{ints}
-use Rattle.cf_calls.specs.declared.entry.Entry.{Entry}
-use Rattle.cf_chart.specs.Plan.{Plan}
+use Rattle.cf_base.proofs.Common.{ints}
+use Rattle.cf_model.specs.Common.{Entry, original, appropriated, encumbered, expended, numbers}
+use Rattle.cf_chart.specs.Common.{Plan}
 use Rattle.cf_budget.specs.Tables.{numbers_of}
-use Rattle.cf_model.specs.LineNumbers.{original, appropriated, held, encumbered, expended, numbers}
+use Rattle.cf_model.specs.LineNumbers.{held}
 use Rattle.cf_registers.specs.Moved.{row_of}
 
 pub joined : (a : ℤ) (x y z : ℕ) → a -ℤ ((pos x +ℤ pos y) +ℤ pos z) ≡ a -ℤ pos (x + y + z)

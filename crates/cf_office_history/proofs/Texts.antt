@@ -1,10 +1,6 @@
 -- Texts put into a map of places.
-use Rattle.std.proofs.Common.{◌≡◌, ℕ, Bool, true, false, if◌then◌else◌, List, Option, Some, None, is_some, refl, sym, ap, ◌∙◌, arith}
-use Rattle.std.specs.Prelude.{unwrap_or}
-use Rattle.std.proofs.lemmas.Grind.{common_steps}
-use Rattle.std.specs.BTreeMap.{get_by_text}
-use Rattle.std.specs.Str.{bytes_eq}
-use Rattle.std.proofs.lemmas.Slice.Eq.{bytes_eq-Decides}
+use Rattle.std.proofs.Common.{◌≡◌, ℕ, Bool, true, false, if◌then◌else◌, List, Option, Some, None, is_some, refl, sym, ap, ◌∙◌, arith, unwrap_or, bytes_eq}
+use Rattle.cf_base.proofs.Common.{common_steps, get_by_text, bytes_eq-Decides}
 use Rattle.cf_office_history.specs.Keys.{Keys, text_number}
 
 pub text_put : (old new : Keys) (key q : List ℕ) (place : ℕ) →

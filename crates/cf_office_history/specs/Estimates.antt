@@ -1,11 +1,7 @@
 -- The estimate of a source, as the adoption of its fund's budget has it.
 use Rattle.std.specs.Prelude.{ℕ, List, [], Option, Some, None}
-use Rattle.cf_calls.specs.declared.acts.Adoption.{Adoption}
-use Rattle.cf_calls.specs.declared.entry.Entry.{Entry}
-use Rattle.cf_calls.specs.declared.items.SourceAmount.{SourceAmount}
-use Rattle.cf_calls.specs.Acts.{adoption_of}
-use Rattle.cf_model.specs.Estimates.{estimate_for}
-use Rattle.cf_model.specs.Step.{entry_at}
+use Rattle.cf_model.specs.Common.{Adoption, Entry, SourceAmount, estimate_for, entry_at}
+use Rattle.cf_calls.specs.Common.{adoption_of}
 
 abbrev pub estimates_of : Option Adoption → List SourceAmount
 estimates_of None = []

@@ -1,23 +1,15 @@
 -- The office's state, but for line numbers, as contracts see it.
 use Rattle.std.specs.Prelude.{◌≡◌, ◌≤◌, ◌<◌, ℕ, Bool, true, if◌then◌else◌, List, length, Option, Some, None, IfSome, unwrap_or}
 use Rattle.std.specs.Vec.{vec_len, vec_capacity}
-use Rattle.cf_base.specs.Limits.{last_fiscal_year, most_entries}
-use Rattle.cf_calls.specs.declared.acts.Act.{Act}
-use Rattle.cf_calls.specs.declared.acts.Adoption.{Adoption}
-use Rattle.cf_calls.specs.declared.entry.Entry.{Entry}
-use Rattle.cf_calls.specs.declared.read.Basis.TheVariants.{Fund, Gov}
-use Rattle.cf_calls.specs.Acts.{adopts, adoption_of}
+use Rattle.cf_base.specs.Common.{last_fiscal_year, most_entries}
+use Rattle.cf_model.specs.Common.{Act, Adoption, Entry, Gov, open_year, registers_of, results_of, posts_in, place_from, adopted_at, Adds, IsLegal}
+use Rattle.cf_calls.specs.declared.read.Basis.TheVariants.{Fund}
+use Rattle.cf_calls.specs.Common.{adopts, adoption_of}
 use Rattle.cf_calls.specs.Same.{same_key}
 use Rattle.cf_register_parts.specs.Pairs.{Pairs, value_of, has_value}
-use Rattle.cf_model.specs.Calendar.{open_year}
-use Rattle.cf_model.specs.Registers.{registers_of}
-use Rattle.cf_model.specs.Results.{results_of}
-use Rattle.cf_model.specs.Postings.{posts_in}
-use Rattle.cf_model.specs.Rules.{place_from, adopted_at}
 use Rattle.cf_registers.specs.AccountsState.{AreReadyFor}
 use Rattle.cf_registers.specs.RegistersState.{HasRoomFor, HaveTaken}
 use Rattle.cf_office_history.specs.RestState.{RestState}
-use Rattle.cf_model.specs.Step.{Adds, IsLegal}
 use Rattle.cf_office_history.specs.Keys.{key_number, has_key, place_of}
 use Rattle.cf_office_history.specs.declared.rest.Rest.TheInside.{Inside}
 

@@ -1,8 +1,8 @@
 //! The estimates of an adopted budget.
 
 ghost use Rattle.std.specs.Prelude.{◌≡◌};
-ghost use Rattle.cf_calls.specs.Acts.{adoption_of};
-ghost use Rattle.cf_model.specs.Estimates.{estimate_for};
+ghost use Rattle.cf_calls.specs.Common.{adoption_of};
+ghost use Rattle.cf_model.specs.Common.{estimate_for};
 ghost use Rattle.cf_office_history.specs.Estimates.{estimated_at, estimates_of};
 
 use cf_calls::items::SourceAmount;

@@ -1,22 +1,14 @@
 //! A history whose line numbers are lent.
 
 ghost use Rattle.std.specs.Prelude.{◌≡◌, ◌<◌, ◌≤◌, true, length};
-ghost use Rattle.cf_base.specs.Calendar.{is_day, month_of_day};
-ghost use Rattle.cf_base.specs.Limits.{last_fiscal_year, most_entries};
+ghost use Rattle.cf_base.specs.Common.{is_day, month_of_day, last_fiscal_year, most_entries};
 ghost use Rattle.cf_budget.specs.Tables.{has_line};
-ghost use Rattle.cf_calls.specs.Form.{IsYear};
+ghost use Rattle.cf_calls.specs.Common.{IsYear};
 ghost use Rattle.cf_debt.specs.Register.{debts_of};
-ghost use Rattle.cf_model.proofs.Lawful.{IsWhole};
-ghost use Rattle.cf_model.specs.Calendar.{is_month_closed, open_year};
-ghost use Rattle.cf_model.specs.Documents.{documents_of};
-ghost use Rattle.cf_model.specs.Estimates.{estimate};
+ghost use Rattle.cf_model.proofs.Common.{IsWhole};
+ghost use Rattle.cf_model.specs.Common.{is_month_closed, open_year, documents_of, estimate, balance_of, recon_shown, registers_of, adopted_at, IsLegal, known_at, is_same, entry_at};
 ghost use Rattle.cf_model.specs.LineNumbers as numbers;
-ghost use Rattle.cf_model.specs.Postings.{balance_of};
-ghost use Rattle.cf_model.specs.ReconShown.{recon_shown};
-ghost use Rattle.cf_model.specs.Registers.{registers_of};
 ghost use Rattle.cf_model.specs.Results as results;
-ghost use Rattle.cf_model.specs.Rules.{adopted_at};
-ghost use Rattle.cf_model.specs.Step.{IsLegal, known_at, is_same, entry_at};
 ghost use Rattle.cf_recon.specs.ChangeItems.{changes_shown};
 ghost use Rattle.cf_registers.specs.Moved.{AreTablesOf};
 

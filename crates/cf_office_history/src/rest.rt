@@ -2,21 +2,13 @@
 
 ghost use Rattle.std.specs.Prelude.{◌≡◌, ◌<◌, ◌≤◌, ◌+◌, ◌-◌, slice_get, ◌++◌, ◌∷◌, [], true, ℕ, All, length, vec_len, vec_capacity, None, Some, IsSome, IfSome, OnOk, OnErr, unwrap_or};
 ghost use Rattle.std.specs.Option.{option_copied};
-ghost use Rattle.cf_calls.specs.Acts.{adoption_of};
-ghost use Rattle.cf_calls.specs.Form.{IsYear};
-ghost use Rattle.cf_base.specs.Calendar.{is_day, month_of_day};
-ghost use Rattle.cf_base.specs.Limits.{last_fiscal_year, most_entries};
-ghost use Rattle.cf_model.proofs.Lawful.{IsWhole};
+ghost use Rattle.cf_calls.specs.Common.{adoption_of, IsYear};
+ghost use Rattle.cf_base.specs.Common.{is_day, month_of_day, last_fiscal_year, most_entries};
+ghost use Rattle.cf_model.proofs.Common.{IsWhole};
 ghost use Rattle.cf_model.specs.Calendar as calendar;
-ghost use Rattle.cf_model.specs.Deeds.{deeds_of};
-ghost use Rattle.cf_model.specs.Registers.{registers_of};
+ghost use Rattle.cf_model.specs.Common.{deeds_of, registers_of, act_posts, balance_of, estimate, recon_shown, adopted_at, Adds, IsLegal, known_at, is_same, entry_at};
 ghost use Rattle.cf_model.specs.Results as results;
 ghost use Rattle.cf_register_parts.specs.Pairs.{value_of, ReadsSame};
-ghost use Rattle.cf_model.specs.Postings.{act_posts, balance_of};
-ghost use Rattle.cf_model.specs.Estimates.{estimate};
-ghost use Rattle.cf_model.specs.ReconShown.{recon_shown};
-ghost use Rattle.cf_model.specs.Rules.{adopted_at};
-ghost use Rattle.cf_model.specs.Step.{Adds, IsLegal, known_at, is_same, entry_at};
 ghost use Rattle.cf_recon.specs.ChangeItems.{changes_shown};
 ghost use Rattle.cf_office_history.specs.Keys.{place_of, has_key, SameKeys, PutsKey};
 ghost use Rattle.cf_post.specs.Sizes.{IsPostable};

@@ -1,15 +1,11 @@
 -- A balance of a legal history is far smaller than 128 bits allow.
 use Rattle.std.proofs.Common.{ℕ, ◌≤◌, ◌<◌, ◌^◌, ◌&&◌, nat_le, List, length, unsigned_abs, arith}
-use Rattle.cf_base.specs.Limits.{most_entries}
-use Rattle.cf_calls.specs.declared.entry.Entry.{Entry}
-use Rattle.cf_calls.specs.declared.read.Basis.{Basis}
-use Rattle.cf_chart.specs.Plan.{Plan}
+use Rattle.cf_base.specs.Common.{most_entries}
+use Rattle.cf_model.specs.Common.{Entry, Basis, balance_of, posts_in, IsLegal}
+use Rattle.cf_chart.specs.Common.{Plan}
 use Rattle.cf_ledger.specs.Posts.{is_of}
 use Rattle.cf_ledger.proofs.Sums.{within_sizes}
-use Rattle.cf_model.specs.Postings.{balance_of, posts_in}
-use Rattle.cf_model.specs.Step.{IsLegal}
-use Rattle.cf_model.proofs.Lawful.{IsWhole}
-use Rattle.cf_model.proofs.Sized.{posts_small}
+use Rattle.cf_model.proofs.Common.{IsWhole, posts_small}
 
 pub small_balance : (basis : Basis) (plan : Plan) (h : List Entry) (year fund account : ℕ) → IsWhole plan → IsLegal plan h → length h ≤ most_entries →
     unsigned_abs (balance_of basis plan year fund account h) < 2 ^ 104

@@ -1,9 +1,8 @@
 -- What a fund has, and what it owes, on the modified accrual basis.
 use Rattle.std.specs.Prelude.{ℕ, List, ℤ, ◌+ℤ◌}
-use Rattle.cf_calls.specs.declared.entry.Entry.{Entry}
+use Rattle.cf_model.specs.Common.{Entry, balance_of}
 use Rattle.cf_calls.specs.declared.read.Basis.TheVariants.{Fund as FundBasis}
-use Rattle.cf_chart.specs.Plan.{Plan}
-use Rattle.cf_model.specs.Postings.{balance_of}
+use Rattle.cf_chart.specs.Common.{Plan}
 
 -- cash, receivables, what other funds owe
 abbrev pub assets_of : Plan → ℕ → ℕ → List Entry → ℤ

@@ -2,9 +2,8 @@
 
 ghost use Rattle.std.specs.Prelude.{◌≡◌, ◌<◌, ◌*◌, ◌^◌, ◌+ℤ◌, unsigned_abs};
 ghost use Rattle.cf_budget.specs.Tables.{has_line};
-ghost use Rattle.cf_model.specs.Postings.{balance_of};
+ghost use Rattle.cf_model.specs.Common.{balance_of, sums_of};
 ghost use Rattle.cf_model.specs.Report as spec;
-ghost use Rattle.cf_model.specs.Report.{sums_of};
 ghost use Rattle.cf_office_looks.specs.Books.{assets_of, debts_of, liabilities_of};
 
 use cf_calls::{Basis, LineNumbers};

@@ -2,9 +2,9 @@
 
 ghost use Rattle.std.specs.Prelude.{◌≡◌, ◌<◌, true, IfOk};
 ghost use Rattle.cf_budget.specs.Tables.{has_line};
-ghost use Rattle.cf_calls.specs.Form.{IsReadInForm};
+ghost use Rattle.cf_calls.specs.Common.{IsReadInForm};
 ghost use Rattle.cf_calls.specs.declared.call.Call.TheVariants as calls;
-ghost use Rattle.cf_model.specs.Registers.{registers_of};
+ghost use Rattle.cf_model.specs.Common.{registers_of};
 ghost use Rattle.cf_model.specs.Step as step;
 ghost use Rattle.cf_registers.specs.Lines.{LendsRead};
 ghost use Rattle.cf_registers.specs.RegistersState.{register_shown};

@@ -1,13 +1,8 @@
 -- Rows that are added one after another.
 use Rattle.std.proofs.Common.{◌≡◌, ℕ, zero, suc, add-one, ◌+◌, ◌<◌, List, [], ◌∷◌, ◌++◌, length, drop, get_or, flat_map, Option, Some, None, slice_get, option_map, refl, sym, ap, ◌∙◌, arith, append_assoc, append-nil, length-append}
-use Rattle.std.specs.List.{range_with_len}
-use Rattle.std.proofs.lemmas.List.{drop_more, get_or-append-add, get_or_append_left}
-use Rattle.std.proofs.lemmas.Grind.{flat_map-append}
-use Rattle.std.proofs.lemmas.List.Elements.{filter-append}
-use Rattle.std.proofs.lemmas.Option.{slice_get-get_or}
-use Rattle.cf_chart.specs.Plan.{Plan}
-use Rattle.cf_model.specs.Moves.{Move, releases}
-use Rattle.cf_model.specs.Documents.{Hold}
+use Rattle.cf_base.proofs.Common.{range_with_len, drop_more, get_or-append-add, get_or_append_left, flat_map-append, filter-append, slice_get-get_or}
+use Rattle.cf_chart.specs.Common.{Plan}
+use Rattle.cf_model.specs.Common.{Move, releases, Hold}
 use Rattle.cf_orders.specs.declared.moves.LineMove.{LineMove}
 use Rattle.cf_orders.specs.Register.{line_move}
 use Rattle.cf_office_rows.specs.declared.rows.LedgerRow.{LedgerRow}

@@ -1,31 +1,10 @@
 -- The rows of each entry add up to what it moves, and those of a legal history to its numbers.
-use Rattle.std.proofs.Common.{◌≡◌, ℕ, zero, ◌+◌, ◌≤◌, Bool, true, false, not, ◌&&◌, ◌||◌, ◌==◌, if◌then◌else◌, List, [], ◌∷◌, ◌++◌, map, flat_map, Option, Some, None, ℤ, pos, negsuc, ◌+ℤ◌, ◌-ℤ◌, refl, sym, ap, ◌∙◌, arith}
-use Rattle.std.specs.List.{AllByRecursion, filter, range_with_len}
-use Rattle.std.proofs.lemmas.Grind.{common_steps}
-use Rattle.std.proofs.lemmas.Int.{ints}
-use Rattle.std.proofs.lemmas.List.Sums.{sum_by-append, sum_by-cons}
-use Rattle.cf_base.specs.declared.calendar.Day.{Day}
-use Rattle.cf_calls.specs.declared.acts.Act.{Act}
-use Rattle.cf_calls.specs.declared.acts.Act.TheVariants.{Adopt, Amend, Transfer, Requisition, Withdraw, Order, ChangeOrder, CancelOrder, Voucher, VoidVoucher, Pay, Bill, Collect, Receive, WriteOff, Asset, Issue, PayDue, Leave, Interfund, Close, Lease}
-use Rattle.cf_calls.specs.declared.acts.AssetAct.TheVariants.{Donate, Dispose}
-use Rattle.cf_calls.specs.declared.acts.LeaveAct.TheVariants.{Earn, Use, Mature}
-use Rattle.cf_calls.specs.declared.entry.Drawn.{Drawn}
-use Rattle.cf_calls.specs.declared.items.LineAmount.{LineAmount}
-use Rattle.cf_chart.specs.declared.rows.Line.{Line}
-use Rattle.cf_chart.specs.Plan.{Plan, line_at}
-use Rattle.cf_model.specs.Calendar.{document_year, is_year, rolled_year, rolls, year_of_day}
-use Rattle.cf_model.specs.Documents.{Hold, Documents}
-use Rattle.cf_model.specs.DocumentsShown.{or_zero}
-use Rattle.cf_model.specs.LineNumbers.{added_by, amount_for, carried_sum, counts, fall_of, removed_by, rise_of}
-use Rattle.cf_model.specs.Moves.{Move, carried_by, charge_move, lapses_of, moved_sum, moves_of, order_move, release_move, releases, reopen_move, roll_moves, spend_move, spending_move, spent_by, unspend_move}
-use Rattle.cf_model.specs.OrderItems.{Carried, OrderItem, carried_of, is_live, item_step, lapses, may_carry, open_of}
-use Rattle.cf_model.specs.Registers.{Registers}
-use Rattle.cf_model.specs.Results.{document_number, draws}
-use Rattle.cf_model.specs.Spendings.{bonds_spendings}
-use Rattle.cf_model.proofs.Changed.{nothing_rolled}
-use Rattle.cf_model.proofs.Moved.{at, moved_append, moved_map}
-use Rattle.cf_model.specs.Sums.{int_sum}
-use Rattle.cf_model.proofs.Totals.{sum_filter}
+use Rattle.std.proofs.Common.{◌≡◌, ℕ, zero, ◌+◌, ◌≤◌, Bool, true, false, not, ◌&&◌, ◌||◌, ◌==◌, if◌then◌else◌, List, [], ◌∷◌, ◌++◌, map, flat_map, Option, Some, None, ℤ, pos, negsuc, ◌+ℤ◌, ◌-ℤ◌, refl, sym, ap, ◌∙◌, arith, filter}
+use Rattle.cf_base.proofs.Common.{AllByRecursion, range_with_len, common_steps, ints, sum_by-append, sum_by-cons}
+use Rattle.cf_model.specs.Common.{Day, Act, Adopt, Amend, Transfer, Requisition, Withdraw, Order, ChangeOrder, CancelOrder, Voucher, VoidVoucher, Pay, Collect, Receive, WriteOff, Issue, PayDue, Leave, Interfund, Close, Lease, Donate, Dispose, Earn, Use, Mature, Drawn, LineAmount, Line, document_year, is_year, rolled_year, rolls, year_of_day, Hold, Documents, or_zero, added_by, amount_for, carried_sum, counts, fall_of, removed_by, rise_of, Move, carried_by, charge_move, lapses_of, moved_sum, moves_of, order_move, release_move, releases, reopen_move, roll_moves, spend_move, spending_move, spent_by, unspend_move, Carried, OrderItem, carried_of, is_live, item_step, lapses, may_carry, open_of, Registers, document_number, draws, bonds_spendings, int_sum}
+use Rattle.cf_calls.specs.declared.acts.Act.TheVariants.{Bill, Asset}
+use Rattle.cf_chart.specs.Common.{Plan, line_at}
+use Rattle.cf_model.proofs.Common.{nothing_rolled, at, moved_append, moved_map, sum_filter}
 use Rattle.cf_model.proofs.Totals as totals
 use Rattle.cf_registers.specs.Dues.{leased, paid_leave}
 use Rattle.cf_office_rows.specs.declared.rows.Amounts.{Amounts}

@@ -1,29 +1,12 @@
 -- The documents of a legal history have the numbers 1, 2, 3 .., and the items of a requisition
 -- share their state.
-use Rattle.std.proofs.Common.{◌≡◌, ◌≢◌, ℕ, ◌+◌, ◌≤◌, Bool, true, false, if◌then◌else◌, ◌==◌, List, [], ◌∷◌, ◌++◌, map, Some, None, refl, sym, ap, subst, ◌∙◌, arith}
-use Rattle.std.specs.List.{AllByRecursion, filter}
-use Rattle.std.proofs.lemmas.Grind.{common_steps}
-use Rattle.cf_calls.specs.declared.acts.Act.{Act}
-use Rattle.cf_calls.specs.declared.acts.Act.TheVariants.{Requisition, Withdraw, Order, Close}
-use Rattle.cf_calls.specs.declared.entry.Entry.{Entry}
-use Rattle.cf_calls.specs.declared.items.AccountItem.{AccountItem}
-use Rattle.cf_calls.specs.declared.shown.RequisitionState.{RequisitionState}
+use Rattle.std.proofs.Common.{◌≡◌, ◌≢◌, ℕ, ◌+◌, ◌≤◌, Bool, true, false, if◌then◌else◌, ◌==◌, List, [], ◌∷◌, ◌++◌, map, Some, None, refl, sym, ap, subst, ◌∙◌, arith, filter}
+use Rattle.cf_base.proofs.Common.{AllByRecursion, common_steps}
+use Rattle.cf_model.specs.Common.{Act, Requisition, Withdraw, Order, Close, Entry, AccountItem, RequisitionState, document_year, rolls, not_open_requisition, withdrawn_state, Hold, Documents, documents_of, documents_step, draws_order, draws_requisition, hold_of, hold_step, is_number, leaves, no_documents, requisition_at, held_amount, OrderItem, item_step, items_by, items_from, registers_of, document_number, draws, Adds, IsLegal}
 use Rattle.cf_calls.specs.declared.shown.RequisitionState.TheVariants as requisition
-use Rattle.cf_calls.specs.Acts.{requisition_items}
-use Rattle.cf_chart.specs.Plan.{Plan}
-use Rattle.cf_model.specs.Calendar.{document_year, rolls}
-use Rattle.cf_model.specs.DocumentRules.{not_open_requisition, withdrawn_state}
-use Rattle.cf_model.specs.Documents.{Hold, Documents, documents_of, documents_step, draws_order, draws_requisition, hold_of, hold_step, is_number, leaves, no_documents, requisition_at}
-use Rattle.cf_model.specs.LineNumbers.{held_amount}
-use Rattle.cf_model.specs.OrderItems.{OrderItem, item_step, items_by, items_from}
-use Rattle.cf_model.specs.Registers.{registers_of}
-use Rattle.cf_model.specs.Results.{document_number, draws}
-use Rattle.cf_model.specs.Step.{Adds, IsLegal}
-use Rattle.cf_model.proofs.Accepted.{accepted}
-use Rattle.cf_model.proofs.Kept.{hold_same}
-use Rattle.cf_model.proofs.Legal.{legal_induction}
-use Rattle.cf_model.proofs.Pushes.{documents_are}
-use Rattle.cf_model.proofs.Tidy.{after_act, all_append, all_map, all_new, by_own_number, documents_push, step_place}
+use Rattle.cf_calls.specs.Common.{requisition_items}
+use Rattle.cf_chart.specs.Common.{Plan}
+use Rattle.cf_model.proofs.Common.{accepted, hold_same, legal_induction, documents_are, after_act, all_append, all_map, all_new, by_own_number, documents_push, step_place}
 use Rattle.cf_office_rows.specs.Rolls.{AreReleased}
 
 -- ---- items that share their state

@@ -1,22 +1,11 @@
 -- What the roll of a fiscal year moves, as moves are read one after another.
 use Rattle.std.proofs.Common.{◌≡◌, ◌≢◌, ℕ, ◌+◌, ◌<◌, ◌≤◌, Bool, true, false, not, ◌&&◌, ◌||◌, ◌==◌, if◌then◌else◌, List, [], ◌∷◌, ◌++◌, length, drop, map, Option, Some, None, slice_get, option_map, ℤ, pos, ◌-ℤ◌, refl, sym, ap, ◌∙◌, arith}
-use Rattle.std.specs.List.{AllByRecursion, filter, list_any}
-use Rattle.std.proofs.lemmas.Int.{ints}
-use Rattle.std.proofs.lemmas.List.{drop_all, length-map}
-use Rattle.std.proofs.lemmas.Option.{slice_get-map}
-use Rattle.cf_base.specs.declared.calendar.Day.{Day}
-use Rattle.cf_calls.specs.declared.acts.Act.TheVariants.{CancelOrder, Withdraw}
+use Rattle.cf_base.proofs.Common.{AllByRecursion, list_any, ints, drop_all, length-map, slice_get-map}
+use Rattle.cf_model.specs.Common.{Day, CancelOrder, Withdraw, Refusal, document_refusal, is_live_of, withdrawn_state, Hold, Documents, is_number, requisition_at, held_amount, Move, item_move, release_move, OrderItem, is_live, item_step, may_carry, open_of, first_of, refuse_if}
 use Rattle.cf_calls.specs.declared.names.DocumentKind.TheVariants as kind
 use Rattle.cf_calls.specs.declared.refusal.DocumentState.TheVariants as state
-use Rattle.cf_calls.specs.declared.refusal.Refusal.{Refusal}
 use Rattle.cf_calls.specs.declared.refusal.Refusal.TheVariants as refusal
-use Rattle.cf_chart.specs.Plan.{Plan}
-use Rattle.cf_model.specs.DocumentRules.{document_refusal, is_live_of, withdrawn_state}
-use Rattle.cf_model.specs.Documents.{Hold, Documents, is_number, requisition_at}
-use Rattle.cf_model.specs.LineNumbers.{held_amount}
-use Rattle.cf_model.specs.Moves.{Move, item_move, release_move}
-use Rattle.cf_model.specs.OrderItems.{OrderItem, is_live, item_step, may_carry, open_of}
-use Rattle.cf_model.specs.Rules.{first_of, refuse_if}
+use Rattle.cf_chart.specs.Common.{Plan}
 use Rattle.cf_orders.specs.declared.moves.LineMove.{LineMove}
 use Rattle.cf_orders.specs.Register.{line_move}
 use Rattle.cf_office_rows.specs.declared.rows.LedgerRow.{LedgerRow}
@@ -25,7 +14,7 @@ use Rattle.cf_office_rows.specs.Items.{item_rows}
 use Rattle.cf_office_rows.specs.Rolls.{AreReleased, carries_amount, in_year, lapse_move, leave_move, order_rows, requisition_rows, roll_item, roll_items, rolled_if}
 use Rattle.cf_office_rows.specs.Rows.{amounts_of, kept, on_account, on_move, origin}
 use Rattle.cf_office_rows.proofs.Gathered.{kept_both, read_at}
-use Rattle.std.proofs.Common.{append_assoc, append-nil}
+use Rattle.std.proofs.Common.{append_assoc, append-nil, filter}
 
 -- one part of what is to come was added
 more : (out new all first rest whole : List LedgerRow) → new ≡ out ++ first → whole ≡ first ++ rest → out ++ whole ≡ all → new ++ rest ≡ all

@@ -1,13 +1,9 @@
 -- What rows add up to.
-use Rattle.std.proofs.Common.{◌≡◌, ℕ, zero, suc, ◌+◌, ◌<◌, ◌≤◌, Bool, true, false, ◌&&◌, ◌==◌, if◌then◌else◌, List, [], ◌∷◌, ◌++◌, map, flat_map, Option, Some, None, ℤ, pos, ◌+ℤ◌, refl, sym, ap, ◌∙◌, arith}
-use Rattle.std.specs.List.{AllByRecursion, filter, range_with_len}
-use Rattle.std.proofs.lemmas.Grind.{common_steps}
-use Rattle.std.proofs.lemmas.Int.{ints}
-use Rattle.cf_chart.specs.Plan.{Plan}
-use Rattle.cf_model.specs.LineNumbers.{counts, is_line}
-use Rattle.cf_model.specs.Moves.{Move, moved_sum}
-use Rattle.cf_model.specs.Sums.{int_sum}
-use Rattle.cf_model.proofs.Totals.{exchange, none_first, none_last, sum_filter}
+use Rattle.std.proofs.Common.{◌≡◌, ℕ, zero, suc, ◌+◌, ◌<◌, ◌≤◌, Bool, true, false, ◌&&◌, ◌==◌, if◌then◌else◌, List, [], ◌∷◌, ◌++◌, map, flat_map, Option, Some, None, ℤ, pos, ◌+ℤ◌, refl, sym, ap, ◌∙◌, arith, filter}
+use Rattle.cf_base.proofs.Common.{AllByRecursion, range_with_len, common_steps, ints}
+use Rattle.cf_chart.specs.Common.{Plan}
+use Rattle.cf_model.specs.Common.{counts, is_line, Move, moved_sum, int_sum}
+use Rattle.cf_model.proofs.Common.{exchange, none_first, none_last, sum_filter}
 use Rattle.cf_model.proofs.Totals as totals
 use Rattle.cf_office_rows.specs.declared.rows.Amounts.{Amounts}
 use Rattle.cf_office_rows.specs.declared.rows.LedgerRow.{LedgerRow}

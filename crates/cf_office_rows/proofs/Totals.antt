@@ -1,37 +1,13 @@
 -- The rows of a legal history add up to its numbers.
-use Rattle.std.proofs.Common.{◌≡◌, ℕ, ◌+◌, ◌-◌, ◌<◌, ◌≤◌, Bool, true, false, not, ◌&&◌, ◌||◌, ◌==◌, nat_lt, if◌then◌else◌, List, [], ◌∷◌, ◌++◌, length, map, flat_map, Option, Some, None, ℤ, pos, ◌+ℤ◌, ◌-ℤ◌, refl, sym, ap, subst, ◌∙◌, arith, append_assoc, append-nil}
-use Rattle.std.specs.List.{AllByRecursion, filter, range_with_len}
-use Rattle.std.specs.Ordering.{int_eq}
-use Rattle.std.proofs.lemmas.Grind.{common_steps}
-use Rattle.std.proofs.lemmas.Int.{ints}
-use Rattle.cf_base.specs.declared.calendar.Day.{Day}
-use Rattle.cf_calls.specs.declared.acts.Act.{Act}
-use Rattle.cf_calls.specs.declared.acts.Act.TheVariants.{Adopt, Amend, Transfer, Requisition, Withdraw, Order, ChangeOrder, CancelOrder, Voucher, VoidVoucher, PayDue, Leave, Close, Lease}
-use Rattle.cf_calls.specs.declared.acts.LeaveAct.TheVariants.{Earn, Use, Mature}
-use Rattle.cf_calls.specs.declared.entry.Drawn.{Drawn}
-use Rattle.cf_calls.specs.declared.entry.Entry.{Entry}
-use Rattle.cf_calls.specs.declared.items.LineAmount.{LineAmount}
+use Rattle.std.proofs.Common.{◌≡◌, ℕ, ◌+◌, ◌-◌, ◌<◌, ◌≤◌, Bool, true, false, not, ◌&&◌, ◌||◌, ◌==◌, nat_lt, if◌then◌else◌, List, [], ◌∷◌, ◌++◌, length, map, flat_map, Option, Some, None, ℤ, pos, ◌+ℤ◌, ◌-ℤ◌, refl, sym, ap, subst, ◌∙◌, arith, append_assoc, append-nil, filter, int_eq}
+use Rattle.cf_base.proofs.Common.{AllByRecursion, range_with_len, common_steps, ints}
+use Rattle.cf_model.specs.Common.{Day, Act, Adopt, Amend, Transfer, Requisition, Withdraw, Order, ChangeOrder, CancelOrder, Voucher, VoidVoucher, PayDue, Leave, Close, Lease, Earn, Use, Mature, Drawn, Entry, LineAmount, Line, document_year, rolled_year, year_of_day, Hold, Documents, is_number, or_zero, added_by, appropriated, encumbered, expended, is_line, removed_by, Move, carried_by, charge_move, moved_sum, moves_of, order_move, releases, reopen_move, spend_move, spending_move, spent_by, unspend_move, OrderItem, item_step, may_carry, act_posts, posts_after, Registers, no_registers, registers_after, registers_of, registers_step, document_number, draws, bonds_spendings, Adds, IsLegal}
 use Rattle.cf_calls.specs.declared.read.Basis.TheVariants.{Fund as FundBasis}
-use Rattle.cf_chart.specs.declared.rows.Line.{Line}
-use Rattle.cf_chart.specs.Plan.{Plan, line_at}
+use Rattle.cf_chart.specs.Common.{Plan, line_at}
 use Rattle.cf_ledger.specs.declared.post.Post.{Post}
 use Rattle.cf_ledger.specs.Posts.{sum_where}
-use Rattle.cf_model.specs.Calendar.{document_year, rolled_year, year_of_day}
-use Rattle.cf_model.specs.Documents.{Hold, Documents, is_number}
-use Rattle.cf_model.specs.DocumentsShown.{or_zero}
-use Rattle.cf_model.specs.LineNumbers.{added_by, appropriated, encumbered, expended, held, is_line, removed_by}
-use Rattle.cf_model.specs.Moves.{Move, carried_by, charge_move, moved_sum, moves_of, order_move, releases, reopen_move, spend_move, spending_move, spent_by, unspend_move}
-use Rattle.cf_model.specs.OrderItems.{OrderItem, item_step, may_carry}
-use Rattle.cf_model.specs.Postings.{act_posts, posts_after}
-use Rattle.cf_model.specs.Registers.{Registers, no_registers, registers_after, registers_of, registers_step}
-use Rattle.cf_model.specs.Results.{document_number, draws}
-use Rattle.cf_model.specs.Spendings.{bonds_spendings}
-use Rattle.cf_model.specs.Step.{Adds, IsLegal}
-use Rattle.cf_model.proofs.Accepted.{accepted}
-use Rattle.cf_model.proofs.Changed.{appropriated_push, encumbered_push, expended_push, held_push}
-use Rattle.cf_model.proofs.Legal.{legal_induction, legal_push}
-use Rattle.cf_model.proofs.Pushes.{documents_are}
-use Rattle.cf_model.proofs.Tidy.{all_append}
+use Rattle.cf_model.specs.LineNumbers.{held}
+use Rattle.cf_model.proofs.Common.{accepted, appropriated_push, encumbered_push, expended_push, held_push, legal_induction, legal_push, documents_are, all_append}
 use Rattle.cf_registers.specs.Dues.{leased, paid_leave}
 use Rattle.cf_office_rows.specs.declared.rows.Amounts.{Amounts}
 use Rattle.cf_office_rows.specs.declared.rows.LedgerRow.{LedgerRow}

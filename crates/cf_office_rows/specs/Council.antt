@@ -1,9 +1,8 @@
 -- The rows of what the council moves (GASB Codification 1700: the annual budget is adopted, and
 -- amended).
 use Rattle.std.specs.Prelude.{ℕ, List, [], ◌∷◌, map, pos, ◌-ℤ◌}
-use Rattle.cf_calls.specs.declared.acts.LineTransfer.{LineTransfer}
-use Rattle.cf_calls.specs.declared.items.LineAmount.{LineAmount}
-use Rattle.cf_chart.specs.Plan.{Plan}
+use Rattle.cf_model.specs.Common.{LineTransfer, LineAmount}
+use Rattle.cf_chart.specs.Common.{Plan}
 use Rattle.cf_office_rows.specs.declared.rows.LedgerRow.{LedgerRow}
 use Rattle.cf_office_rows.specs.Rows.{appropriates, on_line, origin}
 

@@ -1,28 +1,10 @@
 -- What each entry moves, item by item, over the registers before it.
 use Rattle.std.specs.Prelude.{ℕ, ◌+◌, ◌-◌, Bool, if◌then◌else◌, ◌==◌, ◌&&◌, nat_lt, List, [], ◌∷◌, ◌++◌, Option, Some, None, map, flat_map, pos, ◌-ℤ◌}
 use Rattle.std.specs.List.{filter}
-use Rattle.cf_base.specs.declared.calendar.Day.{Day}
-use Rattle.cf_calls.specs.declared.acts.Act.{Act}
-use Rattle.cf_calls.specs.declared.acts.Act.TheVariants.{Adopt, Amend, Transfer, Requisition, Withdraw, Order, ChangeOrder, CancelOrder, Voucher, VoidVoucher, Bill, Collect, WriteOff, PayDue, Leave, Close, Lease}
-use Rattle.cf_calls.specs.declared.acts.DebtPayment.{DebtPayment}
-use Rattle.cf_calls.specs.declared.acts.LeaveAct.{LeaveAct}
-use Rattle.cf_calls.specs.declared.acts.LeaveAct.TheVariants.{Mature}
-use Rattle.cf_calls.specs.declared.acts.NewLease.{NewLease}
-use Rattle.cf_calls.specs.declared.acts.NewOrder.{NewOrder}
-use Rattle.cf_calls.specs.declared.acts.NewVoucher.{NewVoucher}
-use Rattle.cf_calls.specs.declared.entry.Drawn.{Drawn}
-use Rattle.cf_calls.specs.declared.entry.Entry.{Entry}
-use Rattle.cf_chart.specs.Plan.{Plan}
+use Rattle.cf_model.specs.Common.{Day, Act, Adopt, Amend, Transfer, Requisition, Withdraw, Order, ChangeOrder, CancelOrder, Voucher, VoidVoucher, Collect, WriteOff, PayDue, Leave, Close, Lease, DebtPayment, LeaveAct, Mature, NewLease, NewOrder, NewVoucher, Drawn, Entry, document_year, rolled_year, year_of_day, Bond, Documents, Hold, or_zero, Move, charge_move, document_moves, order_move, releases, reopen_move, spend_move, spending_move, spent_by, unspend_move, item_step, Registers, document_number, bonds_spendings}
+use Rattle.cf_calls.specs.declared.acts.Act.TheVariants.{Bill}
+use Rattle.cf_chart.specs.Common.{Plan}
 use Rattle.cf_ledger.specs.declared.post.Post.{Post}
-use Rattle.cf_model.specs.Calendar.{document_year, rolled_year, year_of_day}
-use Rattle.cf_model.specs.Bonds.{Bond}
-use Rattle.cf_model.specs.Documents.{Documents, Hold}
-use Rattle.cf_model.specs.DocumentsShown.{or_zero}
-use Rattle.cf_model.specs.Moves.{Move, charge_move, document_moves, order_move, releases, reopen_move, spend_move, spending_move, spent_by, unspend_move}
-use Rattle.cf_model.specs.OrderItems.{item_step}
-use Rattle.cf_model.specs.Registers.{Registers}
-use Rattle.cf_model.specs.Results.{document_number}
-use Rattle.cf_model.specs.Spendings.{bonds_spendings}
 use Rattle.cf_registers.specs.Dues.{leased, paid_leave}
 use Rattle.cf_office_rows.specs.declared.rows.LedgerRow.{LedgerRow}
 use Rattle.cf_office_rows.specs.Council.{adopted_rows, transfer_rows}

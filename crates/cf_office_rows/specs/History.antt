@@ -1,13 +1,11 @@
 -- The rows of a whole history: each entry's over the registers before it and by its posts on the
 -- fund basis.
 use Rattle.std.specs.Prelude.{◌≡◌, ℕ, ◌+◌, ◌≤◌, ◌<◌, ◌==◌, ◌&&◌, List, [], ◌∷◌, ◌++◌, pos, ◌-ℤ◌}
-use Rattle.cf_calls.specs.declared.entry.Entry.{Entry}
+use Rattle.cf_model.specs.Common.{Entry, act_posts, posts_in, Registers, no_registers, registers_step}
 use Rattle.cf_calls.specs.declared.read.Basis.TheVariants.{Fund as FundBasis}
-use Rattle.cf_chart.specs.Plan.{Plan}
+use Rattle.cf_chart.specs.Common.{Plan}
 use Rattle.cf_ledger.specs.Posts.{sum_where}
 use Rattle.cf_model.specs.LineNumbers as numbers
-use Rattle.cf_model.specs.Postings.{act_posts, posts_in}
-use Rattle.cf_model.specs.Registers.{Registers, no_registers, registers_step}
 use Rattle.cf_office_rows.specs.declared.rows.LedgerRow.{LedgerRow}
 use Rattle.cf_office_rows.specs.Entries.{entry_rows}
 use Rattle.cf_office_rows.specs.Rows.{line_sum, source_sum}

@@ -1,7 +1,7 @@
 -- The rows of what the items of a document move.
 use Rattle.std.specs.Prelude.{ℕ, ◌+◌, Bool, true, false, if◌then◌else◌, ◌==◌, ◌&&◌, List, [], ◌∷◌, ◌++◌, Option, Some, None, ◌+ℤ◌}
-use Rattle.cf_chart.specs.Plan.{Plan}
-use Rattle.cf_model.specs.Moves.{Move}
+use Rattle.cf_chart.specs.Common.{Plan}
+use Rattle.cf_model.specs.Common.{Move}
 use Rattle.cf_office_rows.specs.declared.rows.LedgerRow.{LedgerRow}
 use Rattle.cf_office_rows.specs.declared.rows.Origin.{Origin}
 use Rattle.cf_orders.specs.declared.moves.LineMove.{LineMove}

@@ -2,12 +2,8 @@
 -- open at a year's end).
 use Rattle.std.specs.Prelude.{◌≡◌, ◌≢◌, ℕ, ◌+◌, if◌then◌else◌, ◌==◌, List, [], ◌∷◌, ◌++◌, Option, Some, None, map, flat_map, ◌&&◌, ℤ, pos, ◌-ℤ◌}
 use Rattle.std.specs.List.{AllByRecursion, filter, range_with_len}
-use Rattle.cf_chart.specs.Plan.{Plan, fund_at}
-use Rattle.cf_model.specs.DocumentRules.{withdrawn_state}
-use Rattle.cf_model.specs.Documents.{Hold, Documents, is_number, requisition_at}
-use Rattle.cf_model.specs.LineNumbers.{held_amount}
-use Rattle.cf_model.specs.Moves.{Move, release_move}
-use Rattle.cf_model.specs.OrderItems.{OrderItem, carries_fund, has_line, may_carry, open_of}
+use Rattle.cf_chart.specs.Common.{Plan, fund_at}
+use Rattle.cf_model.specs.Common.{withdrawn_state, Hold, Documents, is_number, requisition_at, held_amount, Move, release_move, OrderItem, carries_fund, has_line, may_carry, open_of}
 use Rattle.cf_orders.specs.declared.moves.LineMove.{LineMove}
 use Rattle.cf_office_rows.specs.declared.rows.Amounts.{Amounts}
 use Rattle.cf_office_rows.specs.declared.rows.LedgerRow.{LedgerRow}

@@ -3,13 +3,9 @@
 use Rattle.std.specs.Prelude.{ℕ, ◌+◌, Bool, not, if◌then◌else◌, ◌==◌, ◌&&◌, ◌||◌, List, [], ◌∷◌, Option, Some, None, ℤ, pos, ◌+ℤ◌}
 use Rattle.std.specs.List.{filter}
 use Rattle.std.specs.Ordering.{int_eq}
-use Rattle.cf_calls.specs.declared.items.AccountItem.{AccountItem}
-use Rattle.cf_chart.specs.declared.rows.Line.{Line}
-use Rattle.cf_chart.specs.declared.rows.LinePart.{LinePart}
+use Rattle.cf_model.specs.Common.{AccountItem, Line, LinePart, is_line, Move}
 use Rattle.cf_chart.specs.declared.rows.LinePart.TheVariants as part
-use Rattle.cf_chart.specs.Plan.{Plan, line_at, line_of}
-use Rattle.cf_model.specs.LineNumbers.{is_line}
-use Rattle.cf_model.specs.Moves.{Move}
+use Rattle.cf_chart.specs.Common.{Plan, line_at, line_of}
 use Rattle.cf_office_rows.specs.declared.rows.Amounts.{Amounts}
 use Rattle.cf_office_rows.specs.declared.rows.LedgerRow.{LedgerRow}
 use Rattle.cf_office_rows.specs.declared.rows.Origin.{Origin}

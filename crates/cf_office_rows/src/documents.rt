@@ -1,11 +1,10 @@
 //! What the items of requisitions, orders and vouchers move.
 
 ghost use Rattle.std.specs.Prelude.{◌≡◌, ◌++◌, ◌<◌, ◌≤◌, ◌^◌, ◌+ℤ◌, unsigned_abs, List, length, map, Some, true, IfSome, OnOk};
-ghost use Rattle.cf_base.specs.Calendar.{is_day};
-ghost use Rattle.cf_calls.specs.Form.{IsActInForm};
+ghost use Rattle.cf_base.specs.Common.{is_day};
+ghost use Rattle.cf_calls.specs.Common.{IsActInForm};
 ghost use Rattle.cf_model.specs.Moves as model;
-ghost use Rattle.cf_model.specs.Moves.{Move, document_moves};
-ghost use Rattle.cf_model.specs.Results.{document_number};
+ghost use Rattle.cf_model.specs.Common.{Move, document_moves, document_number};
 ghost use Rattle.cf_orders.specs.Register.{IsAllowed, IsSmall, line_move};
 ghost use Rattle.cf_office_rows.specs.Items as spec;
 ghost use Rattle.cf_office_rows.specs.Items.{item_rows, joined, paired_rows, same_rows};

@@ -2,8 +2,8 @@
 
 ghost use Rattle.std.specs.Prelude.{◌≡◌, ◌++◌, ◌≤◌, ◌<◌, ◌^◌, length, unsigned_abs, true, OnOk};
 ghost use Rattle.std.specs.List.{All};
-ghost use Rattle.cf_base.specs.Calendar.{is_day};
-ghost use Rattle.cf_calls.specs.Form.{IsActInForm};
+ghost use Rattle.cf_base.specs.Common.{is_day};
+ghost use Rattle.cf_calls.specs.Common.{IsActInForm};
 ghost use Rattle.cf_calls.specs.declared.acts.Act.TheVariants as act;
 ghost use Rattle.cf_orders.specs.Register.{IsAllowed};
 ghost use Rattle.cf_registers.specs.Moved.{IsCleared};

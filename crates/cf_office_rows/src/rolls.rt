@@ -2,9 +2,8 @@
 
 ghost use Rattle.std.specs.Prelude.{◌≡◌, ◌++◌, ◌+◌, ◌-◌, ◌<◌, ◌≤◌, flat_map, true, IfSome, OnOk};
 ghost use Rattle.std.specs.List.{range_with_len};
-ghost use Rattle.cf_base.specs.Calendar.{is_day};
-ghost use Rattle.cf_base.specs.Limits.{last_fiscal_year};
-ghost use Rattle.cf_calls.specs.Form.{IsActInForm};
+ghost use Rattle.cf_base.specs.Common.{is_day, last_fiscal_year};
+ghost use Rattle.cf_calls.specs.Common.{IsActInForm};
 ghost use Rattle.cf_calls.specs.declared.acts.Act.TheVariants as variant;
 ghost use Rattle.cf_orders.specs.Register.{IsAllowed, IsSmall};
 ghost use Rattle.cf_office_rows.specs.Rolls as spec;

@@ -2,7 +2,7 @@
 
 ghost use Rattle.std.specs.Prelude.{◌≡◌, ◌++◌, ◌∷◌, [], OnOk};
 ghost use Rattle.cf_registers.specs.Numbered.{AreNumberedBonds};
-ghost use Rattle.cf_model.specs.Moves.{spending_move};
+ghost use Rattle.cf_model.specs.Common.{spending_move};
 ghost use Rattle.cf_office_rows.specs.Entries as spec;
 ghost use Rattle.cf_office_rows.specs.Rows.{kept, on_move};
 

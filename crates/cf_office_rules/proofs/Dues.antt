@@ -1,15 +1,9 @@
 -- What the payment that is due of a bond makes, as the register of debt tells it.
 use Rattle.std.proofs.Common.{◌≡◌, ℕ, List, Option, Some, None, refl, sym, ap, ◌∙◌, option_to_list}
-use Rattle.cf_calls.specs.declared.entry.Entry.{Entry}
-use Rattle.cf_calls.specs.declared.refusal.Refusal.{Refusal}
-use Rattle.cf_chart.specs.Plan.{Plan}
+use Rattle.cf_model.specs.Common.{Entry, Refusal, Bond, Due, next_due, unadopted_due, registers_of, bond_at, adopted_at, first_refusal, or_else, unadopted_where}
+use Rattle.cf_chart.specs.Common.{Plan}
 use Rattle.cf_debt.specs.declared.debt.Due.{Due as DueNow}
 use Rattle.cf_debt.specs.Register.{Debts, debts_of, due_if, due_now}
-use Rattle.cf_model.specs.Bonds.{Bond, Due, next_due}
-use Rattle.cf_model.specs.RegisterRules.{unadopted_due}
-use Rattle.cf_model.specs.Registers.{registers_of}
-use Rattle.cf_model.specs.Results.{bond_at}
-use Rattle.cf_model.specs.Rules.{adopted_at, first_refusal, or_else, unadopted_where}
 
 some_is : {A : Type 0} {a b : A} → Some a ≡ Some b → a ≡ b
 some_is e = cc

@@ -1,20 +1,8 @@
 -- The last rules: those of the registers, then room, then cash.
 use Rattle.std.proofs.Common.{◌≡◌, List, [], ◌∷◌, Option, Some, None, refl, sym, ap, subst, ◌∙◌}
-use Rattle.cf_calls.specs.declared.call.Change.{Change}
-use Rattle.cf_calls.specs.declared.entry.Entry.{Entry}
-use Rattle.cf_calls.specs.declared.refusal.Refusal.{Refusal}
-use Rattle.cf_chart.specs.Plan.{Plan}
-use Rattle.cf_model.specs.Cash.{cash_refusal}
-use Rattle.cf_model.specs.DocumentRules.{document_rules, document_refusal}
-use Rattle.cf_model.specs.Documents.{Documents, documents_of}
-use Rattle.cf_model.specs.ReceivableRules.{receivable_refusal}
-use Rattle.cf_model.specs.RegisterRules.{asset_refusal, debt_refusal}
-use Rattle.cf_model.specs.Registers.{registers_of}
-use Rattle.cf_model.specs.Results.{entry_with}
-use Rattle.cf_model.specs.Rules.{or_else, first_of, exceed_refusal}
-use Rattle.cf_model.specs.Step.{last_rules}
-use Rattle.cf_model.proofs.First.{AllNone, first_of-append, first_of_none}
-use Rattle.cf_model.proofs.Pushes.{documents_are}
+use Rattle.cf_model.specs.Common.{Change, Entry, Refusal, cash_refusal, document_rules, document_refusal, Documents, documents_of, receivable_refusal, asset_refusal, debt_refusal, registers_of, entry_with, or_else, first_of, exceed_refusal, last_rules}
+use Rattle.cf_chart.specs.Common.{Plan}
+use Rattle.cf_model.proofs.Common.{AllNone, first_of-append, first_of_none, documents_are}
 use Rattle.cf_registers.specs.RegistersState.{register_rules}
 
 either : (w r a d x : Option Refusal) → or_else w (or_else r (or_else a (or_else d x))) ≡ or_else (or_else w (or_else r (or_else a (or_else d None)))) x

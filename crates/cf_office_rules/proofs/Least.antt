@@ -1,23 +1,15 @@
 -- The least line that is overspent, and its least year, found among the places of merged changes.
 use Rattle.std.proofs.Common.{◌≡◌, ◌⊎◌, inl, inr, ℕ, ◌+◌, ◌<◌, ◌≤◌, Bool, true, false, if◌then◌else◌, ◌==◌, ◌&&◌, ◌||◌, nat_lt, List, [], ◌∷◌, length, Option, Some, None, ℤ, pos, ◌+ℤ◌, refl, sym, subst, arith, ◌∙◌, ap, drop, get_or, add-one, drop-cons}
-use Rattle.std.specs.List.{AllByRecursion}
-use Rattle.std.proofs.lemmas.List.{drop_all}
-use Rattle.std.proofs.lemmas.Grind.{common_steps}
-use Rattle.std.proofs.lemmas.Int.{ints}
-use Rattle.std.proofs.lemmas.List.Elements.{recursion_from_All}
-use Rattle.std.proofs.lemmas.List.Sums.{AllPass-from_list_all}
-use Rattle.cf_calls.specs.declared.refusal.Refusal.{Refusal}
-use Rattle.cf_chart.specs.Plan.{Plan}
+use Rattle.cf_base.proofs.Common.{AllByRecursion, drop_all, common_steps, ints, recursion_from_All, AllPass-from_list_all}
+use Rattle.cf_model.specs.Common.{Refusal, counts, Move, asks_of_moves, first_below}
+use Rattle.cf_chart.specs.Common.{Plan}
 use Rattle.cf_budget.specs.declared.changes.LineChange.{LineChange}
 use Rattle.cf_budget.specs.Changes.{changes_at}
 use Rattle.cf_budget.specs.Tables.{row_plus, zero_row}
 use Rattle.cf_budget.proofs.Applies.{both, number}
 use Rattle.cf_budget.proofs.Merges.{only_at}
-use Rattle.cf_model.specs.LineNumbers.{counts}
-use Rattle.cf_model.specs.Moves.{Move, asks_of_moves}
-use Rattle.cf_calls.specs.Refusals.{overspends}
-use Rattle.cf_model.specs.Rules.{first_below}
-use Rattle.cf_model.proofs.First.{first_below_found, none_below}
+use Rattle.cf_calls.specs.Common.{overspends}
+use Rattle.cf_model.proofs.Common.{first_below_found, none_below}
 use Rattle.cf_office_rules.specs.declared.exceeds.Excess.{Excess}
 use Rattle.cf_office_rules.specs.Least.{is_before, lesser, least_from, excess_of, excess_by, refusal_in}
 use Rattle.cf_registers.specs.Moved.{asks_of, is_inside, moves_row, Make}

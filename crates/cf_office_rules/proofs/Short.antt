@@ -1,33 +1,13 @@
 -- The funds that are short of cash, where an act takes cash of at most one.
-use Rattle.std.proofs.Common.{◌≡◌, ℕ, ◌+◌, Bool, true, false, not, if◌then◌else◌, ◌==◌, List, [], ◌∷◌, Option, Some, None, is_some, find, sum_by, refl, sym, ap, subst, ◌∙◌, arith, option_to_list}
-use Rattle.std.proofs.lemmas.Grind.{common_steps}
-use Rattle.std.specs.List.{filter}
-use Rattle.cf_base.specs.declared.calendar.Day.{Day}
-use Rattle.cf_calls.specs.declared.acts.Act.{Act}
-use Rattle.cf_calls.specs.declared.acts.Act.TheVariants.{Pay, PayDue, Leave, Interfund}
-use Rattle.cf_calls.specs.declared.acts.DebtPayment.{DebtPayment}
-use Rattle.cf_calls.specs.declared.acts.FundMove.{FundMove}
-use Rattle.cf_calls.specs.declared.acts.LeaveAct.TheVariants.{Earn, Use, Mature}
-use Rattle.cf_calls.specs.declared.acts.LeaveMaturity.{LeaveMaturity}
-use Rattle.cf_calls.specs.declared.entry.Entry.{Entry}
+use Rattle.std.proofs.Common.{◌≡◌, ℕ, ◌+◌, Bool, true, false, not, if◌then◌else◌, ◌==◌, List, [], ◌∷◌, Option, Some, None, is_some, find, sum_by, refl, sym, ap, subst, ◌∙◌, arith, option_to_list, filter}
+use Rattle.cf_base.proofs.Common.{common_steps}
+use Rattle.cf_model.specs.Common.{Day, Act, Pay, PayDue, Leave, Interfund, DebtPayment, FundMove, Earn, Use, Mature, LeaveMaturity, Entry, Refusal, Object, Bond, Due, next_due, year_of_day, cash_short, cash_refusal, cash_taken, due_cash, is_current, is_interest, is_principal, Documents, documents_of, no_documents, cash_of, payment_year, register_name_refusal, unknown_bond, unknown_payment, registers_of, bond_at, or_else, first_refusal, unknown, unknown_account, fund_name, name_refusal}
 use Rattle.cf_calls.specs.declared.names.NameKind.TheVariants as kind
-use Rattle.cf_calls.specs.declared.refusal.Refusal.{Refusal}
 use Rattle.cf_calls.specs.declared.refusal.Refusal.TheVariants as refusal
 use Rattle.cf_chart.specs.declared.rows.Fund.{Fund}
-use Rattle.cf_chart.specs.declared.rows.Object.{Object}
-use Rattle.cf_chart.specs.Plan.{Plan, fund_at}
+use Rattle.cf_chart.specs.Common.{Plan, fund_at}
 use Rattle.cf_debt.specs.Register.{due_if, due_now}
-use Rattle.cf_model.specs.Bonds.{Bond, Due, next_due}
-use Rattle.cf_model.specs.Calendar.{year_of_day}
-use Rattle.cf_model.specs.Cash.{cash_short, cash_refusal, cash_taken, due_cash}
-use Rattle.cf_model.specs.Charted.{is_current, is_interest, is_principal}
-use Rattle.cf_model.specs.Documents.{Documents, documents_of, no_documents}
-use Rattle.cf_model.specs.Postings.{cash_of}
-use Rattle.cf_model.specs.RegisterRules.{payment_year, register_name_refusal, unknown_bond, unknown_payment}
-use Rattle.cf_model.specs.Registers.{registers_of}
-use Rattle.cf_model.specs.Results.{bond_at}
-use Rattle.cf_model.specs.Rules.{or_else, first_refusal, unknown, unknown_account, fund_name, name_refusal}
-use Rattle.cf_model.proofs.First.{or_else_none, refuse_none}
+use Rattle.cf_model.proofs.Common.{or_else_none, refuse_none}
 use Rattle.cf_registers.specs.Dues.{due_amount}
 
 -- no fund that is asked for nothing is short

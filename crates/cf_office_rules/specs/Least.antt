@@ -1,9 +1,8 @@
 -- The least line, and its least year, of which too much is asked, among changes in any order.
 use Rattle.std.specs.Prelude.{ℕ, Bool, if◌then◌else◌, ◌==◌, ◌&&◌, ◌||◌, nat_lt, List, [], ◌∷◌, Option, Some, None, option_map, ℤ}
-use Rattle.cf_calls.specs.declared.refusal.Refusal.{Refusal}
+use Rattle.cf_model.specs.Common.{Refusal, closed_year}
 use Rattle.cf_budget.specs.declared.changes.LineChange.{LineChange}
-use Rattle.cf_calls.specs.Refusals.{overspends}
-use Rattle.cf_model.specs.Rules.{closed_year}
+use Rattle.cf_calls.specs.Common.{overspends}
 use Rattle.cf_office_rules.specs.declared.exceeds.Excess.{Excess}
 use Rattle.cf_registers.specs.Moved.{asks_of}
 

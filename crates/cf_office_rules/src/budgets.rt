@@ -1,11 +1,10 @@
 //! The rules on adopted budgets, each as the refusal that it gives.
 
 ghost use Rattle.std.specs.Prelude.{◌≡◌, true};
-ghost use Rattle.cf_base.specs.Calendar.{is_day};
+ghost use Rattle.cf_base.specs.Common.{is_day};
 ghost use Rattle.cf_model.specs.RegisterRules as register;
-ghost use Rattle.cf_model.specs.Registers.{registers_of};
+ghost use Rattle.cf_model.specs.Common.{registers_of, first_refusal};
 ghost use Rattle.cf_model.specs.Rules as spec;
-ghost use Rattle.cf_model.specs.Rules.{first_refusal};
 
 use cf_base::Day;
 use cf_calls::acts::LeaveAct;

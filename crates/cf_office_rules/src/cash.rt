@@ -2,13 +2,7 @@
 
 ghost use Rattle.std.specs.Prelude.{◌≡◌, ◌<◌, ◌^◌, None, sum_by};
 ghost use Rattle.cf_model.specs.Cash as cash;
-ghost use Rattle.cf_model.specs.Cash.{cash_short, fund_sum};
-ghost use Rattle.cf_model.specs.Documents.{documents_of};
-ghost use Rattle.cf_model.specs.Moves.{spent_by};
-ghost use Rattle.cf_model.specs.Postings.{cash_of};
-ghost use Rattle.cf_model.specs.RegisterRules.{register_name_refusal};
-ghost use Rattle.cf_model.specs.Registers.{registers_of};
-ghost use Rattle.cf_model.specs.Rules.{name_refusal};
+ghost use Rattle.cf_model.specs.Common.{cash_short, fund_sum, documents_of, spent_by, cash_of, register_name_refusal, registers_of, name_refusal};
 
 use cf_base::{Day, LAST_FISCAL_YEAR};
 use cf_calls::acts::{DebtPayment, LeaveAct};

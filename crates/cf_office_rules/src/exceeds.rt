@@ -3,14 +3,10 @@
 ghost use Rattle.std.specs.Prelude.{◌≡◌, ◌<◌, None, true, pos, length};
 ghost use Rattle.std.specs.List.{All, list_all};
 ghost use Rattle.cf_budget.specs.Tables.{has_line};
-ghost use Rattle.cf_calls.specs.Form.{IsChangeInForm};
-ghost use Rattle.cf_calls.specs.Refusals.{overspends};
-ghost use Rattle.cf_model.specs.DocumentRules.{document_refusal};
-ghost use Rattle.cf_model.specs.Documents.{documents_of};
+ghost use Rattle.cf_calls.specs.Common.{IsChangeInForm, overspends};
+ghost use Rattle.cf_model.specs.Common.{document_refusal, documents_of, asks_of_moves, registers_of};
 ghost use Rattle.cf_model.specs.LineNumbers as numbers;
-ghost use Rattle.cf_model.specs.Moves.{asks_of_moves};
 ghost use Rattle.cf_model.specs.Rules as spec;
-ghost use Rattle.cf_model.specs.Registers.{registers_of};
 ghost use Rattle.cf_model.specs.Results as results;
 ghost use Rattle.cf_model.specs.Step as step;
 ghost use Rattle.cf_office_rules.specs.Least.{is_before as spec_is_before, lesser as spec_lesser, least_from, excess_by, refusal_in};

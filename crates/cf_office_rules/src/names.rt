@@ -3,13 +3,10 @@
 
 ghost use Rattle.std.specs.Prelude.{◌≡◌, not, is_some, true};
 ghost use Rattle.cf_model.specs.Rules as spec;
-ghost use Rattle.cf_model.specs.Rules.{first_refusal};
-ghost use Rattle.cf_chart.specs.Plan.{fund_at, line_at, source_at};
-ghost use Rattle.cf_base.specs.Calendar.{is_day};
-ghost use Rattle.cf_base.specs.declared.calendar.Day.{Day as OnDay};
+ghost use Rattle.cf_model.specs.Common.{first_refusal, Day as OnDay, is_drawn, item_named};
+ghost use Rattle.cf_chart.specs.Common.{fund_at, line_at, source_at};
+ghost use Rattle.cf_base.specs.Common.{is_day};
 ghost use Rattle.cf_model.specs.Calendar as calendar;
-ghost use Rattle.cf_model.specs.Documents.{is_drawn};
-ghost use Rattle.cf_model.specs.OrderItems.{item_named};
 
 use crate::rules::or;
 use cf_base::Day;

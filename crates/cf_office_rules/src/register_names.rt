@@ -1,13 +1,11 @@
 //! What an act names of bills, assets, bonds and leave, and of the chart's rows for them.
 
 ghost use Rattle.std.specs.Prelude.{◌≡◌, not, is_some, true};
-ghost use Rattle.cf_base.specs.Calendar.{is_day};
-ghost use Rattle.cf_base.specs.declared.calendar.Day.{Day as OnDay};
-ghost use Rattle.cf_chart.specs.Plan.{object_at};
+ghost use Rattle.cf_base.specs.Common.{is_day};
+ghost use Rattle.cf_model.specs.Common.{Day as OnDay, bond_at, bill_at};
+ghost use Rattle.cf_chart.specs.Common.{object_at};
 ghost use Rattle.cf_model.specs.Calendar as calendar;
-ghost use Rattle.cf_model.specs.Results.{bond_at};
 ghost use Rattle.cf_model.specs.Charted as charted;
-ghost use Rattle.cf_model.specs.Receivables.{bill_at};
 ghost use Rattle.cf_model.specs.RegisterRules as spec;
 ghost use Rattle.cf_model.specs.Rules as rules;
 

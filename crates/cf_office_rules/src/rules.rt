@@ -2,17 +2,13 @@
 //! that it gives.
 
 ghost use Rattle.std.specs.Prelude.{◌≡◌, ◌≤◌, ◌+◌, true, nat_lt};
-ghost use Rattle.cf_base.specs.Calendar.{is_day};
-ghost use Rattle.cf_base.specs.Limits.{last_fiscal_year};
-ghost use Rattle.cf_calls.specs.Form.{IsActInForm};
-ghost use Rattle.cf_model.specs.Receivables.{bill_at};
+ghost use Rattle.cf_base.specs.Common.{is_day, last_fiscal_year};
+ghost use Rattle.cf_calls.specs.Common.{IsActInForm};
+ghost use Rattle.cf_model.specs.Common.{bill_at, later_levy, registers_of, first_refusal};
 ghost use Rattle.cf_model.specs.RegisterRules as register;
-ghost use Rattle.cf_model.specs.RegisterRules.{later_levy};
-ghost use Rattle.cf_model.specs.Registers.{registers_of};
 ghost use Rattle.cf_model.specs.Rules as spec;
-ghost use Rattle.cf_model.specs.Rules.{first_refusal};
 ghost use Rattle.cf_office_rules.specs.Least.{closed_where};
-ghost use Rattle.cf_chart.specs.Plan.{desk_at};
+ghost use Rattle.cf_chart.specs.Common.{desk_at};
 
 use cf_base::{Day, LAST_YEAR, MOST_CENTS, MOST_ENTRIES, Month, fiscal_year, month_of};
 use cf_calls::acts::{AssetAct, LeaveAct, Period, Terms};

@@ -1,13 +1,12 @@
 //! The verdict on a change: the rules in their order, over any history.
 
 ghost use Rattle.std.specs.Prelude.{◌≡◌, true, None};
-ghost use Rattle.cf_base.specs.Calendar.{is_day};
+ghost use Rattle.cf_base.specs.Common.{is_day};
 ghost use Rattle.cf_budget.specs.Tables.{has_line};
-ghost use Rattle.cf_calls.specs.Form.{IsChangeInForm};
-ghost use Rattle.cf_model.specs.Documents.{documents_of};
+ghost use Rattle.cf_calls.specs.Common.{IsChangeInForm};
+ghost use Rattle.cf_model.specs.Common.{documents_of, registers_of};
 ghost use Rattle.cf_registers.specs.Lines.{LendsTouched};
 ghost use Rattle.cf_model.specs.RegisterRules as register;
-ghost use Rattle.cf_model.specs.Registers.{registers_of};
 ghost use Rattle.cf_model.specs.Rules as rules;
 ghost use Rattle.cf_model.specs.Step as step;
 ghost use Rattle.cf_registers.specs.RegistersState.{register_rules};

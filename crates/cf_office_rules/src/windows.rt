@@ -2,9 +2,9 @@
 //! it.
 
 ghost use Rattle.std.specs.Prelude.{◌≡◌};
-ghost use Rattle.cf_calls.specs.Form.{IsActInForm, IsYear};
-ghost use Rattle.cf_model.proofs.MonthNumbers.{IsNamed};
-ghost use Rattle.cf_model.specs.Calendar.{is_month_closed};
+ghost use Rattle.cf_calls.specs.Common.{IsActInForm, IsYear};
+ghost use Rattle.cf_model.proofs.Common.{IsNamed};
+ghost use Rattle.cf_model.specs.Common.{is_month_closed};
 ghost use Rattle.cf_model.specs.Rules as spec;
 
 use cf_base::{Day, Month, month_at, window_end, year_end};

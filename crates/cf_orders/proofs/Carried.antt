@@ -1,11 +1,8 @@
 -- What is carried onto a line, one row after another.
 use Rattle.std.proofs.Common.{◌≡◌, ℕ, ◌+◌, ◌<◌, Bool, if◌then◌else◌, ◌&&◌, List, [], ◌∷◌, ◌++◌, length, take, get_or, sym, ap, ◌∙◌}
-use Rattle.std.proofs.lemmas.List.{map-append, take_more}
-use Rattle.std.proofs.lemmas.List.Sums.{sum_by_push}
-use Rattle.cf_chart.specs.Plan.{Plan}
-use Rattle.cf_model.specs.LineNumbers.{is_on}
-use Rattle.cf_model.specs.Moves.{carried_to, goes_on}
-use Rattle.cf_model.specs.OrderItems.{OrderItem, open_of}
+use Rattle.cf_base.proofs.Common.{map-append, take_more, sum_by_push}
+use Rattle.cf_chart.specs.Common.{Plan}
+use Rattle.cf_model.specs.Common.{is_on, carried_to, goes_on, OrderItem, open_of}
 use Rattle.cf_register_parts.specs.declared.extents.Extent.{Extent}
 use Rattle.cf_orders.specs.declared.rows.ItemRow.{ItemRow}
 use Rattle.cf_orders.specs.declared.rows.ExpenditureRow.{ExpenditureRow}

@@ -1,11 +1,9 @@
 -- What the roll of a fiscal year in place makes of rows.
 use Rattle.std.proofs.Common.{◌≡◌, ℕ, zero, suc, ◌+◌, ◌<◌, ◌≤◌, Bool, true, false, if◌then◌else◌, ◌==◌, ◌&&◌, List, [], ◌∷◌, length, map, get_or, refl, sym, subst, arith, ◌∙◌, ap}
-use Rattle.std.proofs.lemmas.List.{get_or_default}
-use Rattle.std.specs.List.{AllByRecursion}
+use Rattle.cf_base.proofs.Common.{get_or_default, AllByRecursion}
 use Rattle.cf_calls.specs.declared.shown.RequisitionState.TheVariants as requisition
-use Rattle.cf_chart.specs.Plan.{Plan}
-use Rattle.cf_model.specs.Documents.{leaves}
-use Rattle.cf_model.specs.OrderItems.{OrderItem, lapses, rolled, open_of}
+use Rattle.cf_chart.specs.Common.{Plan}
+use Rattle.cf_model.specs.Common.{leaves, OrderItem, lapses, rolled, open_of}
 use Rattle.cf_model.specs.OrderItems as model
 use Rattle.cf_register_parts.specs.declared.extents.Extent.{Extent}
 use Rattle.cf_orders.specs.declared.rows.ExpenditureRow.{ExpenditureRow}
@@ -19,7 +17,7 @@ use Rattle.cf_orders.proofs.Closing.{lapse_of, roll_of}
 use Rattle.cf_orders.proofs.Lists.{map_each}
 use Rattle.cf_orders.proofs.Ranges.{changed_extents}
 use Rattle.cf_orders.proofs.Rolled.{Keeps, ended_keeps, lapses_seen, rolls_seen, view_carried}
-use Rattle.cf_base.specs.Limits.{most_cents}
+use Rattle.cf_base.specs.Common.{most_cents}
 
 -- rows that were all changed
 pub record IsChangedWhole {R : Type 0} (f : R → R) (old new : List R) : Type 0 where

@@ -1,10 +1,8 @@
 -- What the roll of a fiscal year carries onto each line of the year after (GFOA Blue Book:
 -- encumbrances).
 use Rattle.std.specs.Prelude.{◌≡◌, ℕ, ◌+◌, ◌<◌, if◌then◌else◌, ◌&&◌, List, length, slice_index_or}
-use Rattle.cf_chart.specs.Plan.{Plan}
-use Rattle.cf_model.specs.LineNumbers.{is_on}
-use Rattle.cf_model.specs.Moves.{carried_to}
-use Rattle.cf_model.specs.OrderItems.{OrderItem}
+use Rattle.cf_chart.specs.Common.{Plan}
+use Rattle.cf_model.specs.Common.{is_on, carried_to, OrderItem}
 use Rattle.cf_orders.specs.declared.rows.ItemRow.{ItemRow}
 use Rattle.cf_orders.specs.RowRolls.{goes_on_row}
 use Rattle.cf_orders.specs.Rows.{open_now}

@@ -1,7 +1,7 @@
 //! What the roll of a fiscal year carries onto each line of the year after.
 
 ghost use Rattle.std.specs.Prelude.{◌≡◌, ◌≤◌, ◌<◌, ◌+◌, ◌^◌, ◌==◌, ℕ, if◌then◌else◌, length, replicate, slice_index_or, IfOk};
-ghost use Rattle.cf_base.specs.Limits.{last_year};
+ghost use Rattle.cf_base.specs.Common.{last_year};
 ghost use Rattle.cf_orders.specs.Carrying.{AreCarried, adds_to};
 
 use crate::items::open_row;

@@ -1,7 +1,7 @@
 //! Which items of orders lapse at the roll of their fiscal year, and which go on.
 
 ghost use Rattle.std.specs.Prelude.{◌≡◌, ◌≤◌};
-ghost use Rattle.cf_base.specs.Limits.{last_year};
+ghost use Rattle.cf_base.specs.Common.{last_year};
 ghost use Rattle.cf_orders.specs.RowRolls.{goes_on_row, lapses_row, rolls_row};
 
 use crate::items::{is_going, open_row};

@@ -2,13 +2,10 @@
 
 ghost use Rattle.std.specs.Prelude.{◌≡◌, ◌≤◌, ◌<◌, ◌^◌, ℕ, pos, true, map, length, slice_get, option_map, IfSome, unsigned_abs, ◌==◌};
 ghost use Rattle.std.specs.List.{filter};
-ghost use Rattle.cf_base.specs.declared.calendar.Day.{Day};
-ghost use Rattle.cf_calls.specs.Form.{IsActInForm};
-ghost use Rattle.cf_chart.specs.Plan.{Plan};
-ghost use Rattle.cf_model.specs.Documents.{is_number};
-ghost use Rattle.cf_model.specs.OrderItems.{is_named};
+ghost use Rattle.cf_model.specs.Common.{Day, is_number, is_named, document_moves, spent_by};
+ghost use Rattle.cf_calls.specs.Common.{IsActInForm};
+ghost use Rattle.cf_chart.specs.Common.{Plan};
 ghost use Rattle.cf_model.specs.Moves as model;
-ghost use Rattle.cf_model.specs.Moves.{document_moves, spent_by};
 ghost use Rattle.cf_orders.specs.Register.{line_move, IsSmall};
 ghost use Rattle.cf_orders.specs.Rows as spec;
 ghost use Rattle.cf_orders.specs.Rows.{view_hold, view_expenditure};

@@ -2,7 +2,7 @@
 
 ghost use Rattle.std.specs.Prelude.{◌≡◌, ◌+◌, ◌<◌, ◌≤◌, ◌++◌, ◌^◌, ◌-◌, unsigned_abs, vec_len, length};
 ghost use Rattle.std.specs.Vec.{vec_capacity};
-ghost use Rattle.cf_model.specs.OrderItems.{shifted};
+ghost use Rattle.cf_model.specs.Common.{shifted};
 ghost use Rattle.cf_orders.specs.Rows.{rows_from};
 ghost use Rattle.cf_orders.specs.Steps.{IsChangedIn, cancelled_row};
 ghost use Rattle.cf_orders.specs.Steps as spec;

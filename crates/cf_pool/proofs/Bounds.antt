@@ -1,15 +1,11 @@
 -- The weights come to at most 31 times the sizes of all movements, since the funds of a chart
 -- differ.
 use Rattle.std.proofs.Common.{◌≡◌, ℕ, ℤ, pos, negsuc, ◌+◌, ◌*◌, ◌^◌, ◌<◌, ◌≤◌, ◌*ℤ◌, unsigned_abs, Bool, true, false, ◌==◌, nat_lt, if◌then◌else◌, is_some, List, [], ◌∷◌, map, sum, refl, ap, ◌∙◌, arith, eqb-true, ltb-true, ne_eqb}
-use Rattle.std.specs.List.{list_all}
-use Rattle.std.proofs.lemmas.Bool.{and_parts}
-use Rattle.std.proofs.lemmas.List.Sums.{sum_by-cons}
-use Rattle.std.proofs.Math.Nat.{mul-le-mul_left}
+use Rattle.cf_base.proofs.Common.{list_all, and_parts, sum_by-cons, mul-le-mul_left}
 use Rattle.jiff_core.specs.Calendar.{days_in_month}
 use Rattle.jiff_core.proofs.CalendarLemmas.{days_in_month_bounds}
 use Rattle.cf_base.specs.declared.calendar.Month.{Month}
-use Rattle.cf_chart.specs.Plan.{Plan}
-use Rattle.cf_chart.specs.Rising.{is_rising}
+use Rattle.cf_chart.specs.Common.{Plan, is_rising}
 use Rattle.cf_chart.specs.declared.rows.Fund.{Fund}
 use Rattle.cf_pool.specs.declared.days.CashMove.{CashMove}
 use Rattle.cf_pool.specs.Balances.{day_sum, sum_of_days, sizes, stood}

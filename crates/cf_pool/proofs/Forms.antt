@@ -1,16 +1,11 @@
 -- The receipts of shares are in form.
 use Rattle.std.proofs.Common.{◌≡◌, ℕ, pos, ◌/◌, ◌<◌, ◌^◌, true, List, [], ◌∷◌, length, decimal, refl, arith}
-use Rattle.std.specs.Cmp.Derive.{both_true}
-use Rattle.std.specs.List.{list_all}
-use Rattle.std.specs.Str.Parse.{AllDigits}
-use Rattle.std.proofs.lemmas.Bool.{le-leb}
-use Rattle.std.proofs.lemmas.Fmt.{length-decimal-le, decimal_is_IsNumeral}
-use Rattle.std.proofs.lemmas.Str.Parse.{tells_digits}
+use Rattle.cf_base.proofs.Common.{both_true, list_all, AllDigits, le-leb, length-decimal-le, decimal_is_IsNumeral, tells_digits}
 use Rattle.jiff_core.specs.Calendar.{days_in_month}
 use Rattle.jiff_core.proofs.CalendarLemmas.{days_in_month_bounds}
-use Rattle.cf_base.specs.Calendar.{is_call_month, is_day, last_digit}
+use Rattle.cf_base.specs.Common.{is_call_month, is_day, last_digit}
 use Rattle.cf_base.specs.declared.calendar.Month.{Month}
-use Rattle.cf_calls.specs.Form.{IsChangeInForm, is_key, is_key_byte}
+use Rattle.cf_calls.specs.Common.{IsChangeInForm, is_key, is_key_byte}
 use Rattle.cf_calls.specs.declared.acts.Act.TheVariants.{Receive}
 use Rattle.cf_calls.specs.declared.items.SourceAmount.{SourceAmount}
 use Rattle.cf_json_lines.specs.Lines.{change_of}

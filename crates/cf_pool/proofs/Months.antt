@@ -1,7 +1,7 @@
 -- The months that a call may state.
 use Rattle.std.proofs.Common.{◌≡◌, ◌≤◌, ◌&&◌, true, nat_le, leb-true}
-use Rattle.std.proofs.lemmas.Bool.{and_parts}
-use Rattle.cf_base.specs.Calendar.{is_call_month}
+use Rattle.cf_base.proofs.Common.{and_parts}
+use Rattle.cf_base.specs.Common.{is_call_month}
 use Rattle.cf_base.specs.declared.calendar.Month.{Month}
 
 pub call_month_year : (m : Month) → is_call_month m ≡ true → m.year ≤ 2199

@@ -1,15 +1,7 @@
 -- The place of an id among rows by rising id.
-use Rattle.std.proofs.Common.{◌≡◌, ◌≢◌, ℕ, zero, suc, ◌<◌, ◌≤◌, true, true≢false, inl, inr, ◌==◌, nat_lt, List, [], ◌∷◌, length, get_or, Some, None, Result, Ok, Err, position, refl, sym, ap, ◌∙◌, arith, ltb-true, lt-ltb, eq-eqb, ne_eqb}
-use Rattle.std.specs.List.{list_all, position_or_len}
-use Rattle.std.specs.Result.{result_ok}
-use Rattle.std.specs.List.Sorted.{IsSearchInRange, IsBinarySearchResult, IsNonDecreasingBy}
-use Rattle.std.specs.Ordering.{nat_cmp, ordering_index}
-use Rattle.std.proofs.lemmas.Bool.{and_parts, cases_lt}
-use Rattle.std.proofs.lemmas.Bool.Decides.{nat_tests}
-use Rattle.std.proofs.lemmas.Cmp.{ranked}
-use Rattle.std.proofs.lemmas.Grind.{common_steps}
-use Rattle.std.proofs.lemmas.List.Sums.{position_or_len_is, fails_before_first}
-use Rattle.cf_chart.specs.Rising.{is_rising}
+use Rattle.std.proofs.Common.{◌≡◌, ◌≢◌, ℕ, zero, suc, ◌<◌, ◌≤◌, true, true≢false, inl, inr, ◌==◌, nat_lt, List, [], ◌∷◌, length, get_or, Some, None, Result, Ok, Err, position, refl, sym, ap, ◌∙◌, arith, ltb-true, lt-ltb, eq-eqb, ne_eqb, nat_cmp}
+use Rattle.cf_base.proofs.Common.{list_all, position_or_len, result_ok, IsSearchInRange, IsBinarySearchResult, IsNonDecreasingBy, ordering_index, and_parts, cases_lt, nat_tests, ranked, common_steps, position_or_len_is, fails_before_first}
+use Rattle.cf_chart.specs.Common.{is_rising}
 
 above_all : {A : Type 0} → (id : A → ℕ) (i : ℕ) (xs : List A) (k : ℕ) (d : A) → list_all (λ y. nat_lt i (id y)) xs ≡ true → k < length xs → i < id (get_or xs k d)
 above_all id i [] k d h l = absurd (omega arith)

@@ -1,6 +1,6 @@
 -- What is read of a line that shares a month's interest is that receipt.
 use Rattle.std.proofs.Common.{◌≡◌, ℕ, ◌^◌, ◌<◌, true}
-use Rattle.cf_base.specs.Calendar.{is_call_month}
+use Rattle.cf_base.specs.Common.{is_call_month}
 use Rattle.cf_base.specs.declared.calendar.Month.{Month}
 use Rattle.cf_json_laws.proofs.ReadBack.{receipt-back}
 use Rattle.cf_pool.specs.Shares.{hand_of, AreReadBack}

@@ -1,16 +1,10 @@
 -- The sums of several funds, movement by movement.
 use Rattle.std.proofs.Common.{◌≡◌, ◌≢◌, ℕ, ℤ, pos, ◌+◌, ◌*◌, ◌^◌, ◌<◌, ◌≤◌, ◌+ℤ◌, ◌*ℤ◌, unsigned_abs, FitsSigned, Bool, true, false, true≢false, ◌==◌, if◌then◌else◌, List, [], ◌∷◌, ◌++◌, map, length, take, get_or, set, replicate, Some, None, position, refl, sym, ap, subst, ◌∙◌, arith, eq-eqb, eqb-true, ne_eqb}
-use Rattle.std.specs.Int.{w128}
-use Rattle.std.proofs.lemmas.Int.{ints, fits_signed_from_abs}
-use Rattle.std.proofs.lemmas.List.{take_more, take_all, same_lists, length-map, length-set, get_or-map, get_or-set_same, get_or-set_other}
-use Rattle.std.proofs.lemmas.List.Quantifiers.{position-Some}
-use Rattle.std.proofs.lemmas.List.Sums.{sum_by-cons, sum_by-take-le}
-use Rattle.std.proofs.lemmas.Option.{none-some}
-use Rattle.std.proofs.Math.Nat.{mul-le-mul_left}
+use Rattle.cf_base.proofs.Common.{w128, ints, fits_signed_from_abs, take_more, take_all, same_lists, length-map, length-set, get_or-map, get_or-set_same, get_or-set_other, position-Some, sum_by-cons, sum_by-take-le, none-some, mul-le-mul_left}
 use Rattle.jiff_core.specs.Calendar.{days_in_month}
 use Rattle.jiff_core.proofs.CalendarLemmas.{days_in_month_bounds}
 use Rattle.cf_base.specs.declared.calendar.Month.{Month}
-use Rattle.cf_chart.specs.Rising.{is_rising}
+use Rattle.cf_chart.specs.Common.{is_rising}
 use Rattle.cf_chart.specs.declared.rows.Fund.{Fund}
 use Rattle.cf_pool.specs.declared.days.CashMove.{CashMove}
 use Rattle.cf_pool.specs.Balances.{day_sum, sizes, stood}

@@ -2,7 +2,7 @@
 use Rattle.std.proofs.Common.{◌≡◌, ◌⊎◌, inl, inr, ℕ, zero, suc, ◌+◌, ◌<◌, List, [], ◌∷◌, refl, arith, lit<}
 use Rattle.std.specs.Fmt.{digits}
 use Rattle.json.specs.Print.{escape_byte}
-use Rattle.cf_base.specs.Shares.{AreShares, HasFloor, HasMore, IsAhead}
+use Rattle.cf_base.specs.Common.{AreShares, HasFloor, HasMore, IsAhead}
 use Rattle.cf_pool.specs.Balances.{day_sum}
 use Rattle.cf_json_members.specs.Objects.{text_of}
 use Rattle.cf_pool.specs.Worked.{SharesToTheCent, WeighsDailyBalances, WritesReceipts}

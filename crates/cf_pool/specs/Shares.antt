@@ -2,14 +2,13 @@
 -- shares are.
 use Rattle.std.specs.Prelude.{◌≡◌, ℕ, ℤ, pos, negsuc, Bool, true, false, ◌<◌, ◌^◌, ◌+◌, ◌&&◌, ◌||◌, ◌==◌, nat_lt, if◌then◌else◌, is_some, List, [], ◌∷◌, ◌++◌, map, sum, find, Option, Some, None, codes, decimal, Result, Ok, Err, ⊤}
 use Rattle.jiff_core.specs.Calendar.{days_in_month}
-use Rattle.cf_base.specs.Calendar.{month_text}
-use Rattle.cf_base.specs.Shares.{AreShares}
+use Rattle.cf_base.specs.Common.{month_text, AreShares}
 use Rattle.cf_base.specs.declared.calendar.Day.{Day}
 use Rattle.cf_base.specs.declared.calendar.Month.{Month}
 use Rattle.cf_calls.specs.declared.acts.Act.TheVariants.{Receive}
 use Rattle.cf_calls.specs.declared.call.Call.TheVariants as call
 use Rattle.cf_calls.specs.declared.items.SourceAmount.{SourceAmount}
-use Rattle.cf_chart.specs.Plan.{Plan}
+use Rattle.cf_chart.specs.Common.{Plan}
 use Rattle.cf_chart.specs.declared.rows.Fund.{Fund}
 use Rattle.cf_chart.specs.declared.rows.RevenueKind.{RevenueKind}
 use Rattle.cf_chart.specs.declared.rows.RevenueKind.TheVariants as kind

@@ -1,9 +1,9 @@
 -- A month's interest on a small pool, worked by hand: what the definitions say of it is computed
 -- by the checker.
 use Rattle.std.specs.Prelude.{◌≡◌, ℕ, ℤ, pos, negsuc, List, [], ◌∷◌, ◌++◌, None, codes}
-use Rattle.cf_base.specs.Shares.{AreShares}
+use Rattle.cf_base.specs.Common.{AreShares}
 use Rattle.cf_base.specs.declared.calendar.Month.{Month}
-use Rattle.cf_chart.specs.Plan.{Plan}
+use Rattle.cf_chart.specs.Common.{Plan}
 use Rattle.cf_chart.specs.declared.rows.Fund.{Fund}
 use Rattle.cf_chart.specs.declared.rows.FundType.TheVariants.{General}
 use Rattle.cf_chart.specs.declared.rows.Level.TheVariants as level

@@ -1,11 +1,9 @@
 //! The receipts of a month's interest.
 ghost use Rattle.std.specs.Prelude.{◌≡◌, ◌<◌, ◌≤◌, ◌^◌, ◌++◌, true, List, IfOk, OnOk, length, sum, string_bytes, option_copied};
 ghost use Rattle.std.specs.List.{list_all};
-ghost use Rattle.cf_base.specs.Calendar.{is_call_month};
-ghost use Rattle.cf_base.specs.Limits.{last_year};
-ghost use Rattle.cf_base.specs.Shares.{AreShares};
+ghost use Rattle.cf_base.specs.Common.{is_call_month, last_year, AreShares};
 ghost use Rattle.cf_base.specs.declared.calendar.Month.{Month};
-ghost use Rattle.cf_chart.specs.Plan.{Plan};
+ghost use Rattle.cf_chart.specs.Common.{Plan};
 ghost use Rattle.cf_json_members.specs.Parts.{is_plain};
 ghost use Rattle.cf_pool.specs.Keys.{pieces};
 ghost use Rattle.cf_pool.specs.Balances.{sizes};

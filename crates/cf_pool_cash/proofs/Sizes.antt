@@ -1,16 +1,12 @@
 -- The sizes of a history's movements of cash.
 use Rattle.std.proofs.Common.{◌≡◌, ℕ, ◌+◌, ◌^◌, ◌<◌, ◌≤◌, ◌==◌, Bool, true, false, if◌then◌else◌, List, [], ◌∷◌, ◌++◌, length, unsigned_abs, arith}
-use Rattle.std.proofs.lemmas.List.Sums.{sum_by-cons, sum_by-append}
-use Rattle.cf_base.specs.declared.calendar.Day.{Day}
-use Rattle.cf_calls.specs.declared.entry.Entry.{Entry}
+use Rattle.cf_base.proofs.Common.{sum_by-cons, sum_by-append}
+use Rattle.cf_model.specs.Common.{Day, Entry, act_posts, posts_after, Registers, registers_step, no_registers, IsSoundState}
 use Rattle.cf_calls.specs.declared.read.Basis.TheVariants.{Fund as FundBasis}
-use Rattle.cf_chart.specs.Plan.{Plan}
+use Rattle.cf_chart.specs.Common.{Plan}
 use Rattle.cf_ledger.specs.declared.post.Post.{Post}
 use Rattle.cf_ledger.specs.Posts.{sizes}
-use Rattle.cf_model.specs.Postings.{act_posts, posts_after}
-use Rattle.cf_model.specs.Registers.{Registers, registers_step, no_registers}
-use Rattle.cf_model.specs.State.{IsSoundState}
-use Rattle.cf_model.proofs.Sized.{posts_small}
+use Rattle.cf_model.proofs.Common.{posts_small}
 use Rattle.cf_journal_book.specs.Watching.{posted_after}
 use Rattle.cf_pool.specs.declared.days.CashMove.{CashMove}
 use Rattle.cf_pool.specs.Balances.{sizes as move_sizes}

@@ -1,9 +1,8 @@
 -- The movements of funds' cash in a history: its fund posts on cash, each on the day of its entry.
 use Rattle.std.specs.Prelude.{◌==◌, if◌then◌else◌, List, [], ◌∷◌, ◌++◌}
-use Rattle.cf_base.specs.declared.calendar.Day.{Day}
+use Rattle.cf_model.specs.Common.{Day, Entry}
 use Rattle.cf_journal_book.specs.Watching.{Posted, all_posted}
-use Rattle.cf_calls.specs.declared.entry.Entry.{Entry}
-use Rattle.cf_chart.specs.Plan.{Plan}
+use Rattle.cf_chart.specs.Common.{Plan}
 use Rattle.cf_ledger.specs.declared.post.Post.{Post}
 use Rattle.cf_pool.specs.declared.days.CashMove.{CashMove}
 use Rattle.cf_post.specs.Accounts as account

@@ -1,9 +1,8 @@
 -- The change of leave in a year.
 use Rattle.std.proofs.Common.{◌≡◌, ℕ, ◌-◌, ◌≤◌, if◌then◌else◌, ◌==◌, List, ℤ, pos, ◌+ℤ◌, ◌-ℤ◌, arith}
-use Rattle.std.proofs.lemmas.Int.{ints}
-use Rattle.cf_model.specs.Leave.{LeaveChange, leave_through}
-use Rattle.cf_model.specs.Sums.{int_sum}
-use Rattle.cf_model.proofs.ChangeRows.{leave_rows}
+use Rattle.cf_base.proofs.Common.{ints}
+use Rattle.cf_model.specs.Common.{LeaveChange, leave_through, int_sum}
+use Rattle.cf_model.proofs.Common.{leave_rows}
 
 -- what is left through the year before, less what is left through the year
 pub leave_change : (year : ℕ) (changes : List LeaveChange) → 1 ≤ year →

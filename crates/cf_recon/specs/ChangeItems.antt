@@ -1,10 +1,8 @@
 -- The items between the change in fund balances and the change in net position.
 use Rattle.std.specs.Prelude.{ℕ, ◌-◌, ℤ, ◌-ℤ◌, List}
-use Rattle.cf_calls.specs.declared.entry.Entry.{Entry}
-use Rattle.cf_chart.specs.Plan.{Plan}
+use Rattle.cf_model.specs.Common.{Entry, fund_balances, net_position, Registers, registers_of}
+use Rattle.cf_chart.specs.Common.{Plan}
 use Rattle.cf_model.specs.Changes as model
-use Rattle.cf_model.specs.Items.{fund_balances, net_position}
-use Rattle.cf_model.specs.Registers.{Registers, registers_of}
 use Rattle.cf_recon.specs.declared.changes.Changes.{Changes}
 
 -- the changes of a year, given that in fund balances and that in net position

@@ -2,7 +2,7 @@
 use Rattle.std.specs.Prelude.{◌≡◌}
 use Rattle.cf_assets.specs.Register.{Register as Assets, IsOf}
 use Rattle.cf_debt.specs.Register.{Register as Debt, debts_of}
-use Rattle.cf_model.specs.Registers.{Registers}
+use Rattle.cf_model.specs.Common.{Registers}
 use Rattle.cf_revenue.specs.Register.{Register as Revenue}
 
 -- these are the registers' parts

@@ -1,7 +1,7 @@
 -- The rows of both statements.
 use Rattle.std.specs.Prelude.{ℕ, List, ℤ}
 use Rattle.std.specs.Borrow.{Bor}
-use Rattle.cf_calls.specs.declared.reply.Row.{Row}
+use Rattle.cf_model.specs.Common.{Row}
 use Rattle.cf_model.specs.Changes as model
 use Rattle.cf_model.specs.Report as report
 use Rattle.cf_recon.specs.declared.changes.Changes.{Changes}

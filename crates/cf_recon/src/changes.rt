@@ -1,11 +1,11 @@
 //! The items between the change in fund balances and the change in net position.
 
 ghost use Rattle.std.specs.Prelude.{◌≡◌, ◌<◌, ◌^◌, ◌-ℤ◌, ◌-◌, unsigned_abs};
-ghost use Rattle.cf_calls.specs.declared.read.Basis.TheVariants.{Fund as OnFund, Gov as OnGov};
-ghost use Rattle.cf_calls.specs.Form.{IsYear};
+ghost use Rattle.cf_model.specs.Common.{Gov as OnGov, Registers};
+ghost use Rattle.cf_calls.specs.declared.read.Basis.TheVariants.{Fund as OnFund};
+ghost use Rattle.cf_calls.specs.Common.{IsYear};
 ghost use Rattle.cf_ledger.specs.Books.{posts_of};
 ghost use Rattle.cf_ledger.specs.Posts.{total};
-ghost use Rattle.cf_model.specs.Registers.{Registers};
 ghost use Rattle.cf_recon.specs.Registers.{AreOf};
 ghost use Rattle.cf_recon.specs.ChangeItems.{changes_between};
 

@@ -2,13 +2,12 @@
 
 ghost use Rattle.std.specs.List.{AllByRecursion};
 ghost use Rattle.std.specs.Prelude.{◌≡◌, ◌<◌, ◌^◌, ◌-ℤ◌, pos, unsigned_abs};
-ghost use Rattle.cf_calls.specs.declared.read.Basis.TheVariants.{Fund as OnFund, Gov as OnGov};
-ghost use Rattle.cf_calls.specs.Form.{IsYear};
+ghost use Rattle.cf_model.specs.Common.{Gov as OnGov, Registers, recon_between};
+ghost use Rattle.cf_calls.specs.declared.read.Basis.TheVariants.{Fund as OnFund};
+ghost use Rattle.cf_calls.specs.Common.{IsYear};
 ghost use Rattle.cf_ledger.specs.Books.{posts_of};
 ghost use Rattle.cf_ledger.specs.Posts.{total};
-ghost use Rattle.cf_model.proofs.Depreciated.{IsSoundAsset};
-ghost use Rattle.cf_model.specs.Registers.{Registers};
-ghost use Rattle.cf_model.specs.ReconShown.{recon_between};
+ghost use Rattle.cf_model.proofs.Common.{IsSoundAsset};
 ghost use Rattle.cf_recon.specs.Registers.{AreOf};
 
 use cf_assets::Assets;

@@ -1,7 +1,7 @@
 //! The rows of both statements.
 
 ghost use Rattle.std.specs.Prelude.{◌≡◌, map, IfOk};
-ghost use Rattle.cf_model.specs.Report.{recon_rows as recon_table};
+ghost use Rattle.cf_model.specs.Common.{recon_rows as recon_table};
 ghost use Rattle.cf_recon.specs.Rows.{row_of, change_rows as change_table};
 ghost use Rattle.cf_statements.specs.Sums.{single};
 

@@ -1,6 +1,6 @@
 -- Acts by their kind.
 use Rattle.std.proofs.Common.{◌≡◌}
-use Rattle.cf_calls.specs.declared.acts.Act.{Act}
+use Rattle.cf_model.specs.Common.{Act}
 
 -- an act of one kind
 abbrev pub Is : {X : Type 0} → (X → Act) → Act → Type 0

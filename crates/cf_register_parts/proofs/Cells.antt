@@ -1,8 +1,6 @@
 -- What the cells of the years have.
 use Rattle.std.proofs.Common.{◌≡◌, ◌⊎◌, inl, inr, ℕ, zero, suc, ◌+◌, ◌-◌, ◌*◌, ◌<◌, ◌≤◌, Bool, true, false, ◌==◌, List, take, set, get_or, sum, refl, sym, ap, ◌∙◌, arith}
-use Rattle.std.proofs.lemmas.Bool.Decides.{eqb_tells}
-use Rattle.std.proofs.lemmas.List.{length-set, length-replicate, get_or-replicate, get_or-set_same, get_or-set_other, take_all}
-use Rattle.std.proofs.lemmas.List.Sums.{sum_by_more}
+use Rattle.cf_base.proofs.Common.{eqb_tells, length-set, length-replicate, get_or-replicate, get_or-set_same, get_or-set_other, take_all, sum_by_more}
 use Rattle.cf_register_parts.specs.Years.{AreYears, cell_of, with_cell, no_years, sum_to}
 
 -- a year's cell, as a place of the list

@@ -1,12 +1,6 @@
 -- Tables that differ at two numbers.
-use Rattle.std.proofs.Common.{◌≡◌, ℕ, Bool, true, false, if◌then◌else◌, ◌==◌, ◌&&◌, Option, Some, None, is_some, refl, sym, ap, ◌∙◌, arith}
-use Rattle.std.specs.Prelude.{unwrap_or}
-use Rattle.std.proofs.lemmas.Grind.{common_steps}
-use Rattle.std.specs.Ordering.{nat_cmp, ordering_then, is_eq}
-use Rattle.std.specs.declared.cmp.Ordering.{Ordering}
-use Rattle.std.specs.declared.cmp.Ordering.TheVariants.{Less, Equal, Greater}
-use Rattle.std.specs.BTreeMap.{is_at}
-use Rattle.std.proofs.lemmas.Map.Lookups.{CmpEqualImpliesEq, exact_pairs, exact_unsigned}
+use Rattle.std.proofs.Common.{◌≡◌, ℕ, Bool, true, false, if◌then◌else◌, ◌==◌, ◌&&◌, Option, Some, None, is_some, refl, sym, ap, ◌∙◌, arith, unwrap_or, nat_cmp, is_eq, Ordering, Less, Equal, Greater}
+use Rattle.cf_base.proofs.Common.{common_steps, ordering_then, is_at, CmpEqualImpliesEq, exact_pairs, exact_unsigned}
 use Rattle.cf_register_parts.specs.declared.pairs.NumberPair.{NumberPair}
 use Rattle.cf_register_parts.specs.Pairs.{Pairs, pair_cmp, value_where, value_of, PutsValue, PutsAmount, KeepsValues, ReadsSame}
 

@@ -1,7 +1,6 @@
 -- Sums of the first so many years, and of the years up to a year.
 use Rattle.std.proofs.Common.{◌≡◌, ℕ, zero, suc, ◌+◌, ◌-◌, ◌<◌, if◌then◌else◌, nat_lt, List, [], ◌∷◌, length, take, set, get_or, sum, sym, ap, ◌∙◌, arith}
-use Rattle.std.proofs.lemmas.Bool.Decides.{nat_tests}
-use Rattle.std.proofs.lemmas.List.Sums.{sum_by-cons}
+use Rattle.cf_base.proofs.Common.{nat_tests, sum_by-cons}
 
 abbrev self : ℕ → ℕ
 self x = x

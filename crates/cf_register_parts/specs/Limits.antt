@@ -1,6 +1,6 @@
 -- What all entries of a history can come to, whatever they are.
 use Rattle.std.specs.Prelude.{ℕ, ◌*◌}
-use Rattle.cf_base.specs.Limits.{most_entries, most_cents}
+use Rattle.cf_base.specs.Common.{most_entries, most_cents}
 
 -- the most items that vouchers have, at 32 an entry
 abbrev pub most_items : ℕ

@@ -1,9 +1,8 @@
 //! The fiscal years of days and of documents (GASB Codification 1700: the fiscal period).
 
 ghost use Rattle.std.specs.Prelude.{◌≡◌, ◌≤◌, true};
-ghost use Rattle.cf_base.specs.Calendar.{is_day};
-ghost use Rattle.cf_base.specs.Limits.{last_fiscal_year};
-ghost use Rattle.cf_calls.specs.Form.{IsActInForm};
+ghost use Rattle.cf_base.specs.Common.{is_day, last_fiscal_year};
+ghost use Rattle.cf_calls.specs.Common.{IsActInForm};
 ghost use Rattle.cf_model.specs.Calendar as calendar;
 
 use cf_base::{Day, Month, fiscal_year, month_of};

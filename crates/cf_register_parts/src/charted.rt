@@ -1,7 +1,7 @@
 //! What a chart says of an object, a department, a revenue source and a fund.
 
 ghost use Rattle.std.specs.Prelude.{◌≡◌};
-ghost use Rattle.cf_chart.specs.Plan.{fund_at, object_at, source_at, is_capital_kind, is_spending_kind};
+ghost use Rattle.cf_chart.specs.Common.{fund_at, object_at, source_at, is_capital_kind, is_spending_kind};
 ghost use Rattle.cf_model.specs.Assets as assets;
 ghost use Rattle.cf_model.specs.Charted as charted;
 ghost use Rattle.cf_model.specs.OrderItems as order_items;

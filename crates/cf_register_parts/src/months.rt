@@ -1,11 +1,10 @@
 //! Months by number, from the first month of the chart's first fiscal year.
 
 ghost use Rattle.std.specs.Prelude.{◌≡◌, ◌≤◌, ◌+◌, ◌-◌, ℕ, nat_lt, true};
-ghost use Rattle.cf_calls.specs.Form.{IsCallMonth, month_number};
-ghost use Rattle.cf_base.specs.Calendar.{is_day};
-ghost use Rattle.cf_base.specs.Limits.{last_fiscal_year, last_year};
+ghost use Rattle.cf_calls.specs.Common.{IsCallMonth, month_number};
+ghost use Rattle.cf_base.specs.Common.{is_day, last_fiscal_year, last_year};
 ghost use Rattle.cf_model.specs.Months as spec;
-ghost use Rattle.cf_model.specs.RegisterRules.{month_at as spec_month_at};
+ghost use Rattle.cf_model.specs.Common.{month_at as spec_month_at};
 
 use cf_base::{Day, Month};
 use cf_chart::Chart;

@@ -2,7 +2,7 @@
 //! years from its first.
 
 ghost use Rattle.std.specs.Prelude.{◌≡◌, ◌≤◌, ◌<◌, ◌+◌, ◌-◌, ◌^◌, ℕ, sum, set, slice_index_or, nat_lt, nat_le, if◌then◌else◌};
-ghost use Rattle.cf_base.specs.Limits.{last_fiscal_year};
+ghost use Rattle.cf_base.specs.Common.{last_fiscal_year};
 ghost use Rattle.cf_register_parts.specs.Years as spec;
 ghost use Rattle.cf_register_parts.specs.Years.{cell_of, with_cell, sum_of, sum_through};
 

@@ -1,11 +1,7 @@
 -- A voucher draws an asset for each of its items on a capital object.
-use Rattle.std.proofs.Common.{◌≡◌, ℕ, suc, ◌+◌, Bool, true, false, if◌then◌else◌, List, [], ◌∷◌, length, refl, ap}
-use Rattle.std.specs.List.{filter}
-use Rattle.cf_base.specs.declared.calendar.Day.{Day}
-use Rattle.cf_calls.specs.declared.items.VoucherItem.{VoucherItem}
-use Rattle.cf_chart.specs.Plan.{Plan, object_at}
-use Rattle.cf_model.specs.Assets.{bought, life_of, new_asset, purchase}
-use Rattle.cf_model.specs.Charted.{is_capital}
+use Rattle.std.proofs.Common.{◌≡◌, ℕ, suc, ◌+◌, Bool, true, false, if◌then◌else◌, List, [], ◌∷◌, length, refl, ap, filter}
+use Rattle.cf_model.specs.Common.{Day, VoucherItem, bought, life_of, new_asset, purchase, is_capital}
+use Rattle.cf_chart.specs.Common.{Plan, object_at}
 
 pub bought_length : (plan : Plan) (voucher : ℕ) (on : Day) (year number : ℕ) (items : List VoucherItem) →
     length (bought plan voucher on year number items) ≡ length (filter (λ i. is_capital (object_at plan i.account.object)) items)

@@ -1,36 +1,12 @@
 -- An act that the rules on documents allow over a legal history is cleared: its moves lie within
 -- the years that have numbers.
-use Rattle.std.proofs.Common.{◌≡◌, ℕ, ◌<◌, Bool, true, false, if◌then◌else◌, ◌==◌, List, [], ◌∷◌, ◌++◌, map, Some, None, subst, sym}
-use Rattle.std.specs.List.{filter, AllByRecursion}
-use Rattle.cf_base.specs.declared.calendar.Day.{Day}
-use Rattle.cf_base.specs.Calendar.{is_day}
-use Rattle.cf_calls.specs.declared.acts.Act.{Act}
-use Rattle.cf_calls.specs.declared.acts.Act.TheVariants.{Requisition, Withdraw, Order, ChangeOrder, CancelOrder, Voucher, VoidVoucher, PayDue, Leave, Lease}
-use Rattle.cf_calls.specs.declared.entry.Entry.{Entry}
-use Rattle.cf_calls.specs.declared.items.AccountItem.{AccountItem}
-use Rattle.cf_calls.specs.declared.items.Charge.{Charge}
-use Rattle.cf_calls.specs.declared.items.Charge.TheVariants.{Direct, OnOrder}
-use Rattle.cf_calls.specs.Form.{is_distinct, IsActInForm}
-use Rattle.cf_chart.specs.Plan.{Plan}
-use Rattle.cf_model.specs.Calendar.{document_year}
-use Rattle.cf_model.specs.DocumentRules.{document_rules, document_refusal, on_order_refusal}
-use Rattle.cf_model.specs.Documents.{Hold, Expenditure, Documents, documents_of, is_number}
-use Rattle.cf_model.specs.Moves.{Move, document_moves, spending_move, hold_move, release_move, order_move, item_move, spend_move, unspend_move, charge_move, reopen_move, move_if, charged_item, spent_by}
-use Rattle.cf_model.specs.OrderItems.{OrderItem, is_named, item_named, item_step}
-use Rattle.cf_model.specs.Registers.{Registers, registers_of}
-use Rattle.cf_model.specs.Spendings.{Spending, spendings_by}
-use Rattle.cf_model.specs.Step.{IsLegal}
-use Rattle.cf_model.specs.Results.{document_number}
-use Rattle.cf_model.proofs.BondNumbers.{bonds_named}
-use Rattle.cf_model.proofs.First.{AllNone, first_of_none}
-use Rattle.cf_model.proofs.Holdings.{are_timely}
-use Rattle.cf_model.proofs.MonthNumbers.{HasCalendar}
-use Rattle.cf_model.proofs.Pushes.{documents_are}
-use Rattle.cf_model.proofs.SpendingBounds.{spendings_within}
-use Rattle.cf_model.specs.Stripes.{touches}
-use Rattle.cf_model.proofs.Tidy.{IsTidy, all_map, same_place, tidy_always}
-use Rattle.cf_model.proofs.Touched.{IsOut, IsSpentOut, documents_out, spendings_out}
-use Rattle.cf_model.proofs.Years.{document_within}
+use Rattle.std.proofs.Common.{◌≡◌, ℕ, ◌<◌, Bool, true, false, if◌then◌else◌, ◌==◌, List, [], ◌∷◌, ◌++◌, map, Some, None, subst, sym, filter}
+use Rattle.cf_base.proofs.Common.{AllByRecursion}
+use Rattle.cf_model.specs.Common.{Day, Act, Requisition, Withdraw, Order, ChangeOrder, CancelOrder, Voucher, VoidVoucher, PayDue, Leave, Lease, Entry, AccountItem, Charge, Direct, OnOrder, document_year, document_rules, document_refusal, on_order_refusal, Hold, Expenditure, Documents, documents_of, is_number, Move, document_moves, spending_move, hold_move, release_move, order_move, item_move, spend_move, unspend_move, charge_move, reopen_move, move_if, charged_item, spent_by, OrderItem, is_named, item_named, item_step, Registers, registers_of, Spending, spendings_by, IsLegal, document_number, touches}
+use Rattle.cf_base.specs.Common.{is_day}
+use Rattle.cf_calls.specs.Common.{is_distinct, IsActInForm}
+use Rattle.cf_chart.specs.Common.{Plan}
+use Rattle.cf_model.proofs.Common.{bonds_named, AllNone, first_of_none, are_timely, HasCalendar, documents_are, spendings_within, IsTidy, all_map, same_place, tidy_always, IsOut, IsSpentOut, documents_out, spendings_out, document_within}
 use Rattle.cf_registers.specs.Moved.{IsCleared, act_moves}
 
 abbrev IsWithin : Move → Type 0

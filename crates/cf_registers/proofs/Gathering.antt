@@ -1,6 +1,6 @@
 -- Deeds of the functions of a chart, gathered one after another.
 use Rattle.std.proofs.Common.{◌≡◌, ℕ, ◌+◌, ◌<◌, List, [], ◌∷◌, ◌++◌, length, map, take, get_or, sym, ap, ◌∙◌, append_assoc}
-use Rattle.std.proofs.lemmas.List.{map_more}
+use Rattle.cf_base.proofs.Common.{map_more}
 
 -- one deed more
 pub one_more : {A B : Type 0} (f : A → B) (old items new : List B) (xs : List A) (k : ℕ) (x : A) (y : B) → k < length xs → new ≡ items ++ y ∷ [] → items ≡ old ++ map f (take k xs) → get_or xs k x ≡ x → y ≡ f x →

@@ -1,23 +1,11 @@
 -- What is lent where the stripes are lent that an act touches.
-use Rattle.std.proofs.Common.{◌≡◌, ℕ, zero, suc, Bool, true, false, ◌==◌, ◌||◌, ◌&&◌, List, [], ◌∷◌, Option, Some, option_map, slice_get, IfSome, refl, sym, subst, ap, arith, ◌∙◌}
-use Rattle.std.specs.List.{All, list_all, list_any}
-use Rattle.std.proofs.lemmas.Grind.{common_steps}
-use Rattle.std.proofs.lemmas.List.Sums.{AllPass-from_list_all}
-use Rattle.cf_calls.specs.declared.acts.Act.{Act}
-use Rattle.cf_calls.specs.declared.acts.Act.TheVariants.{Adopt, Amend, Transfer, Close}
-use Rattle.cf_calls.specs.declared.acts.Adoption.{Adoption}
-use Rattle.cf_calls.specs.declared.acts.Amendment.{Amendment}
-use Rattle.cf_calls.specs.declared.acts.LineTransfer.{LineTransfer}
-use Rattle.cf_calls.specs.declared.items.AccountItem.{AccountItem}
-use Rattle.cf_calls.specs.declared.items.LineAmount.{LineAmount}
-use Rattle.cf_calls.specs.Acts.{adoption_of, amendment_of, transfer_of}
-use Rattle.cf_chart.specs.Plan.{Plan, line_of}
+use Rattle.std.proofs.Common.{◌≡◌, ℕ, zero, suc, Bool, true, false, ◌==◌, ◌||◌, ◌&&◌, List, [], ◌∷◌, Option, Some, option_map, slice_get, IfSome, refl, sym, subst, ap, arith, ◌∙◌, All}
+use Rattle.cf_base.proofs.Common.{list_all, list_any, common_steps, AllPass-from_list_all}
+use Rattle.cf_model.specs.Common.{Act, Adopt, Amend, Transfer, Close, Adoption, Amendment, LineTransfer, AccountItem, LineAmount, rolled_year, is_line, Move, stripe_of, is_item_in, touches}
+use Rattle.cf_calls.specs.Common.{adoption_of, amendment_of, transfer_of}
+use Rattle.cf_chart.specs.Common.{Plan, line_of}
 use Rattle.cf_budget.specs.declared.changes.LineChange.{LineChange}
-use Rattle.cf_model.specs.Calendar.{rolled_year}
-use Rattle.cf_model.specs.LineNumbers.{is_line}
-use Rattle.cf_model.specs.Moves.{Move}
-use Rattle.cf_model.specs.Stripes.{stripe_of, is_item_in, touches}
-use Rattle.cf_model.proofs.Touched.{off_line}
+use Rattle.cf_model.proofs.Common.{off_line}
 use Rattle.cf_orders.specs.declared.moves.LineMove.{LineMove}
 use Rattle.cf_orders.specs.Register.{line_move}
 use Rattle.cf_registers.specs.Lines.{LendsTouched, LendsAccount}

@@ -1,20 +1,15 @@
 -- What the first moves of an act change, one move more.
-use Rattle.std.proofs.Common.{◌≡◌, inl, inr, ℕ, ◌+◌, ◌*◌, ◌^◌, ◌<◌, ◌≤◌, Bool, true, false, if◌then◌else◌, List, [], ◌∷◌, length, take, get_or, Option, Some, None, option_map, slice_get, IfSome, ℤ, pos, negsuc, ◌+ℤ◌, ◌-ℤ◌, ◌≤ℤ◌, unsigned_abs, FitsSigned, refl, sym, ap, subst, ◌∙◌, arith}
-use Rattle.std.specs.Int.{w128}
-use Rattle.std.specs.List.{All, list_all}
-use Rattle.std.proofs.lemmas.Int.{ints}
-use Rattle.std.proofs.lemmas.List.{take_more}
-use Rattle.std.proofs.lemmas.Option.{slice_get_cases}
-use Rattle.cf_calls.specs.Form.{is_distinct}
-use Rattle.cf_chart.specs.Plan.{Plan}
+use Rattle.std.proofs.Common.{◌≡◌, inl, inr, ℕ, ◌+◌, ◌*◌, ◌^◌, ◌<◌, ◌≤◌, Bool, true, false, if◌then◌else◌, List, [], ◌∷◌, length, take, get_or, Option, Some, None, option_map, slice_get, IfSome, ℤ, pos, negsuc, ◌+ℤ◌, ◌-ℤ◌, ◌≤ℤ◌, unsigned_abs, FitsSigned, refl, sym, ap, subst, ◌∙◌, arith, All}
+use Rattle.cf_base.proofs.Common.{w128, list_all, ints, take_more, slice_get_cases}
+use Rattle.cf_calls.specs.Common.{is_distinct}
+use Rattle.cf_chart.specs.Common.{Plan}
 use Rattle.cf_budget.specs.declared.changes.LineChange.{LineChange}
 use Rattle.cf_budget.specs.declared.row.Row.{Row}
 use Rattle.cf_budget.specs.Changes.{changes_at, same_place}
 use Rattle.cf_budget.specs.Tables.{row_plus, zero_row, AreHeld}
 use Rattle.cf_budget.proofs.Merges.{only_at}
-use Rattle.cf_model.specs.LineNumbers.{counts}
-use Rattle.cf_model.specs.Moves.{Move}
-use Rattle.cf_model.proofs.Moved.{moved_append}
+use Rattle.cf_model.specs.Common.{counts, Move}
+use Rattle.cf_model.proofs.Common.{moved_append}
 use Rattle.cf_orders.specs.declared.moves.LineMove.{LineMove}
 use Rattle.cf_orders.specs.Register.{line_move, IsSmall}
 use Rattle.cf_registers.specs.Moved.{Make, is_inside, move_row, moves_row, row_if, IsSmallSum, AreSmallSums}

@@ -1,34 +1,17 @@
 -- The changes of each kind of entry make what the entry changes.
 use Rattle.std.proofs.Common.{◌≡◌, ◌≢◌, ℕ, ◌+◌, ◌<◌, Bool, true, false, not, if◌then◌else◌, ◌==◌, ◌&&◌, ◌||◌, nat_lt, List, [], ◌∷◌, ◌++◌, length, map, Option, Some, None, ℤ, pos, negsuc, ◌+ℤ◌, ◌-ℤ◌, refl, sym, ap, subst, ◌∙◌, arith}
-use Rattle.std.specs.List.{list_any, list_all}
-use Rattle.std.proofs.lemmas.Grind.{common_steps}
-use Rattle.std.proofs.lemmas.Int.{ints}
-use Rattle.std.proofs.lemmas.Option.{slice_get_within}
-use Rattle.std.proofs.lemmas.List.Sums.{sum_by-cons}
-use Rattle.cf_base.specs.declared.calendar.Day.{Day}
-use Rattle.cf_calls.specs.declared.acts.Act.{Act}
-use Rattle.cf_calls.specs.declared.acts.Act.TheVariants.{Adopt, Amend, Transfer}
-use Rattle.cf_calls.specs.declared.acts.Adoption.{Adoption}
-use Rattle.cf_calls.specs.declared.acts.Amendment.{Amendment}
-use Rattle.cf_calls.specs.declared.acts.LineTransfer.{LineTransfer}
-use Rattle.cf_calls.specs.declared.items.LineAmount.{LineAmount}
-use Rattle.cf_calls.specs.Acts.{adoption_of, amendment_of, transfer_of}
-use Rattle.cf_calls.specs.Form.{is_distinct, same_line, IsActInForm, IsAdoptionForm, IsYear}
+use Rattle.cf_base.proofs.Common.{list_any, list_all, common_steps, ints, slice_get_within, sum_by-cons}
+use Rattle.cf_model.specs.Common.{Day, Act, Adopt, Amend, Transfer, Adoption, Amendment, LineTransfer, LineAmount, Line, Documents, adopted_by, added_by, removed_by, amount_for, rise_of, fall_of, Name, name_refusal, unknown, line_name, fund_name, is_line_of, first_refusal, or_else, Registers}
+use Rattle.cf_calls.specs.Common.{adoption_of, amendment_of, transfer_of, is_distinct, same_line, IsActInForm, IsAdoptionForm, IsYear}
 use Rattle.cf_calls.specs.declared.names.NameKind.TheVariants as kind
 use Rattle.cf_calls.specs.declared.refusal.Refusal.TheVariants as refusal
-use Rattle.cf_chart.specs.declared.rows.Line.{Line}
-use Rattle.cf_chart.specs.Plan.{Plan, line_at}
+use Rattle.cf_chart.specs.Common.{Plan, line_at}
 use Rattle.cf_budget.specs.declared.changes.LineChange.{LineChange}
 use Rattle.cf_budget.specs.declared.row.Row.{Row}
 use Rattle.cf_budget.specs.Changes.{changes_at, same_place}
 use Rattle.cf_budget.specs.Tables.{row_plus, zero_row, adopt_row, amend_row}
 use Rattle.cf_budget.proofs.Rows.{plus_zero, zero_plus}
-use Rattle.cf_model.specs.Documents.{Documents}
-use Rattle.cf_model.specs.LineNumbers.{adopted_by, added_by, removed_by, amount_for, rise_of, fall_of}
-use Rattle.cf_model.specs.Rules.{Name, name_refusal, unknown, line_name, fund_name, is_line_of, first_refusal, or_else}
-use Rattle.cf_model.specs.Registers.{Registers}
-use Rattle.cf_model.proofs.Asked.{amended_line}
-use Rattle.cf_model.proofs.First.{or_else_none, refuse_none}
+use Rattle.cf_model.proofs.Common.{amended_line, or_else_none, refuse_none}
 use Rattle.cf_registers.specs.Moved.{Make, plainly_moved, act_moves, moves_row, is_inside, change_of, adoption_changes, amendment_changes, transfer_changes}
 
 -- what an act of the council changes, which moves no document

@@ -1,44 +1,15 @@
 -- What the registers need to take an accepted entry in, and what they become.
-use Rattle.std.proofs.Common.{◌≡◌, ◌⊎◌, inl, inr, ℕ, suc, ◌+◌, ◌<◌, ◌≤◌, Bool, true, false, not, ◌==◌, nat_lt, is_some, List, [], ◌∷◌, ◌++◌, length, None, refl, sym, subst, ◌∙◌, ap, arith}
-use Rattle.std.specs.List.{filter}
-use Rattle.std.proofs.lemmas.Bool.Decides.{leb_tells}
-use Rattle.cf_base.specs.declared.calendar.Day.{Day}
-use Rattle.cf_calls.specs.declared.acts.Act.{Act}
-use Rattle.cf_calls.specs.declared.acts.Act.TheVariants.{Requisition, Order, Voucher, VoidVoucher, Bill, Asset, Issue, PayDue, Close, Lease}
-use Rattle.cf_calls.specs.declared.acts.AssetAct.TheVariants.{Donate, Dispose}
-use Rattle.cf_calls.specs.declared.entry.Drawn.{Drawn}
-use Rattle.cf_calls.specs.declared.entry.Entry.{Entry}
+use Rattle.std.proofs.Common.{◌≡◌, ◌⊎◌, inl, inr, ℕ, suc, ◌+◌, ◌<◌, ◌≤◌, Bool, true, false, not, ◌==◌, nat_lt, is_some, List, [], ◌∷◌, ◌++◌, length, None, refl, sym, subst, ◌∙◌, ap, arith, filter}
+use Rattle.cf_base.proofs.Common.{leb_tells}
+use Rattle.cf_model.specs.Common.{Day, Act, Requisition, Order, Voucher, VoidVoucher, Issue, PayDue, Close, Lease, Donate, Dispose, Drawn, Entry, Made, document_year, open_year, rolled_year, year_of_day, document_refusal, Documents, documents_of, is_number, number_of_day, moves_of, receivable_refusal, Receivables, asset_refusal, debt_refusal, disposed_asset, voided_asset, levy_refusal, payment_year, register_name_refusal, unknown_bond, unknown_payment, Registers, registers_of, registers_step, no_registers, bond_at, draws, made_of, payment_number, results_of, closed_refusal, closed_year, first_refusal, or_else, Adds, IsLegal, Asset as CapitalAsset, voucher_of, Bond}
+use Rattle.cf_calls.specs.declared.acts.Act.TheVariants.{Bill, Asset}
 use Rattle.cf_calls.specs.declared.names.NameKind.TheVariants as kind
 use Rattle.cf_calls.specs.declared.refusal.Refusal.TheVariants as refusal
-use Rattle.cf_calls.specs.declared.reply.Made.{Made}
-use Rattle.cf_chart.specs.Plan.{Plan}
-use Rattle.cf_model.specs.Calendar.{document_year, open_year, rolled_year, year_of_day}
-use Rattle.cf_model.specs.DocumentRules.{document_refusal}
-use Rattle.cf_model.specs.Documents.{Documents, documents_of, is_number}
-use Rattle.cf_model.specs.Months.{number_of_day}
-use Rattle.cf_model.specs.Moves.{moves_of}
-use Rattle.cf_model.specs.ReceivableRules.{receivable_refusal}
-use Rattle.cf_model.specs.Receivables.{Receivables}
-use Rattle.cf_model.specs.RegisterRules.{asset_refusal, debt_refusal, disposed_asset, voided_asset, levy_refusal, payment_year, register_name_refusal, unknown_bond, unknown_payment}
-use Rattle.cf_model.specs.Registers.{Registers, registers_of, registers_step, no_registers}
-use Rattle.cf_model.specs.Results.{bond_at, draws, made_of, payment_number, results_of}
-use Rattle.cf_model.specs.Rules.{closed_refusal, closed_year, first_refusal, or_else}
-use Rattle.cf_model.specs.Step.{Adds, IsLegal}
-use Rattle.cf_model.proofs.Accepted.{accepted, accepted_fits}
+use Rattle.cf_chart.specs.Common.{Plan}
+use Rattle.cf_model.proofs.Common.{accepted, accepted_fits, assets_named, bonds_named, years_are, unrolled_moves, or_else_none, refuse_none, IsWhole, closed_are, day_year_is, early, documents_are, registers_push, results_push}
 use Rattle.cf_debt.specs.Register.{IsEarlyIssue, IsThere, Debts}
 use Rattle.cf_debt.specs.Register as debt
 use Rattle.cf_assets.specs.Register as assets
-use Rattle.cf_model.specs.Assets.{Asset as CapitalAsset, voucher_of}
-use Rattle.cf_model.specs.Bonds.{Bond}
-use Rattle.cf_model.proofs.AssetNumbers.{assets_named}
-use Rattle.cf_model.proofs.BondNumbers.{bonds_named}
-use Rattle.cf_model.proofs.OpenYears.{years_are}
-use Rattle.cf_model.proofs.Changed.{unrolled_moves}
-use Rattle.cf_model.proofs.First.{or_else_none, refuse_none}
-use Rattle.cf_model.proofs.Lawful.{IsWhole}
-use Rattle.cf_model.proofs.LegalMonths.{closed_are}
-use Rattle.cf_model.proofs.MonthNumbers.{day_year_is, early}
-use Rattle.cf_model.proofs.Pushes.{documents_are, registers_push, results_push}
 use Rattle.cf_orders.specs.Register as orders
 use Rattle.cf_revenue.specs.Register as revenue
 use Rattle.cf_registers.specs.Moved.{IsCleared, act_moves}

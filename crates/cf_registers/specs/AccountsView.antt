@@ -1,5 +1,6 @@
 -- The accounts of a history as contracts see them.
-use Rattle.cf_calls.specs.declared.read.Basis.TheVariants.{Fund, Gov}
+use Rattle.cf_model.specs.Common.{Gov}
+use Rattle.cf_calls.specs.declared.read.Basis.TheVariants.{Fund}
 use Rattle.cf_ledger.specs.Books as books
 use Rattle.cf_registers.specs.AccountsState.{AccountsState}
 use Rattle.cf_registers.specs.declared.accounts.Accounts.TheInside.{Inside}

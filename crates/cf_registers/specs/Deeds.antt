@@ -1,9 +1,6 @@
 -- The account of a voucher's item, and what a close charges to a function.
 use Rattle.std.specs.Prelude.{ℕ, List}
-use Rattle.cf_calls.specs.declared.items.AccountItem.{AccountItem}
-use Rattle.cf_chart.specs.declared.rows.Function.{Function}
-use Rattle.cf_model.specs.Assets.{Asset}
-use Rattle.cf_model.specs.Deeds.{function_charge}
+use Rattle.cf_model.specs.Common.{AccountItem, Function, Asset, function_charge}
 use Rattle.cf_orders.specs.declared.spent.ExpendedItem.{ExpendedItem}
 use Rattle.cf_post.specs.declared.deed.Deed.{Deed}
 use Rattle.cf_post.specs.declared.deed.Deed.TheVariants as deed

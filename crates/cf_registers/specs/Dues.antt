@@ -1,10 +1,7 @@
 -- What a payment that is due takes of cash, and what payments, leave and leases spend of lines.
 use Rattle.std.specs.Prelude.{ℕ, ◌+◌, List, [], ◌∷◌, Option, Some, None}
-use Rattle.cf_calls.specs.declared.acts.DebtPayment.{DebtPayment}
-use Rattle.cf_calls.specs.declared.acts.LeaveMaturity.{LeaveMaturity}
-use Rattle.cf_calls.specs.declared.acts.NewLease.{NewLease}
+use Rattle.cf_model.specs.Common.{DebtPayment, LeaveMaturity, NewLease, Spending}
 use Rattle.cf_debt.specs.declared.debt.Due.{Due}
-use Rattle.cf_model.specs.Spendings.{Spending}
 
 -- its principal and its interest, and nothing where nothing is due
 abbrev pub due_amount : Option Due → ℕ

@@ -1,27 +1,15 @@
 -- What an entry changes of line numbers.
 use Rattle.std.specs.Prelude.{◌≡◌, ℕ, Bool, true, false, if◌then◌else◌, ◌==◌, ◌&&◌, nat_lt, ◌+◌, ◌<◌, List, [], ◌∷◌, length, map, Option, None, Some, ℤ, pos, ◌≤ℤ◌, ◌+ℤ◌, ◌-ℤ◌, option_to_list}
 use Rattle.std.specs.List.{filter, list_all, AllByRecursion}
-use Rattle.cf_base.specs.declared.calendar.Day.{Day}
-use Rattle.cf_base.specs.Calendar.{is_day}
-use Rattle.cf_calls.specs.declared.acts.Act.{Act}
-use Rattle.cf_calls.specs.declared.acts.Act.TheVariants.{PayDue, Leave, Lease}
-use Rattle.cf_calls.specs.declared.acts.Amendment.{Amendment}
-use Rattle.cf_calls.specs.declared.acts.LineTransfer.{LineTransfer}
-use Rattle.cf_calls.specs.declared.entry.Entry.{Entry}
-use Rattle.cf_calls.specs.declared.items.LineAmount.{LineAmount}
-use Rattle.cf_calls.specs.Form.{is_distinct, IsActInForm}
-use Rattle.cf_chart.specs.Plan.{Plan}
+use Rattle.cf_model.specs.Common.{Day, Act, PayDue, Leave, Lease, Amendment, LineTransfer, Entry, LineAmount, state_refusal, on_order_refusal, open_refusal, original, appropriated, encumbered, expended, adopted_by, added_by, removed_by, counts, Move, carried_by, document_moves, moved_sum, moves_of, spending_move, Registers, spendings_by, is_item_in, touches, bond_at, document_number, draws}
+use Rattle.cf_base.specs.Common.{is_day}
+use Rattle.cf_calls.specs.Common.{is_distinct, IsActInForm}
+use Rattle.cf_chart.specs.Common.{Plan}
 use Rattle.cf_budget.specs.declared.changes.LineChange.{LineChange}
 use Rattle.cf_budget.specs.declared.row.Row.{Row}
 use Rattle.cf_budget.specs.Changes.{changes_at, same_place}
 use Rattle.cf_budget.specs.Tables.{Tables, has_line, row_at, zero_row, adopt_row, amend_row}
-use Rattle.cf_model.specs.DocumentRules.{state_refusal, on_order_refusal, open_refusal}
-use Rattle.cf_model.specs.LineNumbers.{original, appropriated, held, encumbered, expended, adopted_by, added_by, removed_by, counts}
-use Rattle.cf_model.specs.Moves.{Move, carried_by, document_moves, moved_sum, moves_of, spending_move}
-use Rattle.cf_model.specs.Registers.{Registers}
-use Rattle.cf_model.specs.Spendings.{spendings_by}
-use Rattle.cf_model.specs.Stripes.{is_item_in, touches}
-use Rattle.cf_model.specs.Results.{bond_at, document_number, draws}
+use Rattle.cf_model.specs.LineNumbers.{held}
 use Rattle.cf_orders.specs.declared.moves.LineMove.{LineMove}
 
 -- the row of a line and year of a history

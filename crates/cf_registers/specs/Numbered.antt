@@ -1,11 +1,7 @@
 -- Numbers name at most one asset, and at most one bond.
 use Rattle.std.specs.Prelude.{◌≡◌, ℕ, ◌==◌, List, option_to_list}
 use Rattle.std.specs.List.{filter}
-use Rattle.cf_model.specs.Assets.{Asset}
-use Rattle.cf_model.specs.Bonds.{Bond}
-use Rattle.cf_model.specs.RegisterRules.{asset_at}
-use Rattle.cf_model.specs.Registers.{Registers}
-use Rattle.cf_model.specs.Results.{bond_at}
+use Rattle.cf_model.specs.Common.{Asset, Bond, asset_at, Registers, bond_at}
 
 abbrev pub AreNumberedAssets : List Asset → Type 0
 AreNumberedAssets assets = (k : ℕ)

@@ -1,29 +1,12 @@
 -- What contracts see of the registers.
 use Rattle.std.specs.Prelude.{◌≡◌, ◌≤◌, ◌<◌, ℕ, true, List, [], ◌∷◌, Option, Some, None}
 use Rattle.cf_assets.specs.Register as assets
-use Rattle.cf_base.specs.declared.calendar.Day.{Day}
-use Rattle.cf_base.specs.Calendar.{is_day}
-use Rattle.cf_base.specs.Limits.{most_entries}
-use Rattle.cf_calls.specs.declared.acts.Act.{Act}
-use Rattle.cf_calls.specs.declared.entry.Entry.{Entry}
-use Rattle.cf_calls.specs.declared.read.Read.{Read}
+use Rattle.cf_model.specs.Common.{Day, Act, Entry, Read, Refusal, Shown, asset_shown, document_year, bond_shown, leave_shown, document_refusal, number_of_day, receivable_refusal, bill_shown, asset_refusal, debt_refusal, levy_refusal, Registers, draws, amount_refusal}
+use Rattle.cf_base.specs.Common.{is_day, most_entries}
 use Rattle.cf_calls.specs.declared.read.Read.TheVariants as read
-use Rattle.cf_calls.specs.declared.refusal.Refusal.{Refusal}
-use Rattle.cf_calls.specs.declared.shown.Shown.{Shown}
-use Rattle.cf_calls.specs.Form.{IsActInForm}
-use Rattle.cf_chart.specs.Plan.{Plan}
+use Rattle.cf_calls.specs.Common.{IsActInForm}
+use Rattle.cf_chart.specs.Common.{Plan}
 use Rattle.cf_debt.specs.Register as debt
-use Rattle.cf_model.specs.AssetsShown.{asset_shown}
-use Rattle.cf_model.specs.Calendar.{document_year}
-use Rattle.cf_model.specs.DebtShown.{bond_shown, leave_shown}
-use Rattle.cf_model.specs.DocumentRules.{document_refusal}
-use Rattle.cf_model.specs.Months.{number_of_day}
-use Rattle.cf_model.specs.ReceivableRules.{receivable_refusal}
-use Rattle.cf_model.specs.ReceivablesShown.{bill_shown}
-use Rattle.cf_model.specs.RegisterRules.{asset_refusal, debt_refusal, levy_refusal}
-use Rattle.cf_model.specs.Registers.{Registers}
-use Rattle.cf_model.specs.Results.{draws}
-use Rattle.cf_model.specs.Rules.{amount_refusal}
 use Rattle.cf_orders.specs.Register as orders
 use Rattle.cf_orders.specs.Register.{document_shown}
 use Rattle.cf_revenue.specs.Register as revenue

@@ -2,14 +2,12 @@
 
 ghost use Rattle.std.specs.Prelude.{◌≡◌, ◌<◌, ◌^◌, ◌-◌, ◌-ℤ◌, ◌++◌, [], true, IfOk, OnOk};
 ghost use Rattle.std.specs.List.{All, AllByRecursion};
-ghost use Rattle.cf_base.specs.Calendar.{is_day};
-ghost use Rattle.cf_calls.specs.Form.{IsYear};
+ghost use Rattle.cf_base.specs.Common.{is_day};
+ghost use Rattle.cf_calls.specs.Common.{IsYear};
 ghost use Rattle.cf_ledger.specs.Posts.{sizes, IsInYears};
 ghost use Rattle.cf_ledger.specs.Posts as ledger;
-ghost use Rattle.cf_model.specs.Deeds.{deeds_of};
-ghost use Rattle.cf_model.proofs.Depreciated.{IsSoundAsset};
-ghost use Rattle.cf_model.specs.Postings.{posts_by, rows_of};
-ghost use Rattle.cf_model.specs.ReconShown.{recon_between};
+ghost use Rattle.cf_model.specs.Common.{deeds_of, posts_by, rows_of, recon_between};
+ghost use Rattle.cf_model.proofs.Common.{IsSoundAsset};
 ghost use Rattle.cf_recon.specs.ChangeItems.{changes_between};
 ghost use Rattle.cf_registers.specs.AccountsState.{posted_on, ready_on, AreReadyFor};
 ghost use Rattle.cf_registers.specs.Numbered.{AreNumbered};

@@ -3,7 +3,7 @@
 
 ghost use Rattle.std.specs.Prelude.{◌≡◌, ◌++◌, ℕ, List, map, IfOk, OnOk};
 ghost use Rattle.cf_assets.specs.Charges.{AreCharges};
-ghost use Rattle.cf_model.specs.Assets.{Asset};
+ghost use Rattle.cf_model.specs.Common.{Asset};
 ghost use Rattle.cf_model.specs.Deeds as spec;
 ghost use Rattle.cf_registers.specs.Deeds.{amortize_deed, charge_deed};
 

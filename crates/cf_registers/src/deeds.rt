@@ -1,10 +1,9 @@
 //! What an act does to accounts, as deeds of the posting table.
 
 ghost use Rattle.std.specs.Prelude.{◌≡◌, ◌∷◌, ◌++◌, [], true, map, IfOk, OnOk};
-ghost use Rattle.cf_base.specs.Calendar.{is_day};
-ghost use Rattle.cf_model.specs.Moves.{spent_by};
+ghost use Rattle.cf_base.specs.Common.{is_day};
+ghost use Rattle.cf_model.specs.Common.{spent_by, bill_at};
 ghost use Rattle.cf_model.specs.Charted as charted;
-ghost use Rattle.cf_model.specs.Receivables.{bill_at};
 ghost use Rattle.cf_model.specs.Deeds as spec;
 ghost use Rattle.cf_registers.specs.Deeds.{item_account};
 ghost use Rattle.cf_registers.specs.Numbered.{AreNumbered};

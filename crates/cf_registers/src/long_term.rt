@@ -2,11 +2,11 @@
 
 ghost use Rattle.std.specs.Prelude.{◌≡◌, ◌==◌, true, map, IfOk};
 ghost use Rattle.std.specs.List.{filter};
-ghost use Rattle.cf_base.specs.Calendar.{is_day};
+ghost use Rattle.cf_base.specs.Common.{is_day};
 ghost use Rattle.cf_calls.specs.declared.acts.Act.TheVariants as act;
 ghost use Rattle.cf_model.specs.Charted as charted;
 ghost use Rattle.cf_model.specs.Deeds as spec;
-ghost use Rattle.cf_model.specs.Registers.{Registers as Entered};
+ghost use Rattle.cf_model.specs.Common.{Registers as Entered};
 ghost use Rattle.cf_registers.specs.Numbered.{AreNumberedAssets, AreNumberedBonds};
 
 use crate::deeds::one;

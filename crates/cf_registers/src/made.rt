@@ -2,11 +2,10 @@
 
 ghost use Rattle.std.specs.Prelude.{◌≡◌, ◌≤◌, true, length};
 ghost use Rattle.std.specs.List.{filter};
-ghost use Rattle.cf_base.specs.Calendar.{is_day};
-ghost use Rattle.cf_calls.specs.Form.{IsActInForm};
-ghost use Rattle.cf_chart.specs.Plan.{object_at};
-ghost use Rattle.cf_model.specs.Charted.{is_capital as is_capital_object};
-ghost use Rattle.cf_model.specs.Receivables.{bill_at};
+ghost use Rattle.cf_base.specs.Common.{is_day};
+ghost use Rattle.cf_calls.specs.Common.{IsActInForm};
+ghost use Rattle.cf_chart.specs.Common.{object_at};
+ghost use Rattle.cf_model.specs.Common.{is_capital as is_capital_object, bill_at};
 ghost use Rattle.cf_model.specs.Results as results;
 
 use crate::registers::Registers;

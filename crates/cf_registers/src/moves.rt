@@ -2,12 +2,11 @@
 
 ghost use Rattle.std.specs.Prelude.{◌≡◌, ◌<◌, ◌≤◌, ◌+◌, ℕ, Bool, true, None, IfOk, IfSome, length, option_map, slice_get};
 ghost use Rattle.std.specs.List.{All, list_all};
-ghost use Rattle.cf_base.specs.declared.calendar.Day.{Day as OnDay};
-ghost use Rattle.cf_calls.specs.Form.{is_distinct, IsActInForm};
+ghost use Rattle.cf_model.specs.Common.{Day as OnDay, stripe_of, touches};
+ghost use Rattle.cf_calls.specs.Common.{is_distinct, IsActInForm};
 ghost use Rattle.cf_budget.specs.Changes.{changes_at, same_place};
 ghost use Rattle.cf_budget.specs.Tables.{row_plus, zero_row, AreHeld};
 ghost use Rattle.cf_model.specs.Rules as rules;
-ghost use Rattle.cf_model.specs.Stripes.{stripe_of, touches};
 ghost use Rattle.cf_registers.specs.Lines.{LendsAccount};
 ghost use Rattle.cf_orders.specs.Register.{line_move, IsSmall};
 ghost use Rattle.cf_registers.specs.Moved as spec;

@@ -1,6 +1,6 @@
 //! What the laws of the books rest on, of a chart.
 
-ghost use Rattle.cf_model.proofs.Lawful.{IsWhole};
+ghost use Rattle.cf_model.proofs.Common.{IsWhole};
 
 use cf_chart::Chart;
 

@@ -3,11 +3,10 @@
 
 ghost use Rattle.std.specs.Prelude.{◌≡◌, ◌+◌, ℕ, true, IfOk, OnOk};
 ghost use Rattle.cf_assets.specs.Register.{IsOf};
-ghost use Rattle.cf_base.specs.Calendar.{is_day};
+ghost use Rattle.cf_base.specs.Common.{is_day};
 ghost use Rattle.cf_debt.specs.Register.{debts_of};
-ghost use Rattle.cf_model.specs.Registers.{no_registers, registers_step};
+ghost use Rattle.cf_model.specs.Common.{no_registers, registers_step, first_of};
 ghost use Rattle.cf_model.specs.Results as results;
-ghost use Rattle.cf_model.specs.Rules.{first_of};
 ghost use Rattle.cf_registers.specs.RegistersState.{CanTakeIn, HasRoomFor, HaveTaken, register_rules, register_shown};
 
 use cf_assets::Assets;

@@ -2,10 +2,9 @@
 //! which it is due, leave that is paid out, and a lease.
 
 ghost use Rattle.std.specs.Prelude.{◌≡◌, ◌≤◌, length, map, slice_get, option_map, IfSome, true};
-ghost use Rattle.cf_base.specs.Calendar.{is_day};
-ghost use Rattle.cf_base.specs.declared.calendar.Day.{Day as OnDay};
+ghost use Rattle.cf_base.specs.Common.{is_day};
+ghost use Rattle.cf_model.specs.Common.{Day as OnDay, spendings_by};
 ghost use Rattle.cf_model.specs.Moves as model;
-ghost use Rattle.cf_model.specs.Spendings.{spendings_by};
 ghost use Rattle.cf_orders.specs.Register.{line_move, IsSmall};
 ghost use Rattle.cf_registers.specs.Numbered.{AreNumberedBonds};
 ghost use Rattle.cf_registers.specs.Dues.{spent_now, paid_leave, leased};

@@ -1,17 +1,12 @@
 -- The rule on levy years gives what the register asks: a bill is collected and written off in its
 -- levy year or later.
 use Rattle.std.proofs.Common.{◌≡◌, ◌⊎◌, inl, inr, ℕ, suc, ◌<◌, ◌≤◌, Bool, true, false, nat_lt, Option, Some, None, IfSome, arith}
-use Rattle.std.proofs.lemmas.Bool.Decides.{leb_tells}
-use Rattle.cf_base.specs.declared.calendar.Day.{Day}
-use Rattle.cf_calls.specs.declared.acts.Act.{Act}
-use Rattle.cf_calls.specs.declared.acts.Act.TheVariants.{Collect, WriteOff}
+use Rattle.cf_base.proofs.Common.{leb_tells}
+use Rattle.cf_model.specs.Common.{Day, Act, Collect, WriteOff, year_of_day, bill_at, later_levy, levy_refusal, Registers}
 use Rattle.cf_calls.specs.declared.refusal.Refusal.TheVariants as refusal
-use Rattle.cf_chart.specs.Plan.{Plan}
-use Rattle.cf_model.specs.Calendar.{year_of_day}
-use Rattle.cf_model.specs.Receivables.{Bill, bill_at}
-use Rattle.cf_model.specs.RegisterRules.{later_levy, levy_refusal}
-use Rattle.cf_model.specs.Registers.{Registers}
-use Rattle.cf_model.proofs.First.{refuse_none}
+use Rattle.cf_chart.specs.Common.{Plan}
+use Rattle.cf_model.specs.Receivables.{Bill}
+use Rattle.cf_model.proofs.Common.{refuse_none}
 use Rattle.cf_revenue.specs.Register.{IsLevied}
 
 levied : (year : ℕ) (o : Option Bill) → later_levy year o ≡ None → IfSome o (λ b. b.levy_year ≤ year)

@@ -1,21 +1,14 @@
 -- What an act asks of the register's parts, and what they make of the receivables.
 use Rattle.std.proofs.Common.{◌≡◌, ◌≢◌, ◌⊎◌, inl, inr, ℕ, ◌+◌, ◌-◌, ◌<◌, ◌≤◌, Bool, true, false, if◌then◌else◌, ◌==◌, ◌||◌, not, nat_lt, List, [], ◌∷◌, length, get_or, Option, Some, None, is_some, option_map, IfSome, refl, sym, subst, ap, ◌∙◌, arith}
-use Rattle.std.proofs.lemmas.Grind.{common_steps}
-use Rattle.cf_base.specs.declared.calendar.Day.{Day}
-use Rattle.cf_base.specs.Calendar.{is_day}
-use Rattle.cf_base.proofs.DayNumbers.{parts}
+use Rattle.cf_base.proofs.Common.{common_steps, parts}
+use Rattle.cf_model.specs.Common.{Day, BillAmount, first_of, or_else, unknown_if, year_of_day, year_in, revenue_year, Settlement, Receivables, bill_at, collected_year, left_of, window_if, receivable_refusal, over_bill, over_left}
+use Rattle.cf_base.specs.Common.{is_day, is_in_window, year_end}
 use Rattle.cf_calls.specs.declared.acts.Act.TheVariants as act
-use Rattle.cf_calls.specs.declared.acts.BillAmount.{BillAmount}
 use Rattle.cf_calls.specs.declared.names.NameKind.TheVariants as kind
-use Rattle.cf_chart.specs.Plan.{Plan, source_at}
-use Rattle.cf_model.specs.Rules.{first_of, or_else, unknown_if}
-use Rattle.cf_model.specs.Calendar.{year_of_day}
+use Rattle.cf_chart.specs.Common.{Plan, source_at}
 use Rattle.cf_revenue.specs.declared.rows.BillRow.{BillRow}
 use Rattle.cf_revenue.specs.declared.rows.SettlementRow.{SettlementRow}
-use Rattle.cf_base.specs.Windows.{is_in_window, year_end}
-use Rattle.cf_model.specs.Recognition.{year_in, revenue_year}
-use Rattle.cf_model.specs.Receivables.{Bill, Settlement, Receivables, bill_at, collected_year, left_of, window_if}
-use Rattle.cf_model.specs.ReceivableRules.{receivable_refusal, over_bill, over_left}
+use Rattle.cf_model.specs.Receivables.{Bill}
 use Rattle.cf_revenue.specs.Register.{IsBillLevied}
 use Rattle.cf_revenue.specs.RegisterView.{AreRows}
 use Rattle.cf_revenue.specs.Rows.{view_bill, view_bills, IsRow}

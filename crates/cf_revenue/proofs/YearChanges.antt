@@ -1,11 +1,8 @@
 -- What changes in a year.
-use Rattle.std.proofs.Common.{◌≡◌, ◌⊎◌, inl, inr, ℕ, ◌+◌, ◌-◌, ◌<◌, ◌≤◌, Bool, true, false, if◌then◌else◌, ◌==◌, nat_le, List, [], ◌∷◌, sum_by, pos, ◌-ℤ◌, refl, sym, ap, ◌∙◌, arith}
-use Rattle.std.proofs.lemmas.Bool.Decides.{leb_tells, eqb_tells}
-use Rattle.std.proofs.lemmas.Int.{ints}
-use Rattle.std.proofs.lemmas.List.Sums.{sum_by-cons}
-use Rattle.std.specs.List.{filter}
-use Rattle.cf_model.specs.Changes.{deferred_in}
-use Rattle.cf_model.specs.Receivables.{Bill, Settlement, Receivables}
+use Rattle.std.proofs.Common.{◌≡◌, ◌⊎◌, inl, inr, ℕ, ◌+◌, ◌-◌, ◌<◌, ◌≤◌, Bool, true, false, if◌then◌else◌, ◌==◌, nat_le, List, [], ◌∷◌, sum_by, pos, ◌-ℤ◌, refl, sym, ap, ◌∙◌, arith, filter}
+use Rattle.cf_base.proofs.Common.{leb_tells, eqb_tells, ints, sum_by-cons}
+use Rattle.cf_model.specs.Common.{deferred_in, Settlement, Receivables}
+use Rattle.cf_model.specs.Receivables.{Bill}
 use Rattle.cf_revenue.specs.RegisterView.{AreBilled, AreTaken}
 use Rattle.cf_register_parts.specs.Years.{sum_through}
 

@@ -1,8 +1,8 @@
 //! When a collection is revenue.
 
 ghost use Rattle.std.specs.Prelude.{◌≡◌, true};
-ghost use Rattle.cf_base.specs.Calendar.{is_day};
-ghost use Rattle.cf_calls.specs.Form.{IsCount, IsYear};
+ghost use Rattle.cf_base.specs.Common.{is_day};
+ghost use Rattle.cf_calls.specs.Common.{IsCount, IsYear};
 ghost use Rattle.cf_model.specs.Recognition as spec;
 
 use cf_base::{Day, fiscal_year, is_in_window, month_of, year_end};

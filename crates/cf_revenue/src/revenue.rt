@@ -1,11 +1,9 @@
 //! The register of bills and of loans between funds.
 
 ghost use Rattle.std.specs.Prelude.{◌≡◌, ◌≤◌, true, option_map, MatchOption, None, Ok};
-ghost use Rattle.cf_base.specs.Calendar.{is_day};
-ghost use Rattle.cf_model.specs.Results.{bill_draws};
-ghost use Rattle.cf_model.specs.Changes.{deferred_in};
+ghost use Rattle.cf_base.specs.Common.{is_day};
+ghost use Rattle.cf_model.specs.Common.{bill_draws, deferred_in, no_receivables, bill_at};
 ghost use Rattle.cf_model.specs.Receivables as spec;
-ghost use Rattle.cf_model.specs.Receivables.{no_receivables, bill_at};
 ghost use Rattle.cf_revenue.specs.ReceivablesShown.{bill_now_at, receivable_shown};
 ghost use Rattle.cf_revenue.specs.Steps.{ShowsBill};
 

@@ -1,12 +1,10 @@
 //! What each act makes of bills and loans.
 
 ghost use Rattle.std.specs.Prelude.{◌≡◌, ◌≤◌, ◌<◌, ◌+◌, ◌-◌, ◌∷◌, ◌++◌, [], length, None, true, slice_index_or, slice_set};
-ghost use Rattle.cf_base.specs.Calendar.{is_day};
-ghost use Rattle.cf_base.specs.Limits.{most_entries, most_cents};
-ghost use Rattle.cf_calls.specs.Form.{IsYear};
+ghost use Rattle.cf_base.specs.Common.{is_day, most_entries, most_cents};
+ghost use Rattle.cf_calls.specs.Common.{IsYear};
 ghost use Rattle.cf_calls.specs.declared.acts.Act.TheVariants as act;
-ghost use Rattle.cf_model.specs.Receivables.{bills_by, settlements_by, loans_by, repayments_by, owed};
-ghost use Rattle.cf_model.specs.ReceivableRules.{receivable_refusal, over_loan};
+ghost use Rattle.cf_model.specs.Common.{bills_by, settlements_by, loans_by, repayments_by, owed, receivable_refusal, over_loan};
 ghost use Rattle.cf_revenue.specs.Register.{IsBillLevied, HasRoomToMove, HasRoomToLend, HasRoomToRepay};
 ghost use Rattle.cf_revenue.specs.Rows.{view_loan, view_settlement};
 ghost use Rattle.cf_revenue.specs.Steps.{CanSettle, lowered};

@@ -1,27 +1,21 @@
 -- A book that takes the entries of another one's history.
-use Rattle.std.proofs.Common.{◌≡◌, ◌⊎◌, inl, inr, ℕ, ◌≤◌, IsTrue, List, [], ◌∷◌, ◌++◌, length, take, refl, sym, ◌∙◌, ap, subst, arith, append_assoc, length-append, Option, Some, None}
-use Rattle.std.specs.Prelude.{IfSome, IsSome}
-use Rattle.std.proofs.lemmas.List.{append-nil, take_all, take_min, length-take, take-append-le}
-use Rattle.std.proofs.Math.Seq.{take-append_seam}
+use Rattle.std.proofs.Common.{◌≡◌, ◌⊎◌, inl, inr, ℕ, ◌≤◌, IsTrue, List, [], ◌∷◌, ◌++◌, length, take, refl, sym, ◌∙◌, ap, subst, arith, append_assoc, length-append, Option, Some, None, IfSome, IsSome}
+use Rattle.cf_base.proofs.Common.{append-nil, take_all, take_min, length-take, take-append-le, take-append_seam}
 use Rattle.cf_journal_book.specs.Admitting.{Admits as BookAdmits}
 use Rattle.cf_journal_book.specs.Books.{IsInHand, RecoversNear}
 use Rattle.cf_journal_book.specs.DurableState.{DurableBook, DurableState, state_of}
 use Rattle.cf_journal_book.specs.Recovery.{RecoversTo, entry_refusal}
 use Rattle.cf_journal_book.specs.Settling.{DiskFails, WouldAdd, entry_by}
 use Rattle.cf_journal_book.proofs.Recovering.{taken_adds}
-use Rattle.cf_calls.specs.Form.{IsEntryInForm}
+use Rattle.cf_calls.specs.Common.{IsEntryInForm}
 use Rattle.cf_calls.specs.declared.call.Call.TheVariants as call
-use Rattle.cf_calls.specs.declared.call.Change.{Change}
-use Rattle.cf_calls.specs.declared.entry.Drawn.{Drawn}
-use Rattle.cf_calls.specs.declared.entry.Entry.{Entry}
-use Rattle.cf_calls.specs.declared.reply.Verdict.TheVariants.{Accept}
-use Rattle.cf_chart.specs.Plan.{Plan}
+use Rattle.cf_model.specs.Common.{Change, Drawn, Entry, Accept, verdict_of}
+use Rattle.cf_chart.specs.Common.{Plan}
 use Rattle.cf_disk.specs.Moments.{AtEachMoment}
 use Rattle.cf_follow.specs.Admitting.{Admits}
 use Rattle.cf_follow.specs.declared.follower.Admission.{Admission}
 use Rattle.cf_follow.specs.declared.follower.Admission.TheVariants as said
 use Rattle.cf_journal.proofs.Moments.{weaken, both}
-use Rattle.cf_model.specs.Step.{verdict_of}
 use Rattle.cf_run_follow.specs.Copies.{IsReached, IsSince, RecoversToFrontOf, book_office, with_failed}
 use Rattle.cf_run_status.specs.Devices.{Device}
 

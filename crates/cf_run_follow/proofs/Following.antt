@@ -1,23 +1,20 @@
 -- A run of `follow`.
-use Rattle.std.proofs.Common.{◌≡◌, ◌≢◌, ◌⊎◌, ℕ, zero, suc, List, [], ◌∷◌, ◌++◌, length, take, Option, Some, None, refl, sym, ap, subst, ◌∙◌, inl, inr, append_assoc, append-nil}
-use Rattle.std.specs.Prelude.{slice_get}
-use Rattle.std.specs.Io.KnownBytes.{Consumes}
-use Rattle.std.proofs.lemmas.List.Elements.{All-weaker}
+use Rattle.std.proofs.Common.{◌≡◌, ◌≢◌, ◌⊎◌, ℕ, zero, suc, List, [], ◌∷◌, ◌++◌, length, take, Option, Some, None, refl, sym, ap, subst, ◌∙◌, inl, inr, append_assoc, append-nil, slice_get}
+use Rattle.cf_base.proofs.Common.{Consumes, All-weaker}
 use Rattle.cf_journal_book.specs.DurableState.{DurableBook}
 use Rattle.cf_journal_book.specs.Openings.{OpensNone}
 use Rattle.cf_journal_book.specs.Recovery.{entry_refusal}
 use Rattle.cf_journal_book.specs.declared.refused.BookRefused.{BookRefused}
 use Rattle.cf_journal_book.specs.declared.refused.BookRefused.TheVariants as refused
 use Rattle.cf_journal_book.proofs.Recovering.{added_again}
-use Rattle.cf_calls.specs.declared.entry.Entry.{Entry}
-use Rattle.cf_chart.specs.Plan.{Plan}
-use Rattle.cf_base.specs.Causes.{Rose}
+use Rattle.cf_model.specs.Common.{Entry, Adds, IsLegalAfter}
+use Rattle.cf_chart.specs.Common.{Plan}
+use Rattle.cf_base.specs.Common.{Rose}
 use Rattle.cf_follow.specs.Laws.{IsBehind}
 use Rattle.cf_follow.specs.Steps.{IsReadCause}
 use Rattle.cf_follow.specs.declared.end.FollowEnd.{FollowEnd}
 use Rattle.cf_follow.specs.declared.end.FollowEnd.TheVariants as end
 use Rattle.cf_journal.specs.Records.{HasRecord}
-use Rattle.cf_model.specs.Step.{Adds, IsLegalAfter}
 use Rattle.cf_journal_stream.specs.Streams.{HasFrame}
 use Rattle.cf_journal_stream.proofs.Short.{framed}
 use Rattle.cf_run_status.specs.declared.status.Status.{Status}

@@ -1,21 +1,17 @@
 -- A run of `ship`.
 use Rattle.std.proofs.Common.{◌≡◌, ℕ, ◌≤◌, nat_le, List, length, Option, IsTrue, Ok, ap, sym, subst, ◌∙◌, inl, inr}
-use Rattle.std.proofs.lemmas.Bool.{leb-true}
+use Rattle.cf_base.proofs.Common.{leb-true}
 use Rattle.cf_model_articulation.specs.Articulates.{AllArticulate}
 use Rattle.cf_journal_book.specs.declared.refused.BookRefused.{BookRefused}
 use Rattle.cf_journal_book.specs.declared.refused.BookRefused.TheVariants as refused
 use Rattle.cf_journal_book.specs.DurableState.{DurableBook}
 use Rattle.cf_journal_book.specs.Openings.{OpensBook, OpensNone, Refuses}
 use Rattle.cf_journal_book.specs.Recovery.{recovered}
-use Rattle.cf_calls.specs.declared.entry.Entry.{Entry}
-use Rattle.cf_chart.specs.Faults.{must}
-use Rattle.cf_chart.specs.Plan.{Plan}
-use Rattle.cf_chart.specs.Reading.{chart_of}
-use Rattle.cf_chart.specs.declared.fault.ChartFault.TheVariants.{TooLong}
+use Rattle.cf_model.specs.Common.{Entry, TooLong, IsSoundState}
+use Rattle.cf_chart.specs.Common.{must, Plan, chart_of}
 use Rattle.cf_chart.proofs.Steps.{bind_ok, must_ok}
 use Rattle.cf_model_closed.specs.ClosedYears.{ClosedYearsStay}
 use Rattle.cf_journal.specs.Frames.{frames}
-use Rattle.cf_model.specs.State.{IsSoundState}
 use Rattle.cf_journal_stream.specs.Readings.{Ships}
 use Rattle.cf_journal_stream.specs.Streams.{stream_of}
 use Rattle.cf_journal_stream.specs.declared.shipping.ShipEnd.{ShipEnd}

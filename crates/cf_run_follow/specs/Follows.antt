@@ -7,15 +7,13 @@ use Rattle.cf_journal_book.specs.DurableState.{DurableBook}
 use Rattle.cf_journal_book.specs.Recovery.{recovered}
 use Rattle.cf_journal_book.specs.declared.refused.BookRefused.{BookRefused}
 use Rattle.cf_journal_book.specs.declared.refused.BookRefused.TheVariants as refused
-use Rattle.cf_calls.specs.declared.entry.Entry.{Entry}
+use Rattle.cf_model.specs.Common.{Entry, IsSoundState, IsLegal}
 use Rattle.cf_model_closed.specs.ClosedYears.{ClosedYearsStay}
 use Rattle.cf_follow.specs.Following.{FollowEnds, failed_in}
 use Rattle.cf_follow.specs.Laws.{IsCopy, IsShipped}
 use Rattle.cf_follow.specs.declared.end.FollowEnd.{FollowEnd}
 use Rattle.cf_follow.specs.declared.end.FollowEnd.TheVariants as end
 use Rattle.cf_journal.specs.Records.{HasRecord}
-use Rattle.cf_model.specs.State.{IsSoundState}
-use Rattle.cf_model.specs.Step.{IsLegal}
 use Rattle.cf_journal_stream.specs.Streams.{most_chart}
 use Rattle.cf_run_status.specs.declared.status.Status.{Status}
 use Rattle.cf_run_status.specs.declared.status.Status.TheVariants as status

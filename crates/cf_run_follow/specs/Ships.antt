@@ -4,10 +4,10 @@ use Rattle.cf_model_articulation.specs.Articulates.{AllArticulate}
 use Rattle.cf_journal_book.specs.DurableState.{DurableBook}
 use Rattle.cf_journal_book.specs.Recovery.{recovered, RecoversTo}
 use Rattle.cf_journal_book.specs.declared.refused.BookRefused.TheVariants as refused
-use Rattle.cf_chart.specs.Reading.{chart_of}
+use Rattle.cf_chart.specs.Common.{chart_of}
 use Rattle.cf_model_closed.specs.ClosedYears.{ClosedYearsStay}
 use Rattle.cf_journal.specs.Frames.{frames}
-use Rattle.cf_model.specs.State.{IsSoundState}
+use Rattle.cf_model.specs.Common.{IsSoundState}
 use Rattle.cf_journal_stream.specs.Readings.{Ships}
 use Rattle.cf_journal_stream.specs.Streams.{stream_of}
 use Rattle.cf_journal_stream.specs.declared.shipping.ShipEnd.{ShipEnd}

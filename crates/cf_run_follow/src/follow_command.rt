@@ -1,7 +1,7 @@
 //! The run of `follow`.
 
 ghost use Rattle.std.specs.Prelude.{◌≡◌, ◌≢◌, None, IfOk, length};
-ghost use Rattle.cf_base.specs.Causes.{Rose};
+ghost use Rattle.cf_base.specs.Common.{Rose};
 ghost use Rattle.cf_journal_book.specs.DurableState.{DurableBook};
 ghost use Rattle.cf_follow.specs.Steps.{IsReadCause};
 ghost use Rattle.cf_follow.specs.declared.end.FollowEnd.TheVariants as end;

@@ -2,12 +2,8 @@
 use Rattle.std.proofs.Common.{◌≡◌, ◌∙◌, ℕ, List, Result, Err, is_ok, false, true, true≢false, refl, sym, ap, subst}
 use Rattle.std.specs.Str.{chars, is_utf8}
 use Rattle.toml.proofs.OnLiterals.{toml_on_literals}
-use Rattle.cf_chart.specs.declared.fault.ChartFault.{ChartFault}
-use Rattle.cf_chart.specs.declared.fault.ChartRefused.{ChartRefused}
-use Rattle.cf_chart.specs.declared.fault.ChartRefused.TheVariants.{Fault}
-use Rattle.cf_chart.specs.Faults.{Gives}
-use Rattle.cf_chart.specs.Plan.{Plan}
-use Rattle.cf_chart.specs.Reading.{chart_of}
+use Rattle.cf_model.specs.Common.{ChartFault, ChartRefused, Fault}
+use Rattle.cf_chart.specs.Common.{Gives, Plan, chart_of}
 use Rattle.cf_run_generate.specs.Generated.{chart_text}
 
 is_read : is_ok (chart_of chart_text) ≡ true

@@ -1,14 +1,8 @@
 -- The calls of the generator are in form.
-use Rattle.std.proofs.Common.{◌≡◌, suc, ◌+◌, ◌<◌, ◌≤◌, ◌^◌, ◌++◌, ◌∷◌, [], ℕ, true, List, Option, Some, None, IfSome, length, codes, refl, arith}
-use Rattle.std.specs.Fmt.{decimal}
-use Rattle.std.specs.List.{list_all}
-use Rattle.std.specs.Cmp.Derive.{both_true}
-use Rattle.std.proofs.lemmas.Fmt.{length-decimal-le, decimal_is_IsNumeral}
-use Rattle.std.proofs.lemmas.Bool.{le-leb}
-use Rattle.std.specs.Str.Parse.{AllDigits}
-use Rattle.std.proofs.lemmas.Str.Parse.{tells_digits}
-use Rattle.cf_calls.specs.Form.{IsActInForm, IsChangeInForm, is_key, is_key_byte}
-use Rattle.cf_calls.specs.declared.acts.Act.{Act}
+use Rattle.std.proofs.Common.{◌≡◌, suc, ◌+◌, ◌<◌, ◌≤◌, ◌^◌, ◌++◌, ◌∷◌, [], ℕ, true, List, Option, Some, None, IfSome, length, codes, refl, arith, decimal}
+use Rattle.cf_base.proofs.Common.{list_all, both_true, length-decimal-le, decimal_is_IsNumeral, le-leb, AllDigits, tells_digits}
+use Rattle.cf_calls.specs.Common.{IsActInForm, IsChangeInForm, is_key, is_key_byte}
+use Rattle.cf_model.specs.Common.{Act}
 use Rattle.cf_run_generate.specs.Acts.{act_by, act_of, adoption, change_of, first_day, month_close}
 use Rattle.cf_run_generate.specs.Turns.{choice_of, first_turn, moved_on, turn_after}
 use Rattle.cf_run_generate.specs.declared.turn.Turn.{Turn}

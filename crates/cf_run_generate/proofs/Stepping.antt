@@ -1,13 +1,8 @@
 -- One step of the generator's office.
 use Rattle.std.proofs.Common.{◌≡◌, ℕ, zero, suc, ◌+◌, ◌<◌, ◌≤◌, ◌++◌, ◌∷◌, [], List, Some, None, refl, sym, ap, arith, ◌∙◌}
-use Rattle.cf_calls.specs.declared.call.Change.{Change}
-use Rattle.cf_calls.specs.declared.entry.Drawn.{Drawn}
-use Rattle.cf_calls.specs.declared.entry.Entry.{Entry}
-use Rattle.cf_calls.specs.declared.reply.Verdict.{Verdict}
-use Rattle.cf_calls.specs.declared.reply.Verdict.TheVariants.{Accept, Repeat, Refuse}
+use Rattle.cf_model.specs.Common.{Change, Drawn, Entry, Verdict, Accept, Repeat, Refuse, next_by, next_of, verdict_of}
 use Rattle.cf_calls.specs.declared.call.Call.TheVariants as call
-use Rattle.cf_chart.specs.Plan.{Plan}
-use Rattle.cf_model.specs.Step.{next_by, next_of, verdict_of}
+use Rattle.cf_chart.specs.Common.{Plan}
 use Rattle.cf_run_generate.specs.Acts.{act_of, change_of}
 use Rattle.cf_run_generate.specs.Generated.{after, drawn, drawn_by, entry_by}
 use Rattle.cf_run_generate.specs.Turns.{turn_after}

@@ -3,18 +3,10 @@
 use Rattle.std.specs.Prelude.{ℕ, ◌+◌, ◌/◌, ◌%◌, ◌==◌, ◌++◌, nat_lt, if◌then◌else◌, [], ◌∷◌, Option, Some, None, codes, map, false}
 use Rattle.std.specs.List.{range_with_len}
 use Rattle.std.specs.Fmt.{decimal}
-use Rattle.cf_base.specs.declared.calendar.Day.{Day}
-use Rattle.cf_calls.specs.Acts.{role_of}
-use Rattle.cf_calls.specs.declared.acts.Act.{Act}
+use Rattle.cf_model.specs.Common.{Day, Act, Change, AccountItem, Charge, Direct, OnOrder, Final, LineAmount, Role}
+use Rattle.cf_calls.specs.Common.{role_of}
 use Rattle.cf_calls.specs.declared.acts.Act.TheVariants as act
 use Rattle.cf_calls.specs.declared.acts.Period.TheVariants as period
-use Rattle.cf_calls.specs.declared.call.Change.{Change}
-use Rattle.cf_calls.specs.declared.items.AccountItem.{AccountItem}
-use Rattle.cf_calls.specs.declared.items.Charge.{Charge}
-use Rattle.cf_calls.specs.declared.items.Charge.TheVariants.{Direct, OnOrder}
-use Rattle.cf_calls.specs.declared.items.Liquidation.TheVariants.{Final}
-use Rattle.cf_calls.specs.declared.items.LineAmount.{LineAmount}
-use Rattle.cf_calls.specs.declared.role.Role.{Role}
 use Rattle.cf_calls.specs.declared.role.Role.TheVariants as role
 use Rattle.cf_run_generate.specs.declared.turn.Turn.{Turn}
 use Rattle.cf_run_generate.specs.declared.turn.Choice.{Choice}

@@ -1,13 +1,8 @@
 -- The calls of a generated run, and the history that the office's step makes of them.
 use Rattle.std.specs.Prelude.{ℕ, zero, suc, ◌+◌, List, [], ◌∷◌, ◌++◌, Option, Some, None}
 use Rattle.cf_calls.specs.declared.call.Call.TheVariants as call
-use Rattle.cf_calls.specs.declared.call.Change.{Change}
-use Rattle.cf_calls.specs.declared.entry.Drawn.{Drawn}
-use Rattle.cf_calls.specs.declared.entry.Entry.{Entry}
-use Rattle.cf_calls.specs.declared.reply.Verdict.{Verdict}
-use Rattle.cf_calls.specs.declared.reply.Verdict.TheVariants.{Accept}
-use Rattle.cf_chart.specs.Plan.{Plan}
-use Rattle.cf_model.specs.Step.{next_of}
+use Rattle.cf_model.specs.Common.{Change, Drawn, Entry, Verdict, Accept, next_of}
+use Rattle.cf_chart.specs.Common.{Plan}
 use Rattle.cf_run_generate.specs.Acts.{act_of, adoption, change_of, month_close, receipt}
 use Rattle.cf_run_generate.specs.Turns.{first_turn, turn_after}
 use Rattle.cf_run_generate.specs.declared.turn.Turn.{Turn}

@@ -1,7 +1,7 @@
 //! The acts of the generator.
 
 ghost use Rattle.std.specs.Prelude.{◌≡◌, ◌+◌, ◌≤◌, ◌<◌, IfOk, IfSome};
-ghost use Rattle.cf_calls.specs.Acts.{role_of as role};
+ghost use Rattle.cf_calls.specs.Common.{role_of as role};
 ghost use Rattle.cf_run_generate.specs.Acts as spec;
 
 use crate::turn::{Choice, Turn};

@@ -1,7 +1,7 @@
 //! The chart of the generator's city.
 
 ghost use Rattle.std.specs.Prelude.{◌≡◌, IfOk, Ok};
-ghost use Rattle.cf_chart.specs.Reading.{chart_of};
+ghost use Rattle.cf_chart.specs.Common.{chart_of};
 ghost use Rattle.cf_run_generate.specs.Generated.{chart_text};
 
 use cf_chart::{Chart, ChartRefused};

@@ -1,11 +1,10 @@
 //! The run of the generator: an office in memory takes its calls, one after another.
 
 ghost use Rattle.std.specs.Prelude.{◌≡◌, ◌+◌, ◌≤◌, ◌<◌, ◌++◌, ◌∷◌, [], IfOk, OnOk, Ok};
-ghost use Rattle.cf_calls.specs.Form.{IsActInForm, IsChangeInForm};
+ghost use Rattle.cf_calls.specs.Common.{IsActInForm, IsChangeInForm};
 ghost use Rattle.cf_calls.specs.declared.call.Call.TheVariants as calls;
-ghost use Rattle.cf_calls.specs.declared.reply.Verdict.TheVariants.{Accept};
-ghost use Rattle.cf_chart.specs.Reading.{chart_of};
-ghost use Rattle.cf_model.specs.Step.{next_of, verdict_of};
+ghost use Rattle.cf_model.specs.Common.{Accept, next_of, verdict_of};
+ghost use Rattle.cf_chart.specs.Common.{chart_of};
 ghost use Rattle.cf_run_generate.specs.Acts as acts;
 ghost use Rattle.cf_run_generate.specs.Generated as spec;
 ghost use Rattle.cf_run_generate.specs.Turns.{first_turn};

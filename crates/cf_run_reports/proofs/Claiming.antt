@@ -1,19 +1,17 @@
 -- A run of `claim`.
 use Rattle.std.proofs.Common.{◌≡◌, ℕ, List, Option, IsTrue, ap, sym, subst, ◌∙◌}
-use Rattle.cf_base.specs.declared.calendar.Day.{Day}
+use Rattle.cf_model.specs.Common.{Day, Entry, IsSoundState}
 use Rattle.cf_journal_book.specs.declared.refused.BookRefused.{BookRefused}
 use Rattle.cf_journal_book.specs.declared.refused.BookRefused.TheVariants as refused
 use Rattle.cf_journal_book.specs.DurableState.{DurableBook}
 use Rattle.cf_journal_book.specs.Openings.{OpensBook, OpensNone, Refuses}
 use Rattle.cf_journal_book.specs.Recovery.{recovered, RecoversTo}
-use Rattle.cf_calls.specs.declared.entry.Entry.{Entry}
-use Rattle.cf_chart.specs.Plan.{Plan}
+use Rattle.cf_chart.specs.Common.{Plan}
 use Rattle.cf_claims.specs.Texts.{claim_text}
 use Rattle.cf_claims.proofs.Kept.{are_kept}
 use Rattle.cf_claims.proofs.LegalHistory.{legal_rising}
 use Rattle.cf_base_lines.specs.Reads.{IsRead}
 use Rattle.cf_grants.specs.Faults.{Checked}
-use Rattle.cf_model.specs.State.{IsSoundState}
 use Rattle.cf_run_reports.specs.Claims.{Claimed, ClaimEnds, ClaimOver, ClaimPrints, ClaimRead, ClaimSays, WithDocument}
 use Rattle.cf_run_status.specs.declared.status.Status.{Status}
 use Rattle.cf_run_status.specs.declared.status.Status.TheVariants as status

@@ -1,14 +1,12 @@
 -- A run of `pool`.
-use Rattle.std.proofs.Common.{◌≡◌, ℕ, List, Option, IsTrue, Vec, Result, Ok, Err, ap, sym, subst, ◌∙◌}
-use Rattle.std.specs.declared.alloc.Global.{Global}
-use Rattle.cf_base.specs.declared.calendar.Month.{Month}
+use Rattle.std.proofs.Common.{◌≡◌, ℕ, List, Option, IsTrue, Vec, Result, Ok, Err, ap, sym, subst, ◌∙◌, Global}
+use Rattle.cf_model.specs.Common.{Month, IsSoundState}
 use Rattle.cf_journal_book.specs.declared.refused.BookRefused.{BookRefused}
 use Rattle.cf_journal_book.specs.declared.refused.BookRefused.TheVariants as refused
 use Rattle.cf_journal_book.specs.DurableState.{DurableBook}
 use Rattle.cf_journal_book.specs.Openings.{OpensBook, OpensNone, Refuses}
 use Rattle.cf_journal_book.specs.Recovery.{recovered, RecoversTo}
 use Rattle.cf_pool_cash.specs.Moves.{moves_of}
-use Rattle.cf_model.specs.State.{IsSoundState}
 use Rattle.cf_pool.specs.declared.days.CashMove.{CashMove}
 use Rattle.cf_pool.specs.declared.refused.PoolRefused.{PoolRefused}
 use Rattle.cf_pool.specs.declared.refused.PoolRefused.TheVariants as pool_refused

@@ -8,7 +8,7 @@ use Rattle.cf_journal_book.specs.Openings.{OpensBook, OpensNone, Refuses}
 use Rattle.cf_journal_book.specs.Recovery.{recovered, RecoversTo}
 use Rattle.cf_classes.proofs.Legal.{add_up}
 use Rattle.cf_model_closed.specs.ClosedYears.{ClosedYearsStay}
-use Rattle.cf_model.specs.State.{IsSoundState}
+use Rattle.cf_model.specs.Common.{IsSoundState}
 use Rattle.cf_run_status.specs.declared.status.Status.{Status}
 use Rattle.cf_run_status.specs.declared.status.Status.TheVariants as status
 use Rattle.cf_run_status.specs.Devices.{Device}

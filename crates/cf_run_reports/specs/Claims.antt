@@ -1,16 +1,14 @@
 -- What a run of `claim` says, by its status.
 use Rattle.std.specs.Prelude.{◌≡◌, ◌≢◌, ℕ, List, Option, IsTrue, Ok, Err}
-use Rattle.cf_base.specs.declared.calendar.Day.{Day}
+use Rattle.cf_model.specs.Common.{Day, Entry, IsSoundState}
 use Rattle.cf_journal_book.specs.Recovery.{recovered, RecoversTo}
 use Rattle.cf_journal_book.specs.declared.refused.BookRefused.TheVariants as refused
-use Rattle.cf_calls.specs.declared.entry.Entry.{Entry}
-use Rattle.cf_chart.specs.Plan.{Plan}
+use Rattle.cf_chart.specs.Common.{Plan}
 use Rattle.cf_claims.specs.Kept.{AreKept}
 use Rattle.cf_claims.specs.Texts.{claim_text}
 use Rattle.cf_base_lines.specs.Reads.{IsRead}
 use Rattle.cf_grants.specs.declared.grant.Grant.{Grant}
 use Rattle.cf_grants.specs.Faults.{Checked}
-use Rattle.cf_model.specs.State.{IsSoundState}
 use Rattle.cf_run_status.specs.declared.status.Status.{Status}
 use Rattle.cf_run_status.specs.declared.status.Status.TheVariants as status
 use Rattle.cf_run_status.specs.Devices.{Device}

@@ -1,13 +1,11 @@
 -- What a run of `pool` says, by its status.
 use Rattle.std.specs.Prelude.{◌≡◌, ◌≢◌, ⊤, ℕ, ℤ, pos, false, true, List, Option, IsTrue, sum, Vec, Result, Ok, Err}
 use Rattle.std.specs.declared.alloc.Global.{Global}
-use Rattle.cf_base.specs.declared.calendar.Month.{Month}
+use Rattle.cf_model.specs.Common.{Month, Entry, IsSoundState}
 use Rattle.cf_journal_book.specs.Recovery.{recovered, RecoversTo}
 use Rattle.cf_journal_book.specs.declared.refused.BookRefused.TheVariants as refused
-use Rattle.cf_calls.specs.declared.entry.Entry.{Entry}
 use Rattle.cf_pool_cash.specs.Moves.{moves_of}
-use Rattle.cf_chart.specs.Plan.{Plan}
-use Rattle.cf_model.specs.State.{IsSoundState}
+use Rattle.cf_chart.specs.Common.{Plan}
 use Rattle.cf_pool.specs.declared.days.CashMove.{CashMove}
 use Rattle.cf_pool.specs.declared.refused.PoolRefused.{PoolRefused}
 use Rattle.cf_pool.specs.declared.refused.PoolRefused.TheVariants as pool_refused

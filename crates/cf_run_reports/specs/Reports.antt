@@ -3,14 +3,11 @@ use Rattle.std.specs.Prelude.{◌≡◌, ◌≢◌, ℕ, Bool, List, Option, IsT
 use Rattle.cf_model_articulation.specs.Articulates.{AllArticulate}
 use Rattle.cf_journal_book.specs.Recovery.{recovered, RecoversTo}
 use Rattle.cf_journal_book.specs.declared.refused.BookRefused.TheVariants as refused
-use Rattle.cf_calls.specs.declared.entry.Entry.{Entry}
-use Rattle.cf_calls.specs.declared.reply.Row.{Row}
-use Rattle.cf_chart.specs.Plan.{Plan}
+use Rattle.cf_model.specs.Common.{Entry, Row, report_rows, IsSoundState}
+use Rattle.cf_chart.specs.Common.{Plan}
 use Rattle.cf_classes.specs.Statements.{AddUp, class_rows, component_rows, major_rows}
 use Rattle.cf_classes.specs.Titles.{classes_title, components_title, major_title}
 use Rattle.cf_model_closed.specs.ClosedYears.{ClosedYearsStay}
-use Rattle.cf_model.specs.Report.{report_rows}
-use Rattle.cf_model.specs.State.{IsSoundState}
 use Rattle.cf_statements.specs.Titles.{title_of}
 use Rattle.cf_text.specs.Bytes.{statement_bytes}
 use Rattle.cf_run_status.specs.declared.status.Status.{Status}

@@ -1,7 +1,7 @@
 //! The run of `claim`.
 
 ghost use Rattle.std.specs.Prelude.{◌≡◌, ◌≢◌};
-ghost use Rattle.cf_base.specs.Causes.{Rose};
+ghost use Rattle.cf_base.specs.Common.{Rose};
 ghost use Rattle.cf_claims.specs.Texts.{claim_text as text_of};
 ghost use Rattle.cf_run_reports.specs.Claims.{ClaimEnds, ClaimRead, ClaimOver};
 ghost use Rattle.cf_run_status.specs.Devices.{device};

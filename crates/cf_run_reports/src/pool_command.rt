@@ -1,8 +1,7 @@
 //! The run of `pool`.
 
 ghost use Rattle.std.specs.Prelude.{◌≡◌, ◌≢◌, ◌<◌, ◌^◌, true};
-ghost use Rattle.cf_base.specs.Calendar.{is_call_month};
-ghost use Rattle.cf_base.specs.Causes.{Rose};
+ghost use Rattle.cf_base.specs.Common.{is_call_month, Rose};
 ghost use Rattle.cf_pool.specs.Balances.{sizes};
 ghost use Rattle.cf_run_status.specs.Devices.{device};
 ghost use Rattle.cf_run_reports.specs.Pools.{PoolEnds, PoolMakes, PrintsShares};

@@ -1,8 +1,8 @@
 //! The run of `report`.
 
 ghost use Rattle.std.specs.Prelude.{◌≡◌, ◌≢◌, IfOk};
-ghost use Rattle.cf_base.specs.Causes.{Rose};
-ghost use Rattle.cf_calls.specs.Form.{IsYear};
+ghost use Rattle.cf_base.specs.Common.{Rose};
+ghost use Rattle.cf_calls.specs.Common.{IsYear};
 ghost use Rattle.cf_run_status.specs.Devices.{device};
 ghost use Rattle.cf_run_reports.specs.Reports.{ReportEnds, heading_of, report_text, rows_of};
 

@@ -1,7 +1,7 @@
 //! Prints the text of a command.
 
 ghost use Rattle.std.specs.Prelude.{◌≡◌, ◌≢◌, ℕ, List, IfOk, OnErr};
-ghost use Rattle.cf_base.specs.Causes.{Rose};
+ghost use Rattle.cf_base.specs.Common.{Rose};
 ghost use Rattle.cf_run_status.specs.Printing.{Prints};
 
 use crate::status::Status;

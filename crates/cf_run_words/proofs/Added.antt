@@ -1,7 +1,6 @@
 -- A command that took one more argument of its own.
 use Rattle.std.proofs.Common.{◌≡◌, ◌∙◌, ap, ap₂, subst, Bool, false, ◌||◌, List, [], ◌∷◌, ◌++◌, Result, Ok, Err, IfOk}
-use Rattle.std.proofs.lemmas.Result.{IfOk-weaker}
-use Rattle.std.specs.declared.alloc.AllocError.{AllocError}
+use Rattle.cf_base.proofs.Common.{IfOk-weaker, AllocError}
 use Rattle.clap.specs.Words.{AddsArg, AddsSubcommand, App, Rule, Shape, Text, app_of, rule_of, with_subcommand}
 use Rattle.clap.specs.Simple.{shape_of, with_rule}
 use Rattle.clap.specs.declared.Command.TheViews.{out-Command as fields_of}

@@ -1,6 +1,5 @@
 -- The program's command line: what a parse gives is what the words ask for.
-use Rattle.std.proofs.Common.{◌≡◌, ◌∙◌, ◌⊎◌, inl, inr, subst, Err, Bool, true, false, refl, sym, ap, List, [], ◌∷◌, ◌++◌, map, Option, Some, None, option_map, option_and_then, find, fold, codes, append_assoc, append-nil}
-use Rattle.std.specs.Str.{bytes_eq}
+use Rattle.std.proofs.Common.{◌≡◌, ◌∙◌, ◌⊎◌, inl, inr, subst, Err, Bool, true, false, refl, sym, ap, List, [], ◌∷◌, ◌++◌, map, Option, Some, None, option_map, option_and_then, find, fold, codes, append_assoc, append-nil, bytes_eq}
 use Rattle.clap.specs.Lexer.{long_of, short_of}
 use Rattle.clap.specs.Walk.{Names, Row, Rule, Text, Walk, answers_to, idle, nothing_held, rows_after, subcommand_met, walk_from, walked, with_default}
 use Rattle.clap.specs.Simple.{Shape, built, label_of, names_of, subcommand_of}

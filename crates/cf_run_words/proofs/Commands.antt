@@ -1,8 +1,6 @@
 -- The commands of the program, as a parse reads them.
-use Rattle.std.proofs.Common.{◌≡◌, ◌||◌, ℕ, Bool, true≢false, if◌then◌else◌, true, false, refl, sym, subst, List, [], ◌∷◌, Some, codes}
-use Rattle.std.proofs.lemmas.Bool.{or_parts}
-use Rattle.std.proofs.lemmas.Slice.Eq.{bytes_eq-Decides}
-use Rattle.std.specs.Str.{bytes_eq}
+use Rattle.std.proofs.Common.{◌≡◌, ◌||◌, ℕ, Bool, true≢false, if◌then◌else◌, true, false, refl, sym, subst, List, [], ◌∷◌, Some, codes, bytes_eq}
+use Rattle.cf_base.proofs.Common.{or_parts, bytes_eq-Decides}
 use Rattle.clap.specs.Walk.{Row, Rule, arg_by_id, arg_by_long, has_row}
 use Rattle.clap.specs.Simple.{filled, filled_from, new_rule, with_index}
 use Rattle.clap.specs.Faults.{default_fault, defaults_fault}

@@ -1,15 +1,11 @@
 -- What a parse makes of the words after a command's name, where its arguments are plain: options
 -- with one value, flags, places.
-use Rattle.std.proofs.Common.{◌≡◌, ◌∙◌, ◌+◌, ◌||◌, ℕ, Bool, true≢false, if◌then◌else◌, true, false, refl, sym, ap, ap₂, rules, List, [], ◌∷◌, ◌++◌, Option, Some, None, option_and_then, is_some, fold, codes, length}
-use Rattle.std.specs.Str.{bytes_eq}
+use Rattle.std.proofs.Common.{◌≡◌, ◌∙◌, ◌+◌, ◌||◌, ℕ, Bool, true≢false, if◌then◌else◌, true, false, refl, sym, ap, ap₂, rules, List, [], ◌∷◌, ◌++◌, Option, Some, None, option_and_then, is_some, fold, codes, length, bytes_eq, slice_get, min, chars}
 use Rattle.clap.specs.Lexer.{long_of, short_of}
-use Rattle.std.specs.Prelude.{slice_get, min, chars}
 use Rattle.clap.specs.Lexer.{usize_max}
 use Rattle.clap.specs.Walk.{Held, Row, Rule, Waiting, Walk, idle, option, arg_by_id, arg_by_index, arg_by_long, arg_by_short, has_row, is_multiple, most_values, settled, takes_several, takes_values, used, walked}
 use Rattle.clap.specs.Simple.{Shape, new_shape}
-use Rattle.std.proofs.lemmas.Bool.{and_right}
-use Rattle.std.proofs.lemmas.Slice.Eq.{bytes_eq-Decides}
-use Rattle.std.proofs.lemmas.Str.{chars-nil}
+use Rattle.cf_base.proofs.Common.{and_right, bytes_eq-Decides, chars-nil}
 use Rattle.clap.specs.Faults.{flags_fault, long_fault, option_fault, react_fault, settle_fault, turn_fault, use_fault, walk_fault}
 use Rattle.clap.specs.Kinds.{Kinds, or_else}
 use Rattle.clap.specs.declared.builder.value_parser.Reading.TheVariants.{AsWritten}

@@ -1,8 +1,7 @@
 -- The words after each command's name: what a parse finds in them are their uses, each name at most
 -- once.
-use Rattle.std.proofs.Common.{◌≡◌, ◌∙◌, ◌&&◌, ◌||◌, Bool, true≢false, if◌then◌else◌, true, false, not, refl, sym, ap, List, [], ◌∷◌, ◌++◌, map, Option, Some, None, option_map, option_and_then, fold, append_assoc, append-nil}
-use Rattle.std.proofs.lemmas.List.{map-append}
-use Rattle.std.specs.Str.{bytes_eq}
+use Rattle.std.proofs.Common.{◌≡◌, ◌∙◌, ◌&&◌, ◌||◌, Bool, true≢false, if◌then◌else◌, true, false, not, refl, sym, ap, List, [], ◌∷◌, ◌++◌, map, Option, Some, None, option_map, option_and_then, fold, append_assoc, append-nil, bytes_eq}
+use Rattle.cf_base.proofs.Common.{map-append}
 use Rattle.clap.specs.Walk.{Held, Row, Rule, at_row, has_row, more_values, nothing_held, rows_after, settled, walk, walk_from, with_default, with_values, without}
 use Rattle.clap.specs.Simple.{Shape}
 use Rattle.clap.specs.Faults.{check_fault, defaults_fault, level_fault, settle_fault, walk_fault}

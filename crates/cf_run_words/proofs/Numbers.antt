@@ -1,11 +1,6 @@
 -- A parse as a number, against the digits.
-use Rattle.std.proofs.Common.{◌≡◌, ◌<◌, ◌≤◌, ◌&&◌, ◌||◌, ◌^◌, ◌==◌, ℕ, Bool, true≢false, true, false, refl, sym, ap, subst, arith, [], ◌∷◌, length, nat_le, nat_lt, Some, None, Result, Ok, Err, codes}
-use Rattle.std.proofs.lemmas.Bool.{and_parts, eqb-true, leb-true, lt-ltb, ltb-true}
-use Rattle.std.proofs.lemmas.Slice.Eq.{bytes_eq-Decides}
-use Rattle.std.specs.Result.{result_ok}
-use Rattle.std.specs.Str.{bytes_eq}
-use Rattle.std.specs.Char.{digit_value}
-use Rattle.std.specs.Str.Parse.{AllDigits, ParsesUnsigned, digits_value, without_leading_plus}
+use Rattle.std.proofs.Common.{◌≡◌, ◌<◌, ◌≤◌, ◌&&◌, ◌||◌, ◌^◌, ◌==◌, ℕ, Bool, true≢false, true, false, refl, sym, ap, subst, arith, [], ◌∷◌, length, nat_le, nat_lt, Some, None, Result, Ok, Err, codes, bytes_eq}
+use Rattle.cf_base.proofs.Common.{and_parts, eqb-true, leb-true, lt-ltb, ltb-true, bytes_eq-Decides, result_ok, digit_value, AllDigits, ParsesUnsigned, digits_value, without_leading_plus}
 use Rattle.cf_run_words.specs.Forms.{Text}
 use Rattle.cf_run_words.specs.Words.{are_digits, begins_number, has_lead, number_of}
 

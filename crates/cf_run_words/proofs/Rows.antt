@@ -1,7 +1,5 @@
 -- What the rows of a command tell: the values of its uses.
-use Rattle.std.proofs.Common.{◌≡◌, ◌∙◌, ◌||◌, Bool, true≢false, if◌then◌else◌, true, false, refl, sym, ap, List, [], ◌∷◌, ◌++◌, map, Some, None, option_map, option_and_then, find, fold, codes}
-use Rattle.std.specs.Prelude.{slice_get}
-use Rattle.std.specs.Str.{bytes_eq}
+use Rattle.std.proofs.Common.{◌≡◌, ◌∙◌, ◌||◌, Bool, true≢false, if◌then◌else◌, true, false, refl, sym, ap, List, [], ◌∷◌, ◌++◌, map, Some, None, option_map, option_and_then, find, fold, codes, slice_get, bytes_eq}
 use Rattle.clap.specs.Walk.{Row, at_row, first_of, has_row, more_values, with_default}
 use Rattle.clap.specs.declared.builder.value_parser.Reading.TheVariants.{AsWritten}
 use Rattle.clap.specs.declared.parser.matches.ValueSource.TheVariants.{DefaultValue}

@@ -1,9 +1,6 @@
 -- The words of a program are text, so a word of flags has a first character.
-use Rattle.std.proofs.Common.{◌≡◌, ◌∙◌, ◌<◌, ◌==◌, ℕ, Bool, if◌then◌else◌, true, false, refl, sym, ap, subst, arith, List, [], ◌∷◌, ◌++◌, map, length, Some, None, option_and_then, chars, string_bytes, String, IsUtf8}
-use Rattle.std.specs.Prelude.{slice_get}
-use Rattle.std.specs.List.{list_any}
-use Rattle.std.proofs.lemmas.Bool.{eqb-true, or_parts}
-use Rattle.std.proofs.lemmas.Str.{IsUtf8-past_char, IsUtf8-string_bytes, encode_ascii, encodes-chars}
+use Rattle.std.proofs.Common.{◌≡◌, ◌∙◌, ◌<◌, ◌==◌, ℕ, Bool, if◌then◌else◌, true, false, refl, sym, ap, subst, arith, List, [], ◌∷◌, ◌++◌, map, length, Some, None, option_and_then, chars, string_bytes, String, IsUtf8, slice_get}
+use Rattle.cf_base.proofs.Common.{list_any, eqb-true, or_parts, IsUtf8-past_char, IsUtf8-string_bytes, encode_ascii, encodes-chars}
 use Rattle.clap.specs.Lexer.{short_of, short_of_rest}
 use Rattle.cf_run_words.specs.Forms.{Text}
 use Rattle.cf_run_words.specs.Words.{is_dashes}

@@ -1,7 +1,7 @@
 -- The command that a parse found, by the name of its subcommand and the rows of its arguments.
 use Rattle.std.specs.Prelude.{if◌then◌else◌, List, Option, Some, None, codes}
 use Rattle.std.specs.Str.{bytes_eq}
-use Rattle.cf_base.specs.Limits.{last_year, most_entries, most_cents}
+use Rattle.cf_base.specs.Common.{last_year, most_entries, most_cents}
 use Rattle.clap.specs.Words.{Row, first_of}
 use Rattle.cf_run_words.specs.Forms.{Text}
 use Rattle.cf_run_words.specs.Words.{◌>>=◌, day_in, month_in, number_in, report_kind_of, is_set}

@@ -1,7 +1,6 @@
 -- The ranges of a command's numbers.
 use Rattle.std.specs.Prelude.{ℕ, ◌≡◌, ◌≤◌, true, ⊤}
-use Rattle.cf_base.specs.Calendar.{is_call_month, is_day}
-use Rattle.cf_base.specs.Limits.{last_year, most_entries, most_cents}
+use Rattle.cf_base.specs.Common.{is_call_month, is_day, last_year, most_entries, most_cents}
 use Rattle.cf_run_words.specs.declared.words.Command.{Command}
 use Rattle.cf_run_words.specs.declared.words.Command.TheVariants as command
 

@@ -6,9 +6,7 @@ use Rattle.std.specs.Char.{digit_value}
 use Rattle.std.specs.Str.Parse.{digits_value}
 use Rattle.cf_base.specs.declared.calendar.Day.{Day}
 use Rattle.cf_base.specs.declared.calendar.Month.{Month}
-use Rattle.cf_base.specs.Calendar.{day_of_text, month_of_text}
-use Rattle.cf_base.specs.Limits.{last_year, most_entries, most_cents}
-use Rattle.cf_base.specs.Statements.{statement_of}
+use Rattle.cf_base.specs.Common.{day_of_text, month_of_text, last_year, most_entries, most_cents, statement_of}
 use Rattle.cf_run_words.specs.Forms.{Text, Use, Form, uses_of, value_of}
 use Rattle.cf_run_words.specs.declared.words.Command.{Command}
 use Rattle.cf_run_words.specs.declared.words.Command.TheVariants as command

@@ -1,6 +1,6 @@
 //! Numbers, months, days and kinds as words.
 ghost use Rattle.std.specs.Prelude.{◌≡◌, IfSome, option_map, true};
-ghost use Rattle.cf_base.specs.Calendar.{is_call_month, is_day};
+ghost use Rattle.cf_base.specs.Common.{is_call_month, is_day};
 ghost use Rattle.cf_run_words.specs.Ranges.{IsFrom};
 ghost use Rattle.cf_run_words.specs.Words.{begins_number, day_in, month_in, number_in, number_of, report_kind_of};
 

@@ -1,13 +1,11 @@
 -- From how the desks were kept, and what closing the hall tells, to how the service ended.
-use Rattle.std.proofs.Common.{◌≡◌, ℕ, List, [], ◌∷◌, Bool, true, false, if◌then◌else◌, length, map, All, IfSome, Option, refl, sym, subst, ◌∙◌}
-use Rattle.std.specs.List.{list_any, sum_by}
-use Rattle.std.proofs.lemmas.List.Elements.{All-nil, All-cons, All-head, All-tail}
+use Rattle.std.proofs.Common.{◌≡◌, ℕ, List, [], ◌∷◌, Bool, true, false, if◌then◌else◌, length, map, All, IfSome, Option, refl, sym, subst, ◌∙◌, sum_by}
+use Rattle.cf_base.proofs.Common.{list_any, All-nil, All-cons, All-head, All-tail}
 use mathlib.Core.List.{IsPrefix}
 use Rattle.cf_journal_book.specs.DurableState.{DurableBook}
 use Rattle.cf_journal_book.specs.declared.refused.BookRefused.{BookRefused}
-use Rattle.cf_calls.specs.declared.call.Call.{Call}
-use Rattle.cf_calls.specs.declared.entry.Entry.{Entry}
-use Rattle.cf_chart.specs.Plan.{Plan}
+use Rattle.cf_model.specs.Common.{Call, Entry}
+use Rattle.cf_chart.specs.Common.{Plan}
 use Rattle.cf_hall.specs.Endings.{HallEnds}
 use Rattle.cf_hall.specs.Fronts.{IsUnacknowledged, KeptSince}
 use Rattle.cf_http.specs.Doors.{DoorTells}

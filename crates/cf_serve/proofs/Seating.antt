@@ -1,6 +1,6 @@
 -- Desks are opened one after another.
 use Rattle.std.proofs.Common.{◌≡◌, ℕ, ◌+◌, List, [], ◌∷◌, ◌++◌, length, map, sym, ap, ◌∙◌, arith, append_assoc, length-append}
-use Rattle.std.proofs.lemmas.List.{map-append}
+use Rattle.cf_base.proofs.Common.{map-append}
 
 pub one_on : {A : Type 0} (all yielded rest later : List A) (x : A) → all ≡ yielded ++ rest → rest ≡ x ∷ later → all ≡ (yielded ++ x ∷ []) ++ later
 one_on all yielded rest later x is next = is ∙ ap (λ ys. yielded ++ ys) next ∙ sym (append_assoc yielded (x ∷ []) later)

@@ -1,7 +1,7 @@
 -- The desks of a hall, from their opening to their end.
 use Rattle.std.specs.Prelude.{◌≡◌, ◌<◌, ℕ, All, Bool, if◌then◌else◌, List, length, map, slice_index_or}
 use Rattle.std.specs.List.{list_any, sum_by}
-use Rattle.cf_chart.specs.Plan.{Plan}
+use Rattle.cf_chart.specs.Common.{Plan}
 use Rattle.cf_http.specs.Doors.{DoorTells}
 use Rattle.cf_http.specs.Links.{LinkTells}
 use Rattle.cf_hall_names.specs.Closing.{IsFreshPass}

@@ -3,12 +3,11 @@ use Rattle.std.specs.Prelude.{◌≡◌, ◌⊎◌, ℕ, Bool, IsTrue, IfSome, L
 use Rattle.cf_journal_book.specs.Books.{RecoversNear}
 use Rattle.cf_journal_book.specs.DurableState.{DurableBook}
 use Rattle.cf_journal_book.specs.declared.refused.BookRefused.TheVariants as refused
-use Rattle.cf_calls.specs.declared.entry.Entry.{Entry}
-use Rattle.cf_chart.specs.Plan.{Plan}
+use Rattle.cf_model.specs.Common.{Entry, IsSoundState}
+use Rattle.cf_chart.specs.Common.{Plan}
 use Rattle.cf_hall.specs.Fronts.{IsUnacknowledged, KeptSince}
 use Rattle.cf_http.specs.Doors.{DoorTells}
 use Rattle.cf_http.specs.Links.{LinkTells}
-use Rattle.cf_model.specs.State.{IsSoundState}
 use Rattle.cf_serve.specs.declared.end.ServeEnd.{ServeEnd}
 use Rattle.cf_serve.specs.declared.end.ServeEnd.TheVariants.{Served, DoorFailed, Unopened}
 use Rattle.cf_serve_laws.specs.ServeEnds.{AllQuiet, SomeRose, links_given}

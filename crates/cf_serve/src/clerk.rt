@@ -3,7 +3,7 @@
 
 ghost use Rattle.std.specs.Prelude.{◌≡◌, ◌⊎◌, ◌+◌, ◌≤◌, ◌++◌, IfOk, OnOk, OnErr};
 ghost use Rattle.std.specs.Vec.{vec_len, vec_capacity};
-ghost use Rattle.cf_calls.specs.Form.{IsCallInForm};
+ghost use Rattle.cf_calls.specs.Common.{IsCallInForm};
 ghost use Rattle.cf_calls.specs.declared.reply.Posted.TheVariants as posted;
 ghost use Rattle.cf_http_heads.specs.Routes.{IsRouteInForm};
 ghost use Rattle.cf_json_members.specs.Faults.{Gives};

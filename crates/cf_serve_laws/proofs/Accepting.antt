@@ -1,21 +1,9 @@
 -- An accepted change's reply, and no other, names its place as its own.
 use Rattle.std.proofs.Common.{◌≡◌, ℕ, List, [], ◌∷◌, ◌++◌, length, Bool, true, false, Option, Some, None, refl, sym, ap, subst, arith, length-append, if◌then◌else◌}
-use Rattle.cf_calls.specs.declared.call.Call.{Call}
+use Rattle.cf_model.specs.Common.{Call, Change, Entry, NameKind, Read, Refusal, Body, Verdict, Accept, Repeat, Refuse, Shown, unknown_fund, unknown_dept, ahead_refusal, or_else, body_of, next_of, next_by, change_body, verdict_of, is_there_in, shown_of, or_refused, unless_refused}
 use Rattle.cf_calls.specs.declared.call.Call.TheVariants as call
-use Rattle.cf_calls.specs.declared.call.Change.{Change}
-use Rattle.cf_calls.specs.declared.entry.Entry.{Entry}
-use Rattle.cf_calls.specs.declared.names.NameKind.{NameKind}
-use Rattle.cf_calls.specs.declared.read.Read.{Read}
 use Rattle.cf_calls.specs.declared.read.Read.TheVariants as read
-use Rattle.cf_calls.specs.declared.refusal.Refusal.{Refusal}
-use Rattle.cf_calls.specs.declared.reply.Body.{Body}
-use Rattle.cf_calls.specs.declared.reply.Verdict.{Verdict}
-use Rattle.cf_calls.specs.declared.reply.Verdict.TheVariants.{Accept, Repeat, Refuse}
-use Rattle.cf_calls.specs.declared.shown.Shown.{Shown}
-use Rattle.cf_chart.specs.Plan.{Plan, line_at}
-use Rattle.cf_model.specs.RegisterRules.{unknown_fund, unknown_dept}
-use Rattle.cf_model.specs.Rules.{ahead_refusal, or_else}
-use Rattle.cf_model.specs.Step.{body_of, next_of, next_by, change_body, verdict_of, is_there_in, shown_of, or_refused, unless_refused}
+use Rattle.cf_chart.specs.Common.{Plan, line_at}
 use Rattle.cf_serve_laws.specs.PassTalks.{place_by}
 
 pub longer_not : (h : List Entry) (e : Entry) → h ≡ h ++ e ∷ [] → ⊥

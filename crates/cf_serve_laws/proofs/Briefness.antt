@@ -1,30 +1,13 @@
 -- The reply to an accepted change is brief: a voucher in form has at most 32 items, and so at most
 -- 32 assets.
 use Rattle.std.proofs.Common.{◌≡◌, ℕ, suc, ◌+◌, ◌≤◌, Bool, true, false, if◌then◌else◌, List, [], ◌∷◌, ◌++◌, length, Option, Some, None, subst, arith}
-use Rattle.cf_base.specs.declared.calendar.Day.{Day}
-use Rattle.cf_calls.specs.declared.acts.Act.{Act}
-use Rattle.cf_calls.specs.declared.acts.Act.TheVariants.{Voucher, Collect, Asset, PayDue}
-use Rattle.cf_calls.specs.declared.acts.AssetAct.TheVariants.{Donate, Dispose}
-use Rattle.cf_calls.specs.declared.call.Call.{Call}
+use Rattle.cf_model.specs.Common.{Day, Act, Voucher, Collect, PayDue, Donate, Dispose, Call, Change, Drawn, Entry, VoucherItem, Body, Verdict, Accept, Repeat, Refuse, bought, life_of, new_asset, purchase, Bond, Due, next_due, document_year, is_capital, bill_at, Registers, registers_of, bond_at, made_by, made_paid, made_payment, made_year, body_of, change_body, next_by, next_of, verdict_of}
+use Rattle.cf_calls.specs.declared.acts.Act.TheVariants.{Asset}
 use Rattle.cf_calls.specs.declared.call.Call.TheVariants as call
-use Rattle.cf_calls.specs.declared.call.Change.{Change}
-use Rattle.cf_calls.specs.declared.entry.Drawn.{Drawn}
-use Rattle.cf_calls.specs.declared.entry.Entry.{Entry}
-use Rattle.cf_calls.specs.declared.items.VoucherItem.{VoucherItem}
-use Rattle.cf_calls.specs.declared.reply.Body.{Body}
-use Rattle.cf_calls.specs.declared.reply.Verdict.{Verdict}
-use Rattle.cf_calls.specs.declared.reply.Verdict.TheVariants.{Accept, Repeat, Refuse}
-use Rattle.cf_calls.specs.Form.{IsActInForm, IsCallInForm, IsChangeInForm}
-use Rattle.cf_chart.specs.Plan.{Plan, object_at}
+use Rattle.cf_calls.specs.Common.{IsActInForm, IsCallInForm, IsChangeInForm}
+use Rattle.cf_chart.specs.Common.{Plan, object_at}
 use Rattle.cf_json_replies.specs.Replies.{IsBriefBody, assets_of}
-use Rattle.cf_model.specs.Assets.{bought, life_of, new_asset, purchase}
-use Rattle.cf_model.specs.Bonds.{Bond, Due, next_due}
-use Rattle.cf_model.specs.Calendar.{document_year}
-use Rattle.cf_model.specs.Charted.{is_capital}
-use Rattle.cf_model.specs.Receivables.{Bill, bill_at}
-use Rattle.cf_model.specs.Registers.{Registers, registers_of}
-use Rattle.cf_model.specs.Results.{bond_at, made_by, made_paid, made_payment, made_year}
-use Rattle.cf_model.specs.Step.{body_of, change_body, next_by, next_of, verdict_of}
+use Rattle.cf_model.specs.Receivables.{Bill}
 use Rattle.cf_serve_laws.proofs.Accepting.{longer_not}
 
 bought_few : (plan : Plan) (voucher : ℕ) (on : Day) (year number : ℕ) (items : List VoucherItem) → length (bought plan voucher on year number items) ≤ length items

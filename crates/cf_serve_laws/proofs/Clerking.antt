@@ -1,13 +1,10 @@
 -- What a clerk wrote is what the hall gave for the call of the request.
 use Rattle.std.proofs.Common.{◌≡◌, ◌⊎◌, inl, inr, ℕ, List, [], ◌∷◌, ◌++◌, Some, None, Result, Ok, Err, IfOk, OnOk, OnErr, refl, sym, subst, ap, ◌∙◌}
-use Rattle.cf_calls.specs.declared.call.Call.{Call}
-use Rattle.cf_calls.specs.declared.reply.Body.{Body}
-use Rattle.cf_calls.specs.declared.reply.Body.TheVariants.{Done, Refused, Shown}
-use Rattle.cf_calls.specs.declared.reply.Posted.{Posted}
+use Rattle.cf_model.specs.Common.{Call, Body, Done, Refused, Posted, Reply}
+use Rattle.cf_calls.specs.declared.reply.Body.TheVariants.{Shown}
 use Rattle.cf_calls.specs.declared.reply.Posted.TheVariants as posted
-use Rattle.cf_calls.specs.declared.reply.Reply.{Reply}
-use Rattle.cf_calls.specs.Form.{IsCallInForm}
-use Rattle.cf_chart.specs.Plan.{Plan}
+use Rattle.cf_calls.specs.Common.{IsCallInForm}
+use Rattle.cf_chart.specs.Common.{Plan}
 use Rattle.cf_http.specs.declared.request.Request.{Request}
 use Rattle.cf_http.specs.Asking.{Answered, IsAnswerCode}
 use Rattle.cf_json_members.specs.declared.fault.CallRefused.{CallRefused}

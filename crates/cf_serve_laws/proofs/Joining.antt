@@ -1,6 +1,6 @@
 -- The talks of passes whose receipts were all handed in have each new entry once.
 use Rattle.std.proofs.Common.{◌≡◌, ℕ, zero, suc, ◌+◌, ◌<◌, ◌≤◌, Bool, true, false, if◌then◌else◌, ◌==◌, List, [], ◌∷◌, ◌++◌, length, Some, slice_get, ltb, refl, sym, ap, subst, ◌∙◌, arith}
-use Rattle.std.proofs.lemmas.Bool.Decides.{nat_tests}
+use Rattle.cf_base.proofs.Common.{nat_tests}
 use Rattle.cf_turns.specs.Lists.{TaggedEntry, count_of, places_from, places_of}
 use Rattle.cf_turns.specs.States.{ReceiptsState}
 use Rattle.cf_hall_names.specs.Closing.{Closes, HasFirst, numbers_of}

@@ -1,6 +1,6 @@
 -- A door that was served by a clerk with a pass.
 use Rattle.std.proofs.Common.{ℕ, List, [], ◌∷◌, ◌++◌, Bool, subst, refl}
-use Rattle.cf_chart.specs.Plan.{Plan}
+use Rattle.cf_chart.specs.Common.{Plan}
 use Rattle.cf_http.specs.Doors.{DoorTells, DoorServed, IsEnough, IsQuiet}
 use Rattle.cf_http.specs.Links.{LinkTells}
 use Rattle.cf_turns.specs.States.{PassState}

@@ -1,10 +1,8 @@
 -- From how the service at each door ended to how the run ends.
-use Rattle.std.proofs.Common.{◌≡◌, inl, inr, ℕ, List, [], ◌∷◌, map, Bool, true, false, true≢false, refl, sym, arith}
-use Rattle.std.specs.List.{list_any, sum_by}
-use Rattle.std.proofs.lemmas.Bool.{or_cases, or_parts}
-use Rattle.std.proofs.lemmas.List.Sums.{sum_by-cons}
-use Rattle.cf_base.specs.Causes.{Rose}
-use Rattle.cf_chart.specs.Plan.{Plan}
+use Rattle.std.proofs.Common.{◌≡◌, inl, inr, ℕ, List, [], ◌∷◌, map, Bool, true, false, true≢false, refl, sym, arith, sum_by}
+use Rattle.cf_base.proofs.Common.{list_any, or_cases, or_parts, sum_by-cons}
+use Rattle.cf_base.specs.Common.{Rose}
+use Rattle.cf_chart.specs.Common.{Plan}
 use Rattle.cf_http.specs.declared.end.DoorEnd.{DoorEnd}
 use Rattle.cf_http.specs.declared.end.DoorEnd.TheVariants.{Done, DoorFault}
 use Rattle.cf_http.specs.Doors.{IsEnough, IsQuiet}

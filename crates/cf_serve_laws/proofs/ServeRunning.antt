@@ -1,11 +1,9 @@
 -- From what each worker says of its own door and pass, and the receipts, to what the run says.
 use Rattle.std.proofs.Common.{◌≡◌, ℕ, zero, suc, ◌+◌, ◌-◌, ◌^◌, ◌<◌, min, List, [], ◌∷◌, ◌++◌, length, map, Bool, All, slice_index_or, refl, sym, ap, subst, ◌∙◌, arith}
-use Rattle.std.proofs.lemmas.List.Elements.{All-head, All-tail}
+use Rattle.cf_base.proofs.Common.{All-head, All-tail}
 use mathlib.Core.List.{IsPrefix}
-use Rattle.cf_calls.specs.declared.call.Call.{Call}
-use Rattle.cf_calls.specs.declared.entry.Entry.{Entry}
-use Rattle.cf_chart.specs.Plan.{Plan}
-use Rattle.cf_model.specs.State.{IsSoundState}
+use Rattle.cf_model.specs.Common.{Call, Entry, IsSoundState}
+use Rattle.cf_chart.specs.Common.{Plan}
 use Rattle.cf_http.specs.Links.{LinkTells}
 use Rattle.cf_hall_names.specs.Lists.{entries_of}
 use Rattle.cf_turns.specs.Lists.{TaggedEntry}

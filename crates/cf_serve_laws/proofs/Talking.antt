@@ -1,12 +1,9 @@
 -- What a pass was told of its calls is a talk over every history that begins with what it has seen.
 use Rattle.std.proofs.Common.{◌≡◌, inl, inr, ℕ, ◌+◌, ◌-◌, ◌^◌, ◌≤◌, min, List, [], ◌∷◌, ◌++◌, length, sym, ap, subst, ◌∙◌, arith, length-append, append_assoc, append-nil}
 use mathlib.Core.List.{IsPrefix}
-use Rattle.cf_calls.specs.declared.call.Call.{Call}
-use Rattle.cf_calls.specs.declared.entry.Entry.{Entry}
-use Rattle.cf_calls.specs.declared.reply.Posted.{Posted}
+use Rattle.cf_model.specs.Common.{Call, Entry, Posted, Reply}
 use Rattle.cf_calls.specs.declared.reply.Posted.TheVariants as posted
-use Rattle.cf_calls.specs.declared.reply.Reply.{Reply}
-use Rattle.cf_chart.specs.Plan.{Plan}
+use Rattle.cf_chart.specs.Common.{Plan}
 use Rattle.cf_hall_names.specs.Lists.{entries_of}
 use Rattle.cf_turns.specs.Lists.{TaggedEntry}
 use Rattle.cf_turns.specs.States.{PassState}

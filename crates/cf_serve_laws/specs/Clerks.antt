@@ -1,14 +1,10 @@
 -- What a clerk at a door answers.
 use Rattle.std.specs.Prelude.{◌≡◌, ℕ, List, [], ◌∷◌, ◌++◌, Option, Some, None, Result, Ok, Err, ⊤, Bool}
-use Rattle.cf_calls.specs.declared.call.Call.{Call}
+use Rattle.cf_model.specs.Common.{Call, Read, Body, Refused, Posted}
 use Rattle.cf_calls.specs.declared.call.Call.TheVariants as call
-use Rattle.cf_calls.specs.declared.read.Read.{Read}
 use Rattle.cf_calls.specs.declared.read.Read.TheVariants as read
-use Rattle.cf_calls.specs.declared.reply.Body.{Body}
-use Rattle.cf_calls.specs.declared.reply.Body.TheVariants.{Refused}
-use Rattle.cf_calls.specs.declared.reply.Posted.{Posted}
 use Rattle.cf_calls.specs.declared.reply.Posted.TheVariants as posted
-use Rattle.cf_chart.specs.Plan.{Plan}
+use Rattle.cf_chart.specs.Common.{Plan}
 use Rattle.cf_http_heads.specs.declared.route.Route.{Route}
 use Rattle.cf_http_heads.specs.declared.route.Route.TheVariants as route
 use Rattle.cf_http.specs.declared.request.Request.{Request}

@@ -1,6 +1,6 @@
 -- Desks: a door each, and the clerk who answers there.
 use Rattle.std.specs.Prelude.{ℕ, Bool, true, false}
-use Rattle.cf_chart.specs.Plan.{Plan}
+use Rattle.cf_chart.specs.Common.{Plan}
 use Rattle.cf_http.specs.declared.end.DoorEnd.{DoorEnd}
 use Rattle.cf_http.specs.declared.end.DoorEnd.TheVariants.{Done, DoorFault}
 use Rattle.cf_http.specs.Doors.{DoorTells, IsEnough, IsQuiet}

@@ -1,15 +1,9 @@
 -- What the calls of one pass are answered, over one history.
 use Rattle.std.specs.Prelude.{◌≡◌, ℕ, ◌+◌, ◌≤◌, ◌<◌, List, [], ◌∷◌, ◌++◌, length, None, ⊤}
 use mathlib.Core.List.{IsPrefix}
-use Rattle.cf_calls.specs.declared.call.Call.{Call}
-use Rattle.cf_calls.specs.declared.entry.Entry.{Entry}
-use Rattle.cf_calls.specs.declared.reply.Body.{Body}
-use Rattle.cf_calls.specs.declared.reply.Body.TheVariants.{Done}
-use Rattle.cf_calls.specs.declared.reply.Posted.{Posted}
+use Rattle.cf_model.specs.Common.{Call, Entry, Body, Done, Posted, Reply, IsLegal, body_of, next_of}
 use Rattle.cf_calls.specs.declared.reply.Posted.TheVariants as posted
-use Rattle.cf_calls.specs.declared.reply.Reply.{Reply}
-use Rattle.cf_chart.specs.Plan.{Plan}
-use Rattle.cf_model.specs.Step.{IsLegal, body_of, next_of}
+use Rattle.cf_chart.specs.Common.{Plan}
 use Rattle.cf_turns.specs.States.{PassState}
 use Rattle.cf_hall_names.specs.Telling.{IsAccepted, Tells}
 

@@ -1,7 +1,7 @@
 -- What the output of a run of `serve` holds.
 use Rattle.std.specs.Prelude.{◌≡◌, ◌⊎◌, ℕ, ◌+◌, ◌-◌, List, [], ◌∷◌, ◌++◌, ⊤, Option, codes, decimal}
 use Rattle.std.specs.Io.KnownBytes.{Appends}
-use Rattle.cf_base.specs.Causes.{Rose}
+use Rattle.cf_base.specs.Common.{Rose}
 use Rattle.cf_http.specs.Links.{SentFront}
 use Rattle.cf_http.specs.Doors.{DoorTells}
 

@@ -1,13 +1,11 @@
 -- What a run of `serve` says of its doors and of its history.
 use Rattle.std.specs.Prelude.{◌≡◌, ℕ, ◌+◌, List, [], ◌∷◌, ◌++◌, length, Bool, ⊤}
 use mathlib.Core.List.{IsPrefix}
-use Rattle.cf_calls.specs.declared.call.Call.{Call}
-use Rattle.cf_calls.specs.declared.entry.Entry.{Entry}
-use Rattle.cf_chart.specs.Plan.{Plan}
+use Rattle.cf_model.specs.Common.{Call, Entry, IsSoundState}
+use Rattle.cf_chart.specs.Common.{Plan}
 use Rattle.cf_http.specs.declared.end.DoorEnd.{DoorEnd}
 use Rattle.cf_http.specs.Doors.{DoorTells, DoorServed, IsEnough, IsQuiet}
 use Rattle.cf_http.specs.Links.{LinkTells}
-use Rattle.cf_model.specs.State.{IsSoundState}
 use Rattle.cf_turns.specs.Lists.{TaggedEntry}
 use Rattle.cf_serve_laws.specs.Clerks.{Adds}
 use Rattle.cf_hall_names.specs.Closing.{IsFreshPass, RoseBy}

@@ -1,6 +1,6 @@
 -- Activities together: in any grouping, and each small.
 use Rattle.std.proofs.Common.{◌≡◌, ℕ, ◌+◌, ◌*◌, ◌≤◌, ℤ, ◌+ℤ◌, unsigned_abs, arith}
-use Rattle.std.proofs.lemmas.Int.{ints}
+use Rattle.cf_base.proofs.Common.{ints}
 use Rattle.cf_statements.specs.declared.activity.Activity.{Activity}
 use Rattle.cf_statements.specs.Activities.{AreWithin, plus}
 

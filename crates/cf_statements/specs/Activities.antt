@@ -2,7 +2,7 @@
 -- what its own revenues leave of that, and what the general revenues cover.
 use Rattle.std.specs.Prelude.{ℕ, ℤ, Bool, true, false, pos, ◌+◌, ◌≤◌, ◌==◌, ◌+ℤ◌, ◌-ℤ◌, if◌then◌else◌, List, [], ◌∷◌, ◌++◌, map, flat_map, neg_ℤ, codes, unsigned_abs}
 use Rattle.cf_calls.specs.declared.reply.Row.{Row}
-use Rattle.cf_chart.specs.Plan.{Plan}
+use Rattle.cf_chart.specs.Common.{Plan}
 use Rattle.cf_chart.specs.declared.rows.Function.{Function}
 use Rattle.cf_chart.specs.declared.rows.RevenueKind.{RevenueKind}
 use Rattle.cf_chart.specs.declared.rows.RevenueKind.TheVariants as kind

@@ -2,7 +2,7 @@
 -- year.
 use Rattle.std.specs.Prelude.{ℕ, List, [], ◌∷◌, ◌++◌, flat_map, neg_ℤ, codes}
 use Rattle.cf_calls.specs.declared.reply.Row.{Row}
-use Rattle.cf_chart.specs.Plan.{Plan}
+use Rattle.cf_chart.specs.Common.{Plan}
 use Rattle.cf_chart.specs.declared.rows.Fund.{Fund}
 use Rattle.cf_statements.specs.Sums.{Sums, heading, single}
 

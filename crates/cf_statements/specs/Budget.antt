@@ -2,7 +2,7 @@
 -- amounts, encumbrances, and what is left.
 use Rattle.std.specs.Prelude.{ℕ, ℤ, pos, ◌+◌, ◌==◌, ◌&&◌, ◌-ℤ◌, if◌then◌else◌, List, [], ◌∷◌, ◌++◌, flat_map, neg_ℤ, codes, decimal}
 use Rattle.cf_calls.specs.declared.reply.Row.{Row}
-use Rattle.cf_chart.specs.Plan.{Plan, is_of_year}
+use Rattle.cf_chart.specs.Common.{Plan, is_of_year}
 use Rattle.cf_chart.specs.declared.rows.Fund.{Fund}
 use Rattle.cf_chart.specs.declared.rows.Line.{Line}
 use Rattle.cf_chart.specs.declared.rows.RevenueSource.{RevenueSource}

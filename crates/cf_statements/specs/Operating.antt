@@ -2,7 +2,7 @@
 -- resources): the posts of the year alone.
 use Rattle.std.specs.Prelude.{ℕ, ℤ, true, ◌+◌, ◌==◌, ◌+ℤ◌, ◌-ℤ◌, if◌then◌else◌, List, [], ◌∷◌, ◌++◌, map, flat_map, neg_ℤ, codes}
 use Rattle.cf_calls.specs.declared.reply.Row.{Row}
-use Rattle.cf_chart.specs.Plan.{Plan}
+use Rattle.cf_chart.specs.Common.{Plan}
 use Rattle.cf_chart.specs.declared.rows.Function.{Function}
 use Rattle.cf_chart.specs.declared.rows.Fund.{Fund}
 use Rattle.cf_chart.specs.declared.rows.RevenueSource.{RevenueSource}

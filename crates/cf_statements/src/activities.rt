@@ -1,6 +1,6 @@
 //! The statement of activities.
 ghost use Rattle.std.specs.Prelude.{◌≡◌, ◌<◌, ◌≤◌, ◌^◌, ◌++◌, ◌∷◌, [], IfOk, OnOk, length, unsigned_abs};
-ghost use Rattle.cf_calls.specs.Form.{IsYear};
+ghost use Rattle.cf_calls.specs.Common.{IsYear};
 ghost use Rattle.cf_statements.specs.Activities as spec;
 ghost use Rattle.cf_statements.specs.Activities.{AreWithin};
 ghost use Rattle.cf_statements.specs.Sums.{single};

@@ -1,6 +1,6 @@
 //! The budgetary comparison.
 ghost use Rattle.std.specs.Prelude.{◌≡◌, ◌≤◌, ◌<◌, ◌^◌, ◌++◌, ◌∷◌, [], ℕ, true, IfOk, OnOk, unsigned_abs, length};
-ghost use Rattle.cf_calls.specs.Form.{IsYear};
+ghost use Rattle.cf_calls.specs.Common.{IsYear};
 ghost use Rattle.cf_statements.specs.Budget.{budget_rows, fund_revenue, line_row, line_rows, source_row, source_rows};
 
 use crate::figures::{Figures, in_year};

@@ -1,7 +1,7 @@
 //! What statements read of an office.
 ghost use Rattle.std.specs.Prelude.{◌≡◌, ◌<◌, ◌≤◌, ◌-◌, ◌^◌, ℕ, Bool, true, length, unsigned_abs};
-ghost use Rattle.cf_calls.specs.Form.{IsYear};
-ghost use Rattle.cf_chart.specs.Plan.{Plan};
+ghost use Rattle.cf_calls.specs.Common.{IsYear};
+ghost use Rattle.cf_chart.specs.Common.{Plan};
 ghost use Rattle.cf_statements.specs.Sums as spec;
 ghost use Rattle.cf_statements.specs.Sums.{Sums};
 

@@ -1,6 +1,6 @@
 //! The statement of revenues, expenditures and changes in fund balances.
 ghost use Rattle.std.specs.Prelude.{◌≡◌, ◌<◌, ◌≤◌, ◌^◌, ◌*◌, ◌++◌, ◌∷◌, [], IfOk, OnOk, flat_map, length, unsigned_abs};
-ghost use Rattle.cf_calls.specs.Form.{IsYear};
+ghost use Rattle.cf_calls.specs.Common.{IsYear};
 ghost use Rattle.cf_statements.specs.Operating as spec;
 ghost use Rattle.cf_statements.specs.Sums.{single};
 

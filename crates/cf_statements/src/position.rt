@@ -1,6 +1,6 @@
 //! The statement of net position.
 ghost use Rattle.std.specs.Prelude.{◌≡◌, IfOk};
-ghost use Rattle.cf_calls.specs.Form.{IsYear};
+ghost use Rattle.cf_calls.specs.Common.{IsYear};
 ghost use Rattle.cf_statements.specs.Position.{position_rows};
 
 use crate::figures::Figures;

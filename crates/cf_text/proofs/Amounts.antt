@@ -1,7 +1,7 @@
 -- An amount, piece by piece.
 use Rattle.std.proofs.Common.{◌≡◌, ◌∙◌, ◌+◌, ◌-◌, ◌<◌, ◌/◌, ◌%◌, ℕ, ℤ, List, [], ◌∷◌, ◌++◌, length, refl, sym, ap, ap₂, arith, append_assoc, length-append, unsigned_abs, decimal}
-use Rattle.std.proofs.lemmas.Fmt.{decimal_digit}
-use Rattle.cf_base.specs.Amounts.{money_of, sign_text, size_text}
+use Rattle.cf_base.proofs.Common.{decimal_digit}
+use Rattle.cf_base.specs.Common.{money_of, sign_text, size_text}
 use Rattle.cf_text.specs.Statement.{amount_text, blanks}
 
 -- the hundredths are two digits

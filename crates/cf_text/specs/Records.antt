@@ -2,7 +2,7 @@
 use Rattle.std.specs.Prelude.{ℕ, ℤ, List, [], ◌∷◌, Option, Some, None, flat_map, slice_get}
 use Rattle.csv.specs.Writing.{default_writer, row_text}
 use Rattle.cf_calls.specs.declared.reply.Row.{Row}
-use Rattle.cf_base.specs.Amounts.{money_of}
+use Rattle.cf_base.specs.Common.{money_of}
 
 abbrev pub amount_field : Option ℤ → List ℕ
 amount_field None = []

@@ -1,6 +1,6 @@
 -- A statement as text: a title line, and a line for each row.
 use Rattle.std.specs.Prelude.{ℕ, ℤ, ◌-◌, List, [], ◌∷◌, ◌++◌, codes, decimal, flat_map, length, replicate}
-use Rattle.cf_base.specs.Amounts.{money_of}
+use Rattle.cf_base.specs.Common.{money_of}
 use Rattle.cf_calls.specs.declared.reply.Row.{Row}
 
 abbrev pub blanks : ℕ → List ℕ

@@ -1,6 +1,6 @@
 //! A statement as lines of text.
 ghost use Rattle.std.specs.Prelude.{◌≡◌, ◌++◌, OnOk, OnErr, unsigned_abs};
-ghost use Rattle.cf_base.specs.Amounts.{sign_text};
+ghost use Rattle.cf_base.specs.Common.{sign_text};
 ghost use Rattle.cf_text.specs.Statement.{amount_text, blanks, count_line, label_text, row_line, statement_text};
 
 use cf_calls::Row;

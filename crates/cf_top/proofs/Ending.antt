@@ -1,7 +1,6 @@
 -- How a run ends whose words can't be read, or ask for nothing.
 use Rattle.std.proofs.Common.{◌≡◌, ℕ, List, length, take, Option, Some, None, inl, inr, refl, sym, subst, ◌∙◌}
-use Rattle.std.proofs.lemmas.Bool.{cases_lt}
-use Rattle.std.proofs.KnownBytes.{Consumes-nil}
+use Rattle.cf_base.proofs.Common.{cases_lt, Consumes-nil}
 use Rattle.cf_disk.specs.Moments.{AtEachMoment}
 use Rattle.cf_run_words.specs.declared.words.Command.{Command}
 use Rattle.cf_run_words.specs.declared.words.Command.TheVariants as command

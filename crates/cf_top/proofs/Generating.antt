@@ -1,10 +1,8 @@
 -- A run of `generate`.
 use Rattle.std.proofs.Common.{◌≡◌, ℕ, List, [], Option, Result, Ok, Err, IfOk, OnErr, Vec, refl, sym, subst}
 use Rattle.std.specs.Global.{Global}
-use Rattle.cf_calls.specs.declared.entry.Entry.{Entry}
-use Rattle.cf_calls.specs.declared.shown.ReconShown.{ReconShown}
-use Rattle.cf_chart.specs.Plan.{Plan}
-use Rattle.cf_chart.specs.Reading.{chart_of}
+use Rattle.cf_model.specs.Common.{Entry, ReconShown}
+use Rattle.cf_chart.specs.Common.{Plan, chart_of}
 use Rattle.cf_run_generate.specs.Generated.{chart_text, generated}
 use Rattle.cf_run_status.specs.declared.status.Status.{Status}
 use Rattle.cf_run_status.specs.declared.status.Status.TheVariants as status

@@ -1,7 +1,6 @@
 -- A run of `serve` over the journal of a disk.
 use Rattle.std.proofs.Common.{◌≡◌, ⊎_elim, ℕ, ◌≤◌, List, [], ◌++◌, length, map, take, IfSome, Option, Ok, sym, subst, ap, ◌∙◌}
-use Rattle.std.proofs.lemmas.List.{length-take-le}
-use Rattle.std.proofs.Math.Seq.{take-append_seam}
+use Rattle.cf_base.proofs.Common.{length-take-le, take-append_seam}
 use Rattle.cf_model_articulation.proofs.Articulated.{articulates_always}
 use Rattle.cf_model_articulation.proofs.ReadCharts.{read_chart}
 use Rattle.cf_journal_book.specs.DurableState.{DurableBook}
@@ -9,8 +8,8 @@ use Rattle.cf_journal_book.specs.Openings.{OpensBook, Refuses}
 use Rattle.cf_journal_book.specs.Recovery.{recovered}
 use Rattle.cf_journal_book.specs.declared.refused.BookRefused.{BookRefused}
 use Rattle.cf_journal_book.specs.declared.refused.BookRefused.TheVariants as refused
-use Rattle.cf_calls.specs.declared.entry.Entry.{Entry}
-use Rattle.cf_chart.specs.Reading.{chart_of}
+use Rattle.cf_model.specs.Common.{Entry}
+use Rattle.cf_chart.specs.Common.{chart_of}
 use Rattle.cf_model_closed.proofs.ClosedYears.{closed_years_always}
 use Rattle.cf_disk.specs.Moments.{AtEachMoment}
 use Rattle.cf_hall.specs.Fronts.{IsUnacknowledged, KeptSince}

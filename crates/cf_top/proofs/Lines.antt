@@ -1,13 +1,9 @@
 -- What a crash leaves at each moment of a line that is answered over a book.
-use Rattle.std.proofs.Common.{◌≡◌, ◌⊎◌, ℕ, ◌≤◌, List, [], ◌∷◌, ◌++◌, Option, Some, None, IfSome, IsTrue, length, length-append, refl, sym, subst, ◌∙◌, inl, inr, ⊎_elim, arith}
-use Rattle.std.specs.List.{Contains}
-use Rattle.std.proofs.lemmas.List.Elements.{Contains-push}
-use Rattle.cf_calls.specs.declared.call.Call.{Call}
-use Rattle.cf_calls.specs.declared.entry.Entry.{Entry}
-use Rattle.cf_calls.specs.declared.reply.Posted.{Posted}
+use Rattle.std.proofs.Common.{◌≡◌, ◌⊎◌, ℕ, ◌≤◌, List, [], ◌∷◌, ◌++◌, Option, Some, None, IfSome, IsTrue, length, length-append, refl, sym, subst, ◌∙◌, inl, inr, ⊎_elim, arith, Contains}
+use Rattle.cf_base.proofs.Common.{Contains-push}
+use Rattle.cf_model.specs.Common.{Call, Entry, Posted, Reply}
 use Rattle.cf_calls.specs.declared.reply.Posted.TheVariants as posted
-use Rattle.cf_calls.specs.declared.reply.Reply.{Reply}
-use Rattle.cf_chart.specs.Plan.{Plan}
+use Rattle.cf_chart.specs.Common.{Plan}
 use Rattle.cf_disk.specs.Moments.{AtEachMoment}
 use Rattle.cf_journal.proofs.Moments.{weaken}
 use Rattle.cf_journal_book.specs.Books.{IsInHand, RecoversNear}

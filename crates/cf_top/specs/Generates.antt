@@ -1,11 +1,8 @@
 -- What a run of `generate` says, by its status.
 use Rattle.std.specs.Prelude.{◌≡◌, ℕ, List, ◌++◌, length, codes, Option, Ok}
-use Rattle.cf_calls.specs.declared.entry.Entry.{Entry}
-use Rattle.cf_calls.specs.declared.shown.ReconShown.{ReconShown}
-use Rattle.cf_chart.specs.Plan.{Plan}
-use Rattle.cf_chart.specs.Reading.{chart_of}
+use Rattle.cf_model.specs.Common.{Entry, ReconShown, recon_shown}
+use Rattle.cf_chart.specs.Common.{Plan, chart_of}
 use Rattle.cf_run_generate.specs.Generated.{chart_text, generated}
-use Rattle.cf_model.specs.ReconShown.{recon_shown}
 use Rattle.cf_statements.specs.Sums.{single}
 use Rattle.cf_text.specs.Statement.{count_line, row_line}
 use Rattle.cf_run_status.specs.declared.status.Status.{Status}

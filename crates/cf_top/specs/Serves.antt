@@ -6,14 +6,13 @@ use Rattle.cf_journal_book.specs.Books.{RecoversNear}
 use Rattle.cf_journal_book.specs.Openings.{Refuses}
 use Rattle.cf_journal_book.specs.Recovery.{recovered, RecoversTo}
 use Rattle.cf_journal_book.specs.declared.refused.BookRefused.TheVariants as refused
-use Rattle.cf_calls.specs.declared.entry.Entry.{Entry}
-use Rattle.cf_chart.specs.Plan.{Plan}
+use Rattle.cf_model.specs.Common.{Entry, IsSoundState}
+use Rattle.cf_chart.specs.Common.{Plan}
 use Rattle.cf_model_closed.specs.ClosedYears.{ClosedYearsStay}
 use Rattle.cf_base_lines.specs.Sinks.{Wrote}
 use Rattle.cf_disk.specs.Moments.{AtEachMoment}
 use Rattle.cf_hall.specs.Fronts.{IsUnacknowledged, KeptSince}
 use Rattle.cf_http.specs.Doors.{DoorTells}
-use Rattle.cf_model.specs.State.{IsSoundState}
 use Rattle.cf_serve.specs.declared.end.ServeEnd.{ServeEnd}
 use Rattle.cf_serve.specs.declared.end.ServeEnd.TheVariants as end
 use Rattle.cf_serve_laws.specs.ServeEnds.{AllQuiet, SomeRose, EndsWhole, EndsUnwritten, links_given, served_text}

@@ -1,7 +1,7 @@
 //! The run of `generate`.
 
 ghost use Rattle.std.specs.Prelude.{◌≡◌, ◌≢◌, ◌≤◌, ◌++◌, IfOk, OnOk};
-ghost use Rattle.cf_base.specs.Causes.{Rose};
+ghost use Rattle.cf_base.specs.Common.{Rose};
 ghost use Rattle.cf_statements.specs.Sums.{single};
 ghost use Rattle.cf_text.specs.Statement.{row_line};
 ghost use Rattle.cf_top.specs.Generates as spec;

@@ -2,7 +2,7 @@
 
 ghost use Rattle.std.specs.Prelude.{◌≡◌, ◌≢◌, ◌+◌, ◌-◌, ◌≤◌, ◌<◌, ◌++◌, [], IfOk, drop, length, reverse, take};
 ghost use Rattle.std.specs.Vec.{vec_len, vec_capacity};
-ghost use Rattle.cf_base.specs.Causes.{Rose};
+ghost use Rattle.cf_base.specs.Common.{Rose};
 ghost use Rattle.cf_serve_laws.specs.ServeEnds.{served_text};
 ghost use Rattle.cf_journal_book.specs.declared.refused.BookRefused.TheVariants as refused;
 ghost use Rattle.cf_run_status.specs.Devices.{device};

@@ -1,6 +1,5 @@
 -- The calls of a number in a list that gains one.
-use Rattle.std.proofs.Common.{◌≡◌, ◌≢◌, ℕ, List, [], ◌∷◌, ◌++◌, Bool, eq-eqb, ne_eqb, refl, sym, ap, ◌∙◌, append_assoc, append-nil}
-use Rattle.std.specs.Prelude.{◌==◌, if◌then◌else◌}
+use Rattle.std.proofs.Common.{◌≡◌, ◌≢◌, ℕ, List, [], ◌∷◌, ◌++◌, Bool, eq-eqb, ne_eqb, refl, sym, ap, ◌∙◌, append_assoc, append-nil, ◌==◌, if◌then◌else◌}
 use Rattle.cf_calls.specs.declared.call.Call.{Call}
 use Rattle.cf_turns.specs.Lists.{TaggedCall, calls_of}
 

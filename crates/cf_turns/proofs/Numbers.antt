@@ -1,7 +1,6 @@
 -- How often a number stands in a list that gains one.
-use Rattle.std.proofs.Common.{◌≡◌, ◌≢◌, ℕ, ◌+◌, ◌≤◌, List, [], ◌∷◌, ◌++◌, ap, subst, arith}
-use Rattle.std.specs.Prelude.{◌==◌, if◌then◌else◌}
-use Rattle.std.proofs.lemmas.Bool.Decides.{nat_tests}
+use Rattle.std.proofs.Common.{◌≡◌, ◌≢◌, ℕ, ◌+◌, ◌≤◌, List, [], ◌∷◌, ◌++◌, ap, subst, arith, ◌==◌, if◌then◌else◌}
+use Rattle.cf_base.proofs.Common.{nat_tests}
 use native.Mathlib.Decide.{ℕ_discrete}
 use Rattle.cf_turns.specs.Lists.{count_of}
 

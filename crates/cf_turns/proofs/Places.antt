@@ -1,6 +1,5 @@
 -- The places of a number's entries in a list that gains one.
-use Rattle.std.proofs.Common.{◌≡◌, ◌≢◌, ℕ, ◌+◌, ◌≤◌, List, [], ◌∷◌, ◌++◌, length, Bool, true, false, eq-eqb, ne_eqb, refl, sym, ap, ◌∙◌, arith, append_assoc, append-nil}
-use Rattle.std.specs.Prelude.{◌==◌, if◌then◌else◌}
+use Rattle.std.proofs.Common.{◌≡◌, ◌≢◌, ℕ, ◌+◌, ◌≤◌, List, [], ◌∷◌, ◌++◌, length, Bool, true, false, eq-eqb, ne_eqb, refl, sym, ap, ◌∙◌, arith, append_assoc, append-nil, ◌==◌, if◌then◌else◌}
 use Rattle.cf_calls.specs.declared.entry.Entry.{Entry}
 use Rattle.cf_turns.specs.Lists.{TaggedEntry, places_from, places_of}
 

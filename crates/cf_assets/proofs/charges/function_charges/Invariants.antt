@@ -1,8 +1,8 @@
 use Rattle.std.proofs.Common.{◌≡◌, ◌≤◌, ◌<◌, ◌*◌, ℕ, true, false, length, get_or, take, sum_by}
-use Rattle.cf_chart.specs.declared.rows.Function.{Function}
+use Rattle.cf_model.specs.Common.{Function}
 use Rattle.cf_assets.proofs.Charged.{at_place, part_of}
 use Rattle.cf_assets.proofs.charges.function_charges.Given as goal
-use Rattle.cf_base.specs.Limits.{most_cents}
+use Rattle.cf_base.specs.Common.{most_cents}
 
 abbrev pub invariant-loop-at : goal.invariant-loop-at
 invariant-loop-at l = record {

@@ -1,5 +1,5 @@
 use Rattle.std.proofs.Common.{◌+◌, ◌-◌, ◌/◌, ◌<◌, ◌≡◌, ◌≤◌, ℕ, length, sym, subst, arith}
-use Rattle.cf_chart.specs.declared.rows.Function.{Function}
+use Rattle.cf_model.specs.Common.{Function}
 use Rattle.cf_assets.proofs.Charged.{halve_up, halve_down}
 use Rattle.cf_assets.proofs.charges.place_of.Goals as goal
 

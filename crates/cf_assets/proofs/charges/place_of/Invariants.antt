@@ -1,5 +1,5 @@
 use Rattle.std.proofs.Common.{◌≤◌, ◌<◌, ◌-◌, ℕ, length, get_or}
-use Rattle.cf_chart.specs.declared.rows.Function.{Function}
+use Rattle.cf_model.specs.Common.{Function}
 use Rattle.cf_assets.proofs.charges.place_of.Given as goal
 
 abbrev pub invariant-halving : goal.invariant-halving

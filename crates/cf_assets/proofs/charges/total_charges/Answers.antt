@@ -3,7 +3,7 @@ use Rattle.cf_assets.specs.Rows.{view_asset}
 use Rattle.cf_assets.proofs.InService.{within, few}
 use Rattle.cf_assets.proofs.Charged.{one_more, all_charged, all_leased}
 use Rattle.cf_assets.specs.Charges.{charge_in}
-use Rattle.cf_model.specs.Assets.{charge}
+use Rattle.cf_model.specs.Common.{charge}
 use Rattle.cf_assets.proofs.charges.total_charges.Goals as goal
 
 pub bounds-rows-at : goal.bounds-rows-at

@@ -1,9 +1,9 @@
 use Rattle.std.proofs.Common.{◌≡◌, ◌≤◌, ◌*◌, get_or, take, sum_by, true}
 use Rattle.cf_assets.specs.Rows.{view_asset, no_row}
 use Rattle.cf_assets.specs.Charges.{charge_in}
-use Rattle.cf_model.specs.Assets.{charge}
+use Rattle.cf_model.specs.Common.{charge}
 use Rattle.cf_assets.proofs.charges.total_charges.Given as goal
-use Rattle.cf_base.specs.Limits.{most_cents}
+use Rattle.cf_base.specs.Common.{most_cents}
 
 abbrev pub invariant-loop-at : goal.invariant-loop-at
 invariant-loop-at l = record {

@@ -3,9 +3,7 @@ use Rattle.cf_assets.specs.Extents.{IsExtent}
 use Rattle.cf_assets.specs.Rows.{view_asset, no_row}
 use Rattle.cf_assets.proofs.Finding.{rest, refusal_found}
 use Rattle.cf_assets.proofs.Standing.{of_voucher, scan_first, scan_more, scan_last}
-use Rattle.cf_calls.specs.declared.refusal.Refusal.{Refusal}
-use Rattle.cf_model.specs.RegisterRules.{voided_asset}
-use Rattle.cf_model.specs.Rules.{or_else, first_refusal}
+use Rattle.cf_model.specs.Common.{Refusal, voided_asset, or_else, first_refusal}
 use Rattle.cf_assets.proofs.rules.bought_refusal.Goals as goal
 
 none_is : (r : Option Refusal) → is_some r ≡ false → r ≡ None

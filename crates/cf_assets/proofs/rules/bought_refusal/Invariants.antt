@@ -1,9 +1,7 @@
-use Rattle.std.proofs.Common.{◌≡◌}
-use Rattle.std.specs.List.{filter}
+use Rattle.std.proofs.Common.{◌≡◌, filter}
 use Rattle.cf_assets.proofs.Finding.{rest}
 use Rattle.cf_assets.proofs.Standing.{of_voucher}
-use Rattle.cf_model.specs.RegisterRules.{voided_asset}
-use Rattle.cf_model.specs.Rules.{first_refusal}
+use Rattle.cf_model.specs.Common.{voided_asset, first_refusal}
 use Rattle.cf_assets.proofs.rules.bought_refusal.Given as goal
 
 abbrev pub invariant-loop-at : goal.invariant-loop-at

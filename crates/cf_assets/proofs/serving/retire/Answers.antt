@@ -1,5 +1,5 @@
 use Rattle.std.proofs.Common.{rules}
-use Rattle.std.proofs.lemmas.Fn.{filter_same}
+use Rattle.cf_base.proofs.Common.{filter_same}
 use Rattle.cf_assets.proofs.serving.retire.Goals as goal
 
 pub returns : goal.returns

@@ -1,6 +1,6 @@
 use Rattle.std.proofs.Common.{◌≡◌, ◌+◌, ◌≤◌, ◌++◌, ℕ, length, drop}
 use Rattle.cf_assets.specs.declared.rows.Acquired.TheVariants.{Bought}
-use Rattle.cf_model.specs.Assets.{bought}
+use Rattle.cf_model.specs.Common.{bought}
 use Rattle.cf_assets.proofs.steps.buy_all.Given as goal
 
 abbrev pub invariant-loop-item : goal.invariant-loop-item

@@ -3,7 +3,7 @@ use Rattle.jiff_core.proofs.SignedLemmas.{signed_arith}
 use Rattle.jiff_core.specs.declared.civil.date.Date.{Date}
 use Rattle.jiff_core.specs.Date.{epoch_day}
 use Rattle.jiff.specs.Words.{IsBetween}
-use Rattle.cf_base.specs.Calendar.{day_of_number}
+use Rattle.cf_base.specs.Common.{day_of_number}
 use Rattle.cf_base.proofs.DayNumbers.{Within, later_day_with, reached_later}
 use Rattle.cf_base.proofs.calendar.month_at.Goals as goal
 

@@ -1,5 +1,5 @@
 use Rattle.std.proofs.Common.{◌≡◌, ◌<◌, ◌≢◌, ℕ, IfSome, None}
-use Rattle.cf_base.specs.Shares.{HasFloor, IsAhead}
+use Rattle.cf_base.specs.Common.{HasFloor, IsAhead}
 use Rattle.cf_base.proofs.shares.next_place.Given as goal
 
 -- what is said of the best place, of the places below i

@@ -1,7 +1,7 @@
 use Rattle.std.proofs.Common.{◌≡◌, ◌∙◌, ◌+◌, ◌++◌, ◌∷◌, [], ap, take, map, sum_by, arith, sym, get_or}
 use Rattle.std.proofs.lemmas.List.{map-append, take_more, take_more_set, take_all}
 use Rattle.std.proofs.lemmas.List.Sums.{sum_by_more, sum_by_more_le}
-use Rattle.cf_base.specs.Shares.{floor_of}
+use Rattle.cf_base.specs.Common.{floor_of}
 use Rattle.cf_base.proofs.Floors.{floors_fit, left_few}
 use Rattle.cf_base.proofs.shares.put_floors.Goals as goal
 

@@ -1,5 +1,5 @@
 use Rattle.std.proofs.Common.{◌≡◌, ◌+◌, take, map, sum_by}
-use Rattle.cf_base.specs.Shares.{floor_of}
+use Rattle.cf_base.specs.Common.{floor_of}
 use Rattle.cf_base.proofs.shares.put_floors.Given as goal
 
 abbrev pub invariant-loop-i : goal.invariant-loop-i

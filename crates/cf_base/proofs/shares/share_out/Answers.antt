@@ -1,6 +1,6 @@
 use Rattle.std.proofs.Common.{◌∙◌, ◌+◌, ap, sum, arith, refl, slice_index}
 use Rattle.std.proofs.lemmas.List.Sums.{sum-map, sum_by-set}
-use Rattle.cf_base.specs.Shares.{floor_of}
+use Rattle.cf_base.specs.Common.{floor_of}
 use Rattle.cf_base.proofs.Floors.{fair_more, none_left}
 use Rattle.cf_base.proofs.shares.share_out.Goals as goal
 

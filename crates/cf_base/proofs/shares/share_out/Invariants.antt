@@ -1,5 +1,5 @@
 use Rattle.std.proofs.Common.{◌≡◌, ◌+◌, take, sum}
-use Rattle.cf_base.specs.Shares.{AreFair}
+use Rattle.cf_base.specs.Common.{AreFair}
 use Rattle.cf_base.proofs.shares.share_out.Given as goal
 
 abbrev pub invariant-loop-weight : goal.invariant-loop-weight

@@ -1,6 +1,6 @@
 use Rattle.std.proofs.Common.{arith, rules, refl, inr, ◌≡◌, ◌∙◌, ℕ, subst}
-use Rattle.std.proofs.KnownBytes.{Consumes-nil}
-use Rattle.cf_base.specs.Causes.{Rose}
+use Rattle.cf_base.proofs.Common.{Consumes-nil}
+use Rattle.cf_base.specs.Common.{Rose}
 use Rattle.cf_base_lines.proofs.Chunks.{took_more, at_end, same_error}
 use Rattle.cf_base_lines.specs.declared.input.Unread.TheVariants.{Fault, NoMemory}
 use Rattle.cf_base_lines.proofs.input.read_all.Goals as goal

@@ -1,5 +1,5 @@
 use Rattle.std.proofs.Common.{[], subst, arith}
-use Rattle.std.proofs.lemmas.List.{append-nil}
+use Rattle.cf_base.proofs.Common.{append-nil}
 use Rattle.cf_base_lines.specs.Run.{moment_of}
 use Rattle.cf_base_lines.specs.State.{Feeds, Breaks, state_of}
 use Rattle.cf_base_lines.proofs.Feeding.{feeds_trans, feeds_wrote, breaks_after, breaks_write}

@@ -1,8 +1,5 @@
-use Rattle.std.proofs.Common.{arith, ◌≡◌, ◌<◌, ◌+◌, ◌∷◌, ◌++◌, ◌∙◌, ap, subst, length, drop, append_assoc}
-use Rattle.std.specs.Prelude.{flat_map}
-use Rattle.std.specs.List.{All}
-use Rattle.std.proofs.lemmas.List.{take_all}
-use Rattle.std.proofs.lemmas.List.Elements.{All-more}
+use Rattle.std.proofs.Common.{arith, ◌≡◌, ◌<◌, ◌+◌, ◌∷◌, ◌++◌, ◌∙◌, ap, subst, length, drop, append_assoc, flat_map, All}
+use Rattle.cf_base.proofs.Common.{take_all, All-more}
 use Rattle.cf_books.specs.Calls.{ReadsBack, call_line}
 use Rattle.cf_books.proofs.Steps.{drop-item}
 use Rattle.cf_books.proofs.CallsAgain.{after_calls-legal}

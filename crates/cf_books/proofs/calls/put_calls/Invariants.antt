@@ -1,6 +1,4 @@
-use Rattle.std.proofs.Common.{◌≡◌, ◌++◌, drop, take}
-use Rattle.std.specs.Prelude.{flat_map}
-use Rattle.std.specs.List.{All}
+use Rattle.std.proofs.Common.{◌≡◌, ◌++◌, drop, take, flat_map, All}
 use Rattle.cf_books.specs.Calls.{ReadsBack, call_line}
 use Rattle.cf_books.proofs.calls.put_calls.Given as goal
 

@@ -1,5 +1,5 @@
 use Rattle.std.proofs.Common.{◌∙◌, Ok, ap, sym}
-use Rattle.std.proofs.lemmas.Bool.{false≢true}
+use Rattle.cf_base.proofs.Common.{false≢true}
 use Rattle.toml.specs.View.{table_view}
 use Rattle.cf_chart.proofs.Documents.{value_of-none, value_of-text}
 use Rattle.cf_books.specs.FaultRows.{id_under}

@@ -1,7 +1,7 @@
 use Rattle.std.proofs.Common.{◌≡◌, ◌∙◌, ap, decimal}
 use Rattle.cf_books_lists.specs.LineNames.{later_of, part_and_years, part_name}
 use Rattle.cf_books_lists.specs.Names.{department_name, fund_name}
-use Rattle.cf_chart.specs.Plan.{department_at, fund_at}
+use Rattle.cf_chart.specs.Common.{department_at, fund_at}
 use Rattle.cf_books.proofs.lines.put_line.Goals as goal
 
 pub returns : goal.returns

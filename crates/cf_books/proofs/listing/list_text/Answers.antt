@@ -1,5 +1,4 @@
-use Rattle.std.proofs.Common.{arith, ◌≡◌, ◌<◌, ◌+◌, ◌∷◌, ◌∙◌, Some, ap, refl, length, drop}
-use Rattle.std.specs.Prelude.{slice_get}
+use Rattle.std.proofs.Common.{arith, ◌≡◌, ◌<◌, ◌+◌, ◌∷◌, ◌∙◌, Some, ap, refl, length, drop, slice_get}
 use Rattle.cf_books.specs.Listing.{entry_row, entry_rows, header}
 use Rattle.cf_books_payments.specs.Payments.{amount_after, none_payable, payable_after}
 use Rattle.cf_books_payments.proofs.Noted.{knows_next, knows_small}

@@ -1,5 +1,5 @@
 use Rattle.std.proofs.Common.{◌≡◌, ◌∙◌, decimal}
-use Rattle.cf_base.specs.Calendar.{day_text}
+use Rattle.cf_base.specs.Common.{day_text}
 use Rattle.cf_json_calls.specs.CallText.{call_word}
 use Rattle.cf_books_lists.specs.Records.{drawn_text, money_if}
 use Rattle.cf_books.proofs.listing.put_entry.Goals as goal

@@ -1,5 +1,5 @@
 use Rattle.std.proofs.Common.{◌++◌, ◌∙◌, codes, decimal, ap, append_assoc}
-use Rattle.std.proofs.lemmas.Result.{on_ok_weaker}
+use Rattle.cf_base.proofs.Common.{on_ok_weaker}
 use Rattle.cf_books.proofs.Steps.{two_texts}
 use Rattle.cf_books.proofs.notices.put_fault.Goals as goal
 

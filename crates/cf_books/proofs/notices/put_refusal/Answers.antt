@@ -1,7 +1,6 @@
-use Rattle.std.proofs.Common.{◌∙◌, [], ◌∷◌, ◌++◌, ◌-◌, ap, sym}
-use Rattle.std.specs.Prelude.{codes, decimal, slice_index_or}
-use Rattle.std.proofs.lemmas.Result.{on_ok_weaker}
-use Rattle.cf_calls.specs.Refusals.{refusal_names}
+use Rattle.std.proofs.Common.{◌∙◌, [], ◌∷◌, ◌++◌, ◌-◌, ap, sym, codes, decimal, slice_index_or}
+use Rattle.cf_base.proofs.Common.{on_ok_weaker}
+use Rattle.cf_calls.specs.Common.{refusal_names}
 use Rattle.cf_books.proofs.Steps.{refusal_is, regrouped, two_texts}
 use Rattle.cf_books.proofs.notices.put_refusal.Goals as goal
 

@@ -1,4 +1,4 @@
-use Rattle.std.proofs.lemmas.Result.{on_ok_weaker}
+use Rattle.cf_base.proofs.Common.{on_ok_weaker}
 use Rattle.cf_books.proofs.Steps.{two_texts}
 use Rattle.cf_books.proofs.notices.put_status.Goals as goal
 

@@ -1,4 +1,4 @@
-use Rattle.std.proofs.lemmas.Result.{IfOk-weaker}
+use Rattle.cf_base.proofs.Common.{IfOk-weaker}
 use Rattle.cf_books.specs.Answers.{reads_journal}
 use Rattle.cf_books.proofs.Ends.{beside_read, few}
 use Rattle.cf_books.proofs.running.read_beside.Goals as goal

@@ -1,5 +1,5 @@
 use Rattle.std.proofs.Common.{◌≡◌, ◌∙◌, List, ℕ, ap, sym, subst}
-use Rattle.std.specs.Io.KnownBytes.{Appends}
+use Rattle.cf_base.proofs.Common.{Appends}
 use Rattle.cf_base_lines.specs.Sinks.{Wrote}
 use Rattle.cf_books.specs.Answers.{AreLeft, IsBeside, reads_journal, said_with}
 use Rattle.cf_books_words.specs.Words.{asks}

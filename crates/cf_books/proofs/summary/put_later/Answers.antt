@@ -1,5 +1,5 @@
 use Rattle.std.proofs.Common.{◌≡◌, ◌++◌, ◌∙◌, ap}
-use Rattle.std.proofs.lemmas.Result.{on_ok_weaker}
+use Rattle.cf_base.proofs.Common.{on_ok_weaker}
 use Rattle.cf_books.specs.Summary.{level_word}
 use Rattle.cf_books.proofs.Steps.{three_texts}
 use Rattle.cf_books.proofs.summary.put_later.Goals as goal

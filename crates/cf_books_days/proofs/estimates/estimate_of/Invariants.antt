@@ -1,5 +1,5 @@
 use Rattle.std.proofs.Common.{◌≡◌, ◌+◌, drop, map}
-use Rattle.cf_model.specs.Estimates.{estimate}
+use Rattle.cf_model.specs.Common.{estimate}
 use Rattle.cf_books_days.proofs.estimates.estimate_of.Given as goal
 
 -- what was summed, and what is still to come

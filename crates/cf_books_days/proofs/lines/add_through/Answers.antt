@@ -1,5 +1,5 @@
 use Rattle.std.proofs.Common.{◌∙◌, sym}
-use Rattle.std.proofs.lemmas.Result.{on_ok_weaker}
+use Rattle.cf_base.proofs.Common.{on_ok_weaker}
 use Rattle.cf_books_days.proofs.LineSums.{added_through, skipped_through}
 use Rattle.cf_books_days.proofs.lines.add_through.Goals as goal
 

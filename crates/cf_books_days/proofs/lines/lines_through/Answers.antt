@@ -1,5 +1,5 @@
 use Rattle.std.proofs.Common.{◌∙◌, ◌+◌, ap, sym, drop, List}
-use Rattle.std.proofs.lemmas.List.{at_drop_more, at_drop_all}
+use Rattle.cf_base.proofs.Common.{at_drop_more, at_drop_all}
 use Rattle.cf_budget.specs.declared.row.Row.{Row}
 use Rattle.cf_budget.specs.Tables.{row_plus}
 use Rattle.cf_budget.proofs.Rows.{plus_zero, zero_plus}

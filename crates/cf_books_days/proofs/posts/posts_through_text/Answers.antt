@@ -1,5 +1,5 @@
 use Rattle.std.proofs.Common.{◌≡◌, ◌∙◌, ap, Vec, Global, ℕ}
-use Rattle.std.proofs.lemmas.Result.{IfOk-weaker}
+use Rattle.cf_base.proofs.Common.{IfOk-weaker}
 use Rattle.cf_books_lists.specs.Posts.{placed_in, text_of}
 use Rattle.cf_books_days.specs.Posts.{kept}
 use Rattle.cf_books_days.specs.Through.{seen_through}

@@ -1,5 +1,5 @@
 use Rattle.std.proofs.Common.{◌≡◌, ◌∙◌, Vec, Global, ℕ}
-use Rattle.std.proofs.lemmas.Result.{IfOk-weaker}
+use Rattle.cf_base.proofs.Common.{IfOk-weaker}
 use Rattle.cf_books_lists.specs.Statement.{text_of}
 use Rattle.cf_books_days.specs.Statement.{rows_by}
 use Rattle.cf_books_days.specs.Through.{sums_through}

@@ -1,5 +1,4 @@
-use Rattle.std.proofs.Common.{◌≡◌, ◌++◌, drop}
-use Rattle.std.specs.Option.{option_copied}
+use Rattle.std.proofs.Common.{◌≡◌, ◌++◌, drop, option_copied}
 use Rattle.cf_books_documents.specs.Documents.{items_from}
 use Rattle.cf_books_documents.proofs.documents.add_items.Given as goal
 

@@ -1,8 +1,6 @@
-use Rattle.std.proofs.Common.{◌≡◌, ◌∙◌, ◌<◌, ◌+◌, ◌∷◌, ◌++◌, ℕ, List, length, drop, get_or, refl, ap, sym, arith, rules, add-one, drop-cons}
-use Rattle.std.proofs.lemmas.Grind.{common_steps}
-use Rattle.std.specs.BTreeMap.{get}
-use Rattle.std.specs.Ordering.{nat_cmp}
-use Rattle.cf_calls.specs.declared.entry.Entry.{Entry}
+use Rattle.std.proofs.Common.{◌≡◌, ◌∙◌, ◌<◌, ◌+◌, ◌∷◌, ◌++◌, ℕ, List, length, drop, get_or, refl, ap, sym, arith, rules, add-one, drop-cons, nat_cmp}
+use Rattle.cf_base.proofs.Common.{common_steps, get}
+use Rattle.cf_model.specs.Common.{Entry}
 use Rattle.cf_register_parts.specs.Pairs.{Pairs, amount_at}
 use Rattle.cf_books_documents.specs.Events.{events_from, none_lent, voucher_in}
 use Rattle.cf_books_documents.specs.Indexed.{list_in, numbered}

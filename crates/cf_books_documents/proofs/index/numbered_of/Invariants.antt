@@ -1,6 +1,5 @@
-use Rattle.std.proofs.Common.{◌≡◌, ◌++◌, ◌+◌, ℕ, drop}
-use Rattle.std.specs.BTreeMap.{get}
-use Rattle.std.specs.Ordering.{nat_cmp}
+use Rattle.std.proofs.Common.{◌≡◌, ◌++◌, ◌+◌, ℕ, drop, nat_cmp}
+use Rattle.cf_base.proofs.Common.{get}
 use Rattle.cf_register_parts.specs.Pairs.{amount_at}
 use Rattle.cf_books_documents.specs.Events.{events_from, none_lent, voucher_in}
 use Rattle.cf_books_documents.specs.Indexed.{list_in, numbered}

@@ -1,6 +1,5 @@
-use Rattle.std.proofs.Common.{◌≡◌, ◌++◌, ℕ, drop}
-use Rattle.std.specs.BTreeMap.{get}
-use Rattle.std.specs.Ordering.{nat_cmp}
+use Rattle.std.proofs.Common.{◌≡◌, ◌++◌, ℕ, drop, nat_cmp}
+use Rattle.cf_base.proofs.Common.{get}
 use Rattle.cf_books_documents.specs.Indexed.{list_in, numbered}
 use Rattle.cf_books_documents.proofs.index.put_events.Given as goal
 

@@ -1,5 +1,4 @@
-use Rattle.std.proofs.Common.{◌≡◌, drop}
-use Rattle.std.specs.Prelude.{fold}
+use Rattle.std.proofs.Common.{◌≡◌, drop, fold}
 use Rattle.cf_books_documents.specs.Rolls.{with_roll}
 use Rattle.cf_books_documents.proofs.rolls.put_rolls.Given as goal
 

@@ -1,10 +1,7 @@
-use Rattle.std.proofs.Common.{rules, ◌≡◌, ◌∙◌, ap, sym, subst, Bool, ℕ, List, ◌++◌}
-use Rattle.std.proofs.lemmas.Result.{IfOk-weaker}
-use Rattle.std.specs.List.{AllByRecursion}
-use Rattle.std.specs.Prelude.{option_map}
-use Rattle.cf_calls.specs.declared.entry.Entry.{Entry}
-use Rattle.cf_chart.specs.Plan.{Plan}
-use Rattle.cf_model.specs.Registers.{Registers, registers_of}
+use Rattle.std.proofs.Common.{rules, ◌≡◌, ◌∙◌, ap, sym, subst, Bool, ℕ, List, ◌++◌, option_map}
+use Rattle.cf_base.proofs.Common.{IfOk-weaker, AllByRecursion}
+use Rattle.cf_model.specs.Common.{Entry, Registers, registers_of}
+use Rattle.cf_chart.specs.Common.{Plan}
 use Rattle.cf_books_documents.specs.Dated.{IsDated}
 use Rattle.cf_books_documents.specs.Indexed.{Known}
 use Rattle.cf_books_documents.specs.KnownIn.{known_in}

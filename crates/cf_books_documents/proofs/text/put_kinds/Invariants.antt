@@ -1,5 +1,4 @@
-use Rattle.std.proofs.Common.{◌≡◌, drop}
-use Rattle.std.specs.Prelude.{option_map}
+use Rattle.std.proofs.Common.{◌≡◌, drop, option_map}
 use Rattle.cf_books_documents.specs.KnownIn.{known_in}
 use Rattle.cf_books_lists.specs.Rows.{added}
 use Rattle.cf_books_documents.specs.Text.{kinds_text}

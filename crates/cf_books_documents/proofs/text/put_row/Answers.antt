@@ -1,7 +1,5 @@
-use Rattle.std.proofs.Common.{◌≡◌, ◌∙◌, ap, decimal}
-use Rattle.std.specs.Option.{option_copied}
-use Rattle.cf_base.specs.Amounts.{money_of}
-use Rattle.cf_base.specs.Calendar.{day_text}
+use Rattle.std.proofs.Common.{◌≡◌, ◌∙◌, ap, decimal, option_copied}
+use Rattle.cf_base.specs.Common.{money_of, day_text}
 use Rattle.cf_books_documents.specs.Facts.{kind_word, state_word}
 use Rattle.cf_books_lists.specs.Records.{drawn_text, number_text}
 use Rattle.cf_books_documents.specs.Text.{line_by}

@@ -1,5 +1,4 @@
-use Rattle.std.proofs.Common.{◌≡◌, ◌++◌, drop}
-use Rattle.std.specs.List.{filter}
+use Rattle.std.proofs.Common.{◌≡◌, ◌++◌, drop, filter}
 use Rattle.cf_books_documents.specs.Told.{is_own}
 use Rattle.cf_books_documents.proofs.told.own_events.Given as goal
 

@@ -1,8 +1,5 @@
-use Rattle.std.proofs.Common.{◌≡◌, ◌∙◌, ◌<◌, ◌&&◌, ◌==◌, Some, None, ap, sym, length, take, arith}
-use Rattle.std.proofs.lemmas.List.Sums.{fold_more}
-use Rattle.std.specs.BTreeMap.{get}
-use Rattle.std.specs.Ordering.{nat_cmp}
-use Rattle.std.specs.Prelude.{fold, option_and_then, slice_get}
+use Rattle.std.proofs.Common.{◌≡◌, ◌∙◌, ◌<◌, ◌&&◌, ◌==◌, Some, None, ap, sym, length, take, arith, nat_cmp, fold, option_and_then, slice_get}
+use Rattle.cf_base.proofs.Common.{fold_more, get}
 use Rattle.cf_books_documents.specs.Events.{is_voucher, voucher_after}
 use Rattle.cf_books_documents.proofs.Entering.{get-item, noted_if}
 use Rattle.cf_books_documents.proofs.vouchers.vouchers_of.Goals as goal

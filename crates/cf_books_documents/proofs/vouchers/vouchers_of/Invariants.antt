@@ -1,7 +1,5 @@
-use Rattle.std.proofs.Common.{◌≡◌, ℕ, None, take}
-use Rattle.std.specs.BTreeMap.{get}
-use Rattle.std.specs.Ordering.{nat_cmp}
-use Rattle.std.specs.Prelude.{fold, option_and_then, slice_get}
+use Rattle.std.proofs.Common.{◌≡◌, ℕ, None, take, nat_cmp, fold, option_and_then, slice_get}
+use Rattle.cf_base.proofs.Common.{get}
 use Rattle.cf_books_documents.specs.Events.{voucher_after}
 use Rattle.cf_books_documents.proofs.vouchers.vouchers_of.Given as goal
 

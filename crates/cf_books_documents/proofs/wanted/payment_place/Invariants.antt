@@ -1,5 +1,4 @@
-use Rattle.std.proofs.Common.{◌≡◌, drop}
-use Rattle.std.specs.Prelude.{fold}
+use Rattle.std.proofs.Common.{◌≡◌, drop, fold}
 use Rattle.cf_books_documents.specs.Wanted.{payment_after}
 use Rattle.cf_books_documents.proofs.wanted.payment_place.Given as goal
 

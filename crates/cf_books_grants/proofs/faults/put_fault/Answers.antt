@@ -1,5 +1,5 @@
 use Rattle.std.proofs.Common.{◌≡◌, ◌++◌, ◌∙◌, List, ℕ, ap, append_assoc}
-use Rattle.std.proofs.lemmas.Result.{on_ok_weaker}
+use Rattle.cf_base.proofs.Common.{on_ok_weaker}
 use Rattle.cf_books_grants.proofs.faults.put_fault.Goals as goal
 
 two_texts : (out a b x y : List ℕ) → a ≡ out ++ x → b ≡ a ++ y → b ≡ out ++ (x ++ y)

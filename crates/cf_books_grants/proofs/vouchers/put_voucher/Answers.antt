@@ -1,5 +1,5 @@
 use Rattle.std.proofs.Common.{◌≡◌, ◌∙◌, decimal}
-use Rattle.cf_base.specs.Calendar.{day_text}
+use Rattle.cf_base.specs.Common.{day_text}
 use Rattle.cf_books_grants.specs.Vouchers.{amount_text, bill_text, money, state_word}
 use Rattle.cf_books_grants.proofs.vouchers.put_voucher.Goals as goal
 

@@ -1,6 +1,5 @@
 use Rattle.std.proofs.Common.{◌≡◌, ◌∙◌, ap, decimal}
-use Rattle.cf_base.specs.Amounts.{money_of}
-use Rattle.cf_base.specs.Calendar.{day_text}
+use Rattle.cf_base.specs.Common.{money_of, day_text}
 use Rattle.cf_json_calls.specs.CallText.{call_word}
 use Rattle.cf_books_lists.specs.Records.{drawn_text, money_if, number_text}
 use Rattle.cf_books_ledger.specs.Ledger.{running}

@@ -1,5 +1,5 @@
 use Rattle.std.proofs.Common.{rules}
-use Rattle.cf_chart.specs.declared.rows.Function.{Function}
+use Rattle.cf_model.specs.Common.{Function}
 use Rattle.cf_post.specs.Accounts.{current_of}
 use Rattle.cf_books_lists.proofs.Next.{next_mapped}
 use Rattle.cf_books_lists.proofs.accounts.put_functions.Goals as goal

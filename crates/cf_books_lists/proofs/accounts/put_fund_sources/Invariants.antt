@@ -1,5 +1,4 @@
-use Rattle.std.proofs.Common.{◌≡◌, ◌==◌, ◌++◌, drop, map}
-use Rattle.std.specs.List.{filter}
+use Rattle.std.proofs.Common.{◌≡◌, ◌==◌, ◌++◌, drop, map, filter}
 use Rattle.cf_post.specs.Accounts.{revenue_of}
 use Rattle.cf_books_lists.proofs.accounts.put_fund_sources.Given as goal
 

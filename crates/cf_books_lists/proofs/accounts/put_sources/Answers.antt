@@ -1,5 +1,5 @@
 use Rattle.std.proofs.Common.{rules}
-use Rattle.cf_chart.specs.declared.rows.RevenueSource.{RevenueSource}
+use Rattle.cf_model.specs.Common.{RevenueSource}
 use Rattle.cf_post.specs.Accounts.{revenue_of}
 use Rattle.cf_books_lists.proofs.Next.{next_mapped}
 use Rattle.cf_books_lists.proofs.accounts.put_sources.Goals as goal

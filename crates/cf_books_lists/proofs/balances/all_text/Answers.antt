@@ -1,7 +1,7 @@
 use Rattle.std.proofs.Common.{rules, ◌≡◌, ◌∙◌, ap, Bool, ℕ, List, ◌++◌}
-use Rattle.std.proofs.lemmas.Result.{IfOk-weaker}
+use Rattle.cf_base.proofs.Common.{IfOk-weaker}
 use Rattle.cf_model_articulation.specs.TrialBalances.{gov_accounts}
-use Rattle.cf_calls.specs.declared.read.Basis.TheVariants.{Gov as GovBasis}
+use Rattle.cf_model.specs.Common.{Gov as GovBasis}
 use Rattle.cf_books_lists.specs.Balances.{accounts_text, funds_text, head}
 use Rattle.cf_books_lists.specs.Records.{head_text}
 use Rattle.cf_books_lists.specs.Rows.{Written, added, none_written}

@@ -1,6 +1,6 @@
 use Rattle.std.proofs.Common.{rules, ◌≡◌, ◌∙◌, ap, Bool, ℕ, List, ◌++◌}
-use Rattle.std.proofs.lemmas.Result.{IfOk-weaker}
-use Rattle.cf_model.specs.Registers.{registers_of}
+use Rattle.cf_base.proofs.Common.{IfOk-weaker}
+use Rattle.cf_model.specs.Common.{registers_of}
 use Rattle.cf_books_lists.specs.Open.{closes_text, head, section_text}
 use Rattle.cf_books_lists.specs.declared.open.Section.TheVariants.{Requisitions, Orders, Bills, Vouchers, Debts}
 use Rattle.cf_books_lists.specs.declared.open.Section.{Section}

@@ -1,6 +1,6 @@
 use Rattle.cf_model_articulation.proofs.Articulated.{articulates}
 use Rattle.cf_model_articulation.proofs.ReadCharts.{read_chart}
-use Rattle.cf_model.proofs.LegalReconciled.{is_lawful}
+use Rattle.cf_model.proofs.Common.{is_lawful}
 use Rattle.cf_books_lists.proofs.OpenDues.{dues_are_asked}
 use Rattle.cf_books_lists.proofs.OpenSums.{open_adds_up}
 use Rattle.cf_books_lists.proofs.open.open_text.Goals as goal

@@ -1,4 +1,4 @@
-use Rattle.cf_calls.specs.declared.entry.Entry.{Entry}
+use Rattle.cf_model.specs.Common.{Entry}
 use Rattle.cf_books_lists.specs.Open.{close_by}
 use Rattle.cf_books_lists.proofs.Next.{next_rows}
 use Rattle.cf_books_lists.proofs.open.put_closes.Goals as goal

@@ -1,5 +1,5 @@
 use Rattle.std.proofs.Common.{◌+◌, Bool, ℕ, List, Some, None, drop, refl, rules}
-use Rattle.cf_calls.specs.declared.items.LineAmount.{LineAmount}
+use Rattle.cf_model.specs.Common.{LineAmount}
 use Rattle.cf_books_lists.specs.Open.{held_text, part_text}
 use Rattle.cf_books_lists.proofs.Next.{next_written}
 use Rattle.cf_books_lists.proofs.open.put_held.Goals as goal

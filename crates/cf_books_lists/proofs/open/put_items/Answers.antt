@@ -1,5 +1,5 @@
 use Rattle.std.proofs.Common.{◌+◌, Bool, ℕ, List, drop, refl, rules}
-use Rattle.cf_calls.specs.declared.shown.OrderItemShown.{OrderItemShown}
+use Rattle.cf_model.specs.Common.{OrderItemShown}
 use Rattle.cf_books_lists.specs.Open.{item_text, items_text}
 use Rattle.cf_books_lists.proofs.Next.{next_written}
 use Rattle.cf_books_lists.proofs.open.put_items.Goals as goal

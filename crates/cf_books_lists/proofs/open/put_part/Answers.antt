@@ -1,7 +1,6 @@
 use Rattle.std.proofs.Common.{◌≡◌, ◌∙◌, ap, decimal, pos, [], ◌∷◌, List, ℕ, map}
-use Rattle.std.proofs.lemmas.Result.{on_ok_weaker}
-use Rattle.cf_base.specs.Amounts.{money_of}
-use Rattle.cf_base.specs.Calendar.{day_text}
+use Rattle.cf_base.proofs.Common.{on_ok_weaker}
+use Rattle.cf_base.specs.Common.{money_of, day_text}
 use Rattle.cf_json_calls.specs.CallText.{call_word}
 use Rattle.cf_books_lists.specs.Open.{due_text, interest_text, line_department, line_fund, line_of, next_text, number_of, part_row, party_of}
 use Rattle.cf_books_lists.specs.Records.{drawn_text, number_text, record_text}

@@ -1,6 +1,5 @@
-use Rattle.std.proofs.Common.{◌≡◌, ◌∙◌, decimal, []}
-use Rattle.std.specs.Prelude.{codes}
-use Rattle.cf_base.specs.Calendar.{day_text}
+use Rattle.std.proofs.Common.{◌≡◌, ◌∙◌, decimal, [], codes}
+use Rattle.cf_base.specs.Common.{day_text}
 use Rattle.cf_books_lists.specs.Open.{period_text}
 use Rattle.cf_books_lists.proofs.open.put_period.Goals as goal
 

@@ -1,5 +1,4 @@
-use Rattle.cf_calls.specs.declared.entry.Entry.{Entry}
-use Rattle.cf_model.specs.Registers.{registers_of}
+use Rattle.cf_model.specs.Common.{Entry, registers_of}
 use Rattle.cf_books_lists.specs.Open.{look_of, looked_text}
 use Rattle.cf_books_lists.proofs.Next.{next_rows}
 use Rattle.cf_books_lists.proofs.open.put_section.Goals as goal

@@ -1,5 +1,5 @@
 use Rattle.std.proofs.Common.{◌≡◌, drop}
-use Rattle.cf_model.specs.Registers.{registers_of}
+use Rattle.cf_model.specs.Common.{registers_of}
 use Rattle.cf_books_lists.specs.Open.{section_text}
 use Rattle.cf_books_lists.specs.Rows.{added}
 use Rattle.cf_books_lists.proofs.open.put_section.Given as goal

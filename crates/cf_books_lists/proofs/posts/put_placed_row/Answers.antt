@@ -1,7 +1,6 @@
-use Rattle.std.proofs.Common.{◌≡◌, ◌-◌, ◌∙◌, ℕ, Option, None, ap, sym, subst}
-use Rattle.std.specs.Prelude.{slice_get}
-use Rattle.std.proofs.lemmas.Option.{slice_get_past}
-use Rattle.cf_calls.specs.declared.entry.Entry.{Entry}
+use Rattle.std.proofs.Common.{◌≡◌, ◌-◌, ◌∙◌, ℕ, Option, None, ap, sym, subst, slice_get}
+use Rattle.cf_base.proofs.Common.{slice_get_past}
+use Rattle.cf_model.specs.Common.{Entry}
 use Rattle.cf_books_lists.specs.Posts.{entry_text}
 use Rattle.cf_books_lists.specs.Rows.{added}
 use Rattle.cf_books_lists.proofs.Adding.{added_none}

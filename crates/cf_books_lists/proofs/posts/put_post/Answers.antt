@@ -1,9 +1,8 @@
 use Rattle.std.proofs.Common.{◌≡◌, ◌∙◌, ap, decimal, [], ◌∷◌, List, ℕ, map}
-use Rattle.std.proofs.lemmas.Result.{on_ok_weaker}
-use Rattle.cf_base.specs.Amounts.{money_of}
-use Rattle.cf_base.specs.Calendar.{day_text}
+use Rattle.cf_base.proofs.Common.{on_ok_weaker}
+use Rattle.cf_base.specs.Common.{money_of, day_text}
 use Rattle.cf_json_calls.specs.CallText.{call_word}
-use Rattle.cf_chart.specs.Plan.{fund_at}
+use Rattle.cf_chart.specs.Common.{fund_at}
 use Rattle.cf_books_lists.specs.Names.{account_text, basis_word, fund_name}
 use Rattle.cf_books_lists.specs.Posts.{post_row}
 use Rattle.cf_books_lists.specs.Records.{drawn_text, record_text}

@@ -1,6 +1,5 @@
-use Rattle.std.proofs.Common.{◌+◌, [], ◌∷◌, ℕ, List, get_or, drop, map}
-use Rattle.std.specs.Borrow.{Bor}
-use Rattle.std.proofs.lemmas.List.{at_drop_more}
+use Rattle.std.proofs.Common.{◌+◌, [], ◌∷◌, ℕ, List, get_or, drop, map, Bor}
+use Rattle.cf_base.proofs.Common.{at_drop_more}
 use Rattle.csv.specs.Records.{fields_of}
 use Rattle.cf_books_lists.specs.Records.{guarded}
 use Rattle.cf_books_lists.proofs.Next.{next_pushed}

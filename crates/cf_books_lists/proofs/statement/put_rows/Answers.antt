@@ -1,5 +1,5 @@
 use Rattle.std.proofs.Common.{◌∙◌, ap, ◌+◌, Bool, ℕ, List, drop, refl, rules}
-use Rattle.cf_calls.specs.declared.reply.Row.{Row}
+use Rattle.cf_model.specs.Common.{Row}
 use Rattle.cf_books_lists.specs.Rows.{added}
 use Rattle.cf_books_lists.specs.Statement.{line_at, row_text, rows_text, section_below}
 use Rattle.cf_books_lists.proofs.Next.{next_written}

@@ -1,5 +1,5 @@
 use Rattle.std.proofs.Common.{◌==◌, if◌then◌else◌, [], ◌∷◌, None, rules}
-use Rattle.cf_chart.specs.declared.rows.RevenueSource.{RevenueSource}
+use Rattle.cf_model.specs.Common.{RevenueSource}
 use Rattle.cf_books_lists.proofs.Next.{next_flat}
 use Rattle.cf_books_lists.proofs.statement.put_sources.Goals as goal
 use Rattle.cf_books_lists.proofs.statement.put_sources.Goals.{then-source-fund+in_ok-push, else-source-fund}

@@ -1,4 +1,4 @@
-use Rattle.cf_model.specs.Report.{sums_of}
+use Rattle.cf_model.specs.Common.{sums_of}
 use Rattle.cf_books_lists.proofs.RowLines.{of_comparison}
 use Rattle.cf_books_lists.proofs.statement.statement_text.Goals as goal
 

@@ -1,5 +1,5 @@
 use Rattle.std.proofs.Common.{◌≡◌, ◌+◌, ◌/◌, ◌%◌, ◌++◌, ◌∷◌, [], rules, decimal, unsigned_abs}
-use Rattle.cf_base.specs.Amounts.{sign_text}
+use Rattle.cf_base.specs.Common.{sign_text}
 use Rattle.cf_books_lists.proofs.Amounts.{money_behind}
 use Rattle.cf_books_lists.proofs.texts.put_money.Goals as goal
 

@@ -1,5 +1,5 @@
 use Rattle.std.proofs.Common.{rules}
-use Rattle.std.proofs.lemmas.Int.{wraps}
+use Rattle.cf_base.proofs.Common.{wraps}
 use Rattle.cf_books_month.proofs.amounts.less.Goals as goal
 
 pub returns : goal.returns

@@ -1,9 +1,8 @@
 use Rattle.std.proofs.Common.{◌≡◌, ◌∙◌, ◌+◌, ◌+ℤ◌, ap, sym, drop, pos, List, ℤ, rules}
-use Rattle.std.proofs.lemmas.Int.{int_wrap_fits, to_z-of_z}
-use Rattle.std.proofs.lemmas.List.{at_drop_more, at_drop_all}
+use Rattle.cf_base.proofs.Common.{int_wrap_fits, to_z-of_z, at_drop_more, at_drop_all}
 use mir.Val.{SFits}
 use mir.Syntax.{w128}
-use Rattle.cf_model.specs.Sums.{int_sum}
+use Rattle.cf_model.specs.Common.{int_sum}
 use Rattle.cf_books_month.specs.declared.amounts.Amounts.{Amounts}
 use Rattle.cf_books_month.specs.Amounts.{amount_of, held, total_of}
 use Rattle.cf_books_month.proofs.Totals.{from_zero, one_more, to_zero}

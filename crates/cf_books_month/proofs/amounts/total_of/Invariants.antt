@@ -1,5 +1,5 @@
 use Rattle.std.proofs.Common.{◌≡◌, ◌+ℤ◌, drop}
-use Rattle.cf_model.specs.Sums.{int_sum}
+use Rattle.cf_model.specs.Common.{int_sum}
 use Rattle.cf_books_month.specs.Amounts.{amount_of, held, total_of}
 use Rattle.cf_books_month.proofs.amounts.total_of.Given as goal
 

@@ -1,7 +1,6 @@
 use Rattle.std.proofs.Common.{◌≡◌, ◌∙◌, ◌++◌, ap, ap₂, append_assoc, codes, List, ℕ}
-use Rattle.cf_base.specs.Calendar.{month_of_day, month_text as text_of_month}
-use Rattle.cf_base.specs.declared.calendar.Day.{Day}
-use Rattle.cf_model.specs.Calendar.{is_month_closed}
+use Rattle.cf_base.specs.Common.{month_of_day, month_text as text_of_month}
+use Rattle.cf_model.specs.Common.{Day, is_month_closed}
 use Rattle.cf_books_month.specs.Month.{month_state, state_word}
 use Rattle.cf_books_month.proofs.Months.{first_is_day}
 use Rattle.cf_books_month.proofs.month.month_state.Goals as goal

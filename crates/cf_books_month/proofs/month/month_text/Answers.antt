@@ -1,8 +1,8 @@
 use Rattle.std.proofs.Common.{◌≡◌, ◌∙◌, arith, ap, Bool, ℕ, List, ◌++◌}
-use Rattle.std.proofs.lemmas.Result.{IfOk-weaker}
-use Rattle.cf_base.specs.Calendar.{year_of_month}
-use Rattle.cf_base.specs.declared.calendar.Month.{Month}
-use Rattle.cf_chart.specs.Plan.{Plan}
+use Rattle.cf_base.proofs.Common.{IfOk-weaker}
+use Rattle.cf_base.specs.Common.{year_of_month}
+use Rattle.cf_model.specs.Common.{Month}
+use Rattle.cf_chart.specs.Common.{Plan}
 use Rattle.cf_office_history.specs.RestState.{RestState}
 use Rattle.cf_books_lists.specs.Records.{head_text, record_text}
 use Rattle.cf_books_lists.specs.Rows.{Written, added, none_written}

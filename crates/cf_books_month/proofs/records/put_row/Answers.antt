@@ -1,6 +1,6 @@
 use Rattle.std.proofs.Common.{◌≡◌, ◌∙◌, ap, decimal}
-use Rattle.cf_base.specs.Amounts.{money_of}
-use Rattle.cf_chart.specs.Plan.{fund_at}
+use Rattle.cf_base.specs.Common.{money_of}
+use Rattle.cf_chart.specs.Common.{fund_at}
 use Rattle.cf_books_lists.specs.Names.{fund_name}
 use Rattle.cf_books_lists.specs.Open.{line_of}
 use Rattle.cf_books_lists.specs.Records.{number_text}

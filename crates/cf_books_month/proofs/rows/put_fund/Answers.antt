@@ -1,9 +1,7 @@
 use Rattle.std.proofs.Common.{◌≡◌, ◌∙◌, ap, List, [], ◌∷◌, ◌++◌, None}
-use Rattle.std.proofs.lemmas.Result.{on_ok_weaker}
-use Rattle.cf_chart.specs.Plan.{Plan}
-use Rattle.cf_chart.specs.declared.rows.Department.{Department}
-use Rattle.cf_chart.specs.declared.rows.Line.{Line}
-use Rattle.cf_chart.specs.declared.rows.RevenueSource.{RevenueSource}
+use Rattle.cf_base.proofs.Common.{on_ok_weaker}
+use Rattle.cf_chart.specs.Common.{Plan}
+use Rattle.cf_model.specs.Common.{Department, Line, RevenueSource}
 use Rattle.cf_books_month.specs.declared.rows.MonthRow.{MonthRow}
 use Rattle.cf_books_month.specs.declared.rows.Part.TheVariants as part
 use Rattle.cf_books_month.specs.Rows.{amounts_in, department_rows, fund_rows, line_rows, lines_of, source_rows, sources_of, total_row}

@@ -1,7 +1,5 @@
-use Rattle.std.proofs.Common.{◌∙◌, ◌++◌, ap, arith}
-use Rattle.std.specs.Prelude.{option_to_list}
-use Rattle.std.specs.BTreeMap.{get}
-use Rattle.std.specs.Ordering.{nat_cmp}
+use Rattle.std.proofs.Common.{◌∙◌, ◌++◌, ap, arith, option_to_list, nat_cmp}
+use Rattle.cf_base.proofs.Common.{get}
 use Rattle.cf_books_payments.specs.Paid.{paid_voucher}
 use Rattle.cf_books_payments.proofs.Added.{added_more}
 use Rattle.cf_books_payments.proofs.paid.put_vouchers.Goals as goal

@@ -1,7 +1,5 @@
-use Rattle.std.proofs.Common.{◌≡◌, ◌≤◌, ◌+◌, ◌++◌, length, drop}
-use Rattle.std.specs.Prelude.{flat_map}
-use Rattle.std.specs.BTreeMap.{get}
-use Rattle.std.specs.Ordering.{nat_cmp}
+use Rattle.std.proofs.Common.{◌≡◌, ◌≤◌, ◌+◌, ◌++◌, length, drop, flat_map, nat_cmp}
+use Rattle.cf_base.proofs.Common.{get}
 use Rattle.cf_books_payments.specs.Entering.{AreSmall}
 use Rattle.cf_books_payments.specs.Paid.{paid_voucher}
 use Rattle.cf_books_payments.proofs.paid.put_vouchers.Given as goal

@@ -1,6 +1,5 @@
-use Rattle.std.proofs.Common.{arith, ◌≡◌, ◌<◌, ◌+◌, ◌-◌, ◌∷◌, ℕ, List, ap, subst, drop, get_or, length, add-one, drop-cons}
-use Rattle.std.specs.Prelude.{slice_get}
-use Rattle.cf_model.specs.Bonds.{dues}
+use Rattle.std.proofs.Common.{arith, ◌≡◌, ◌<◌, ◌+◌, ◌-◌, ◌∷◌, ℕ, List, ap, subst, drop, get_or, length, add-one, drop-cons, slice_get}
+use Rattle.cf_model.specs.Common.{dues}
 use Rattle.cf_books_payments.specs.Payments.{bond_of}
 use Rattle.cf_books_payments.specs.Tables.{issue_of}
 use Rattle.cf_books_payments.proofs.Noted.{due_behind}

@@ -1,6 +1,5 @@
-use Rattle.std.proofs.Common.{◌≡◌, ◌≤◌, ◌-◌, ℕ, drop}
-use Rattle.std.specs.Prelude.{slice_get}
-use Rattle.cf_model.specs.Bonds.{dues, dues_from}
+use Rattle.std.proofs.Common.{◌≡◌, ◌≤◌, ◌-◌, ℕ, drop, slice_get}
+use Rattle.cf_model.specs.Common.{dues, dues_from}
 use Rattle.cf_books_payments.specs.Payments.{bond_of}
 use Rattle.cf_books_payments.specs.Tables.{issue_of}
 use Rattle.cf_books_payments.proofs.payments.due_amount.Given as goal

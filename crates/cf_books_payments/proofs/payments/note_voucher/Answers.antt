@@ -1,6 +1,5 @@
-use Rattle.std.proofs.Common.{◌≡◌, ◌∙◌, ap}
-use Rattle.std.specs.Prelude.{sum_by}
-use Rattle.std.proofs.lemmas.Result.{on_ok_weaker}
+use Rattle.std.proofs.Common.{◌≡◌, ◌∙◌, ap, sum_by}
+use Rattle.cf_base.proofs.Common.{on_ok_weaker}
 use Rattle.cf_books_payments.proofs.Noted.{noted}
 use Rattle.cf_books_payments.proofs.payments.note_voucher.Goals as goal
 

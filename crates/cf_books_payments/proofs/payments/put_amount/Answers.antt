@@ -1,6 +1,5 @@
-use Rattle.std.proofs.Common.{◌∙◌, ap, Some, if◌then◌else◌}
-use Rattle.std.specs.Ordering.{nat_cmp}
-use Rattle.std.specs.BTreeMap.{get}
+use Rattle.std.proofs.Common.{◌∙◌, ap, Some, if◌then◌else◌, nat_cmp}
+use Rattle.cf_base.proofs.Common.{get}
 use Rattle.cf_books_payments.proofs.Noted.{same_number}
 use Rattle.cf_books_payments.proofs.payments.put_amount.Goals as goal
 

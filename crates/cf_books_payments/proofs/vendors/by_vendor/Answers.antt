@@ -1,6 +1,5 @@
 use Rattle.std.proofs.Common.{rules}
-use Rattle.std.proofs.lemmas.List.Sorted.{IsNonDecreasingBy-from_sort_by_key, answers_always}
-use Rattle.std.proofs.lemmas.Result.{on_ok_weaker}
+use Rattle.cf_base.proofs.Common.{IsNonDecreasingBy-from_sort_by_key, answers_always, on_ok_weaker}
 use Rattle.cf_books_payments.specs.declared.entered.Paid.{Paid}
 use Rattle.cf_books_payments.proofs.Paying.{lists_all}
 use Rattle.cf_books_payments.proofs.Rising.{sorted}

@@ -1,5 +1,5 @@
 use Rattle.std.proofs.Common.{◌≡◌, ◌∙◌, ◌&&◌, ap, sym, map, true, false}
-use Rattle.std.specs.List.{list_all}
+use Rattle.cf_base.proofs.Common.{list_all}
 use Rattle.clap.specs.Words.{found_of, rows_of}
 use Rattle.cf_books_words.specs.Options.{flag_names, is_own, is_own_flag, option_names}
 use Rattle.cf_books_words.proofs.Names.{all_names}

@@ -1,5 +1,5 @@
 use Rattle.std.proofs.Common.{◌∙◌, ap}
-use Rattle.cf_base.specs.Calendar.{month_of_text}
+use Rattle.cf_base.specs.Common.{month_of_text}
 use Rattle.cf_books_words.proofs.options.month_of.Goals as goal
 
 pub returns-clause-month : goal.returns-clause-month

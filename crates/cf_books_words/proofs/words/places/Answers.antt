@@ -1,5 +1,5 @@
 use Rattle.std.proofs.Common.{codes}
-use Rattle.std.proofs.lemmas.Result.{IfOk-weaker}
+use Rattle.cf_base.proofs.Common.{IfOk-weaker}
 use Rattle.clap.specs.Words.{App, new_rule, with_rule}
 use Rattle.cf_books_words.specs.CommandLine.{bare}
 use Rattle.cf_books_words.proofs.Added.{added_rule}

@@ -1,7 +1,5 @@
-use Rattle.std.proofs.Common.{◌∙◌, ◌+◌, [], List, ap, sym, drop, map}
-use Rattle.std.specs.Prelude.{fold}
-use Rattle.std.specs.Borrow.{Bor}
-use Rattle.std.proofs.lemmas.List.{at_drop_more}
+use Rattle.std.proofs.Common.{◌∙◌, ◌+◌, [], List, ap, sym, drop, map, fold, Bor}
+use Rattle.cf_base.proofs.Common.{at_drop_more}
 use Rattle.clap.specs.Words.{App, Text, app_of, with_rule}
 use Rattle.cf_run_words.specs.CommandLine.{option_rule}
 use Rattle.cf_books_words.proofs.words.with_options.Goals as goal

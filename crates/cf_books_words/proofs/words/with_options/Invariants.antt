@@ -1,5 +1,4 @@
-use Rattle.std.proofs.Common.{◌≡◌, drop, map}
-use Rattle.std.specs.Prelude.{fold}
+use Rattle.std.proofs.Common.{◌≡◌, drop, map, fold}
 use Rattle.clap.specs.Words.{app_of, with_rule}
 use Rattle.cf_run_words.specs.CommandLine.{option_rule}
 use Rattle.cf_books_words.proofs.words.with_options.Given as goal

@@ -1,5 +1,5 @@
 use Rattle.std.proofs.Common.{◌≤◌, length}
-use Rattle.std.proofs.lemmas.Result.{IfOk-weaker}
+use Rattle.cf_base.proofs.Common.{IfOk-weaker}
 use Rattle.cf_books_year.proofs.Few.{few_fund}
 use Rattle.cf_books_year.proofs.balances.few_fund_accounts.Goals as goal
 

@@ -1,9 +1,9 @@
 use Rattle.std.proofs.Common.{rules, ◌≡◌, ◌∙◌, ap, decimal}
-use Rattle.std.proofs.lemmas.Int.{to_z-of_z}
+use Rattle.cf_base.proofs.Common.{to_z-of_z}
 use mir.Val.{SFits}
 use mir.Syntax.{w128}
-use Rattle.cf_base.specs.Amounts.{money_of}
-use Rattle.cf_chart.specs.Plan.{fund_at}
+use Rattle.cf_base.specs.Common.{money_of}
+use Rattle.cf_chart.specs.Common.{fund_at}
 use Rattle.cf_books_lists.specs.Names.{basis_word, fund_name}
 use Rattle.cf_books_year.specs.YearBalances.{opening_name}
 use Rattle.cf_books_year.proofs.balances.put_opening.Goals as goal

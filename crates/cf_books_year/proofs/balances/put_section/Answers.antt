@@ -1,9 +1,8 @@
 use Rattle.std.proofs.Common.{rules, ◌≡◌, ◌∙◌, ◌++◌, ap, Bool, ℕ, ℤ, List}
-use Rattle.std.proofs.lemmas.Int.{to_z-of_z}
-use Rattle.std.proofs.lemmas.Result.{on_ok_weaker}
+use Rattle.cf_base.proofs.Common.{to_z-of_z, on_ok_weaker}
 use mir.Val.{SFits, of_z, to_z}
 use mir.Syntax.{w128}
-use Rattle.cf_chart.specs.Plan.{Plan}
+use Rattle.cf_chart.specs.Common.{Plan}
 use Rattle.cf_books_lists.specs.Rows.{added}
 use Rattle.cf_books_lists.proofs.Adding.{added_two}
 use Rattle.cf_books_year.specs.YearBalances.{changed_text, kept_text, opening, opening_text}

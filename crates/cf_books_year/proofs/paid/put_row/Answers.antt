@@ -1,4 +1,4 @@
-use Rattle.std.proofs.lemmas.Result.{on_ok_weaker}
+use Rattle.cf_base.proofs.Common.{on_ok_weaker}
 use Rattle.cf_books_lists.specs.Records.{record_text}
 use Rattle.cf_books_lists.proofs.Adding.{added_two}
 use Rattle.cf_books_payments.specs.Entering.{sum_at}

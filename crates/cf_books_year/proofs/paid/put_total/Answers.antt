@@ -1,8 +1,8 @@
 use Rattle.std.proofs.Common.{rules, ◌≡◌, ◌∙◌, ap, decimal}
-use Rattle.std.proofs.lemmas.Int.{to_z-of_z}
+use Rattle.cf_base.proofs.Common.{to_z-of_z}
 use mir.Val.{SFits}
 use mir.Syntax.{w128}
-use Rattle.cf_base.specs.Amounts.{money_of}
+use Rattle.cf_base.specs.Common.{money_of}
 use Rattle.cf_books_year.proofs.paid.put_total.Goals as goal
 
 pub returns : goal.returns

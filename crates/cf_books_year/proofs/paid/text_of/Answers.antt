@@ -1,5 +1,5 @@
 use Rattle.std.proofs.Common.{◌≡◌, ◌∙◌, ◌++◌, ap, Bool, ℕ, ℤ, List, None}
-use Rattle.std.proofs.lemmas.Result.{IfOk-weaker}
+use Rattle.cf_base.proofs.Common.{IfOk-weaker}
 use Rattle.cf_books_lists.specs.Records.{head_text}
 use Rattle.cf_books_lists.specs.Rows.{Written, added, none_written}
 use Rattle.cf_books_lists.proofs.Adding.{added_two}

@@ -1,5 +1,5 @@
 use Rattle.std.proofs.Common.{◌≡◌, ◌≤◌, ◌*◌, ◌^◌, ◌+ℤ◌, drop, unsigned_abs}
-use Rattle.cf_model.specs.Sums.{int_sum}
+use Rattle.cf_model.specs.Common.{int_sum}
 use Rattle.cf_books_year.specs.YearBalances.{kept, kept_balance}
 use Rattle.cf_books_year.proofs.sums.kept.Given as goal
 

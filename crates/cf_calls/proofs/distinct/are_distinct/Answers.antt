@@ -1,5 +1,5 @@
 use Rattle.std.proofs.Common.{◌≡◌, true, not, cond, get_or, Some, None, sym, ap, ◌∙◌}
-use Rattle.std.specs.BTreeSet.{contains}
+use Rattle.cf_base.proofs.Common.{contains}
 use Rattle.cf_calls.proofs.Seen.{seen_none, seen_some, apart_none, apart_some, repeats}
 use Rattle.cf_calls.proofs.distinct.are_distinct.Goals as goal
 use Rattle.cf_calls.proofs.distinct.are_distinct.Goals.{in-Some+in_ok-insert+else-not-branch, in_default}

@@ -1,7 +1,6 @@
 use Rattle.std.proofs.Common.{◌≡◌, true, Some, take}
-use Rattle.std.specs.List.{list_any}
-use Rattle.std.specs.BTreeSet.{contains}
-use Rattle.cf_calls.specs.Form.{is_distinct}
+use Rattle.cf_base.proofs.Common.{list_any, contains}
+use Rattle.cf_calls.specs.Common.{is_distinct}
 use Rattle.cf_calls.specs.Keys.{same_key}
 use Rattle.cf_calls.proofs.distinct.are_distinct.Given as goal
 

@@ -1,6 +1,6 @@
 use Rattle.std.proofs.Common.{[], ◌-◌, ◌≤◌, length, sym, arith}
-use Rattle.std.proofs.Math.ListN.{get_or-eq_default}
-use Rattle.cf_calls.specs.Refusals.{refusal_names}
+use Rattle.cf_base.proofs.Common.{get_or-eq_default}
+use Rattle.cf_calls.specs.Common.{refusal_names}
 use Rattle.cf_calls.proofs.refusal.refusal_name.Goals as goal
 
 pub returns-in_default-clause-value : goal.returns-in_default-clause-value

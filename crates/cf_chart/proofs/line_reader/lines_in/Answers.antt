@@ -1,6 +1,6 @@
 use Rattle.std.proofs.Common.{◌∙◌, ap, rules, sym}
 use Rattle.toml.specs.View.{view}
-use Rattle.cf_chart.specs.Reading.{line_row, new_line}
+use Rattle.cf_chart.specs.Common.{line_row, new_line}
 use Rattle.cf_chart.proofs.Following.{next_line}
 use Rattle.cf_chart.proofs.line_reader.lines_in.Goals as goal
 

@@ -1,6 +1,6 @@
 use Rattle.std.proofs.Common.{◌∙◌, ap, rules, sym}
 use Rattle.toml.specs.View.{view}
-use Rattle.cf_chart.specs.Reading.{new_row}
+use Rattle.cf_chart.specs.Common.{new_row}
 use Rattle.cf_chart.proofs.Following.{next_row}
 use Rattle.cf_chart.proofs.tables.read_rows.Goals as goal
 

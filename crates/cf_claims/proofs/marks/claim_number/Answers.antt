@@ -1,7 +1,5 @@
 use Rattle.std.proofs.Common.{◌≡◌, ◌++◌, ◌∙◌, ℕ, codes, decimal, ap, sym, arith, true≢false, Result, Ok, Err, is_ok, rules}
-use Rattle.std.proofs.lemmas.Slice.Eq.{bytes_eq-Decides}
-use Rattle.std.proofs.lemmas.Fmt.{parse-decimal}
-use Rattle.std.specs.Result.{result_unwrap_or}
+use Rattle.cf_base.proofs.Common.{bytes_eq-Decides, parse-decimal, result_unwrap_or}
 use Rattle.cf_claims.proofs.Numbers.{tail_of}
 use Rattle.cf_claims.proofs.marks.claim_number.Goals as goal
 

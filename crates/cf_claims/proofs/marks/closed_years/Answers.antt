@@ -1,5 +1,5 @@
 use Rattle.std.proofs.Common.{ap, ◌∙◌}
-use Rattle.std.proofs.lemmas.List.{take_all}
+use Rattle.cf_base.proofs.Common.{take_all}
 use Rattle.cf_claims.specs.Claims.{has_number}
 use Rattle.cf_claims.proofs.Years.{closed_years, has_number-closed_years}
 use Rattle.cf_claims.proofs.marks.closed_years.Goals as goal

@@ -1,6 +1,5 @@
 use Rattle.std.proofs.Common.{arith}
-use Rattle.std.proofs.lemmas.Grind.{common_steps}
-use Rattle.std.proofs.lemmas.List.Folds.{list_any_more}
+use Rattle.cf_base.proofs.Common.{common_steps, list_any_more}
 use Rattle.cf_claims.proofs.marks.set_of.Goals as goal
 
 pub loop-number-preserved : goal.loop-number-preserved

@@ -1,6 +1,5 @@
-use Rattle.std.proofs.Common.{◌≡◌, ℕ, take}
-use Rattle.std.specs.BTreeSet.{contains}
-use Rattle.std.specs.Ordering.{nat_cmp}
+use Rattle.std.proofs.Common.{◌≡◌, ℕ, take, nat_cmp}
+use Rattle.cf_base.proofs.Common.{contains}
 use Rattle.cf_claims.specs.Claims.{has_number}
 use Rattle.cf_claims.proofs.marks.set_of.Given as goal
 

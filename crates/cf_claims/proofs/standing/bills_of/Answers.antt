@@ -1,5 +1,5 @@
 use Rattle.std.proofs.Common.{◌∙◌, ◌<◌, ap, sym, None, length, arith}
-use Rattle.std.proofs.lemmas.List.Sums.{fold_more}
+use Rattle.cf_base.proofs.Common.{fold_more}
 use Rattle.cf_claims.specs.Standing.{bill_after}
 use Rattle.cf_claims.proofs.standing.bills_of.Goals as goal
 

@@ -1,6 +1,5 @@
-use Rattle.std.proofs.Common.{◌≡◌, ℕ, ◌<◌, ◌^◌, take}
-use Rattle.std.specs.BTreeMap.{get}
-use Rattle.std.specs.Ordering.{nat_cmp}
+use Rattle.std.proofs.Common.{◌≡◌, ℕ, ◌<◌, ◌^◌, take, nat_cmp}
+use Rattle.cf_base.proofs.Common.{get}
 use Rattle.cf_claims.specs.Standing.{bill_of}
 use Rattle.cf_claims.proofs.standing.bills_of.Given as goal
 

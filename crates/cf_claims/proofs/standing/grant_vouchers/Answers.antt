@@ -1,5 +1,5 @@
 use Rattle.std.proofs.Common.{◌∙◌, ap}
-use Rattle.std.proofs.lemmas.Result.{IfOk-weaker}
+use Rattle.cf_base.proofs.Common.{IfOk-weaker}
 use Rattle.cf_claims.specs.Standing.{claims_in, rows_from}
 use Rattle.cf_claims.proofs.LegalHistory.{legal_readable}
 use Rattle.cf_claims.proofs.RowsSay.{rows_say}

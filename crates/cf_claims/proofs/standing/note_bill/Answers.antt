@@ -1,7 +1,5 @@
-use Rattle.std.proofs.Common.{◌∙◌, ap, Some, if◌then◌else◌}
-use Rattle.std.proofs.lemmas.Result.{on_ok_weaker}
-use Rattle.std.specs.BTreeMap.{get}
-use Rattle.std.specs.Ordering.{nat_cmp}
+use Rattle.std.proofs.Common.{◌∙◌, ap, Some, if◌then◌else◌, nat_cmp}
+use Rattle.cf_base.proofs.Common.{on_ok_weaker, get}
 use Rattle.cf_claims.proofs.standing.note_bill.Goals as goal
 
 pub returns-in-Some : goal.returns-in-Some

@@ -1,6 +1,5 @@
-use Rattle.std.proofs.Common.{◌∙◌, ap, Some, if◌then◌else◌}
-use Rattle.std.specs.BTreeMap.{get}
-use Rattle.std.specs.Ordering.{nat_cmp}
+use Rattle.std.proofs.Common.{◌∙◌, ap, Some, if◌then◌else◌, nat_cmp}
+use Rattle.cf_base.proofs.Common.{get}
 use Rattle.cf_claims.proofs.RowsSay.{same_number}
 use Rattle.cf_claims.proofs.standing.put_number.Goals as goal
 

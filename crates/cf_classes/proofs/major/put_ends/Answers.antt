@@ -1,4 +1,4 @@
-use Rattle.std.proofs.lemmas.Result.{on_ok_weaker}
+use Rattle.cf_base.proofs.Common.{on_ok_weaker}
 use Rattle.cf_classes.proofs.Together.{two_added}
 use Rattle.cf_classes.proofs.major.put_ends.Goals as goal
 

@@ -1,4 +1,4 @@
-use Rattle.std.proofs.lemmas.Result.{err_from_is_err_and}
+use Rattle.cf_base.proofs.Common.{err_from_is_err_and}
 use Rattle.cf_codec_fields.specs.Formats.{each_at}
 use Rattle.cf_codec_fields.proofs.Loop.{goes_on, ends}
 use Rattle.cf_codec_fields.proofs.lists.take_each.Goals as goal

@@ -1,5 +1,5 @@
 use Rattle.std.proofs.Common.{◌-◌, ◌∙◌, ap, arith, slice_index_or, sum_by}
-use Rattle.std.proofs.lemmas.List.{take_all}
+use Rattle.cf_base.proofs.Common.{take_all}
 use Rattle.cf_debt.specs.Rows.{view_payments}
 use Rattle.cf_debt.proofs.Lasting.{charge_of_number, few_live, live_place, live_sum, no_bond, numbered}
 use Rattle.cf_debt.proofs.debt.interest_of.Goals as goal

@@ -2,7 +2,7 @@ use Rattle.std.proofs.Common.{◌≡◌, ◌*◌, ◌≤◌, sum_by, take}
 use Rattle.cf_debt.specs.Rows.{view_payments}
 use Rattle.cf_debt.proofs.Lasting.{charge_of_number}
 use Rattle.cf_debt.proofs.debt.interest_of.Given as goal
-use Rattle.cf_base.specs.Limits.{most_cents}
+use Rattle.cf_base.specs.Common.{most_cents}
 
 abbrev pub invariant-loop-number : goal.invariant-loop-number
 invariant-loop-number l = record {

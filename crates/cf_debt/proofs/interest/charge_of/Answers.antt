@@ -1,5 +1,5 @@
 use Rattle.std.proofs.Common.{◌≡◌, ◌<◌, ◌==◌, ℕ, Bool, false, arith}
-use Rattle.std.proofs.lemmas.Grind.{common_steps}
+use Rattle.cf_base.proofs.Common.{common_steps}
 use Rattle.cf_debt.proofs.Payments.{small_at}
 use Rattle.cf_debt.proofs.interest.charge_of.Goals as goal
 

@@ -1,7 +1,7 @@
 use Rattle.std.proofs.Common.{◌+◌, ◌∙◌, arith, sym}
 use Rattle.cf_debt.specs.Charges.{bond_of}
 use Rattle.cf_debt.proofs.Payments.{small_at, sum_all, sum_step}
-use Rattle.cf_model.specs.Bonds.{coupon}
+use Rattle.cf_model.specs.Common.{coupon}
 use Rattle.cf_debt.proofs.look.coupons_of.Goals as goal
 
 pub coupon-requires-clause-owed : goal.coupon-requires-clause-owed

@@ -1,7 +1,7 @@
 use Rattle.std.proofs.Common.{◌+◌, ◌∙◌, arith, sym}
 use Rattle.cf_debt.specs.Charges.{bond_of}
 use Rattle.cf_debt.proofs.Payments.{small_at, sum_all, sum_step}
-use Rattle.cf_model.specs.Bonds.{Due, days_by, interest_for}
+use Rattle.cf_model.specs.Common.{Due, days_by, interest_for}
 use Rattle.cf_debt.proofs.look.earned_of.Goals as goal
 
 pub earned_by-requires-clause-owed : goal.earned_by-requires-clause-owed

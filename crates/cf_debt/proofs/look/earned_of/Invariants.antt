@@ -1,9 +1,9 @@
 use Rattle.std.proofs.Common.{◌≡◌, ◌*◌, ◌≤◌, sum_by, take}
 use Rattle.cf_debt.specs.Charges.{bond_of}
 use Rattle.cf_debt.specs.Rows.{view_payments}
-use Rattle.cf_model.specs.Bonds.{Due, days_by, interest_for}
+use Rattle.cf_model.specs.Common.{Due, days_by, interest_for}
 use Rattle.cf_debt.proofs.look.earned_of.Given as goal
-use Rattle.cf_base.specs.Limits.{most_cents}
+use Rattle.cf_base.specs.Common.{most_cents}
 
 abbrev pub invariant-loop-payment : goal.invariant-loop-payment
 invariant-loop-payment l = record {

@@ -1,6 +1,6 @@
 use Rattle.std.proofs.Common.{◌+◌, ◌∙◌, arith, sym, slice_index_or}
 use Rattle.cf_debt.proofs.Payments.{small_at, sum_all, sum_step}
-use Rattle.cf_model.specs.Bonds.{Due}
+use Rattle.cf_model.specs.Common.{Due}
 use Rattle.cf_debt.proofs.look.principal_of.Goals as goal
 
 pub overflow_add-principal : goal.overflow_add-principal

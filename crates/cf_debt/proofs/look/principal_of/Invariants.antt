@@ -1,8 +1,8 @@
 use Rattle.std.proofs.Common.{◌≡◌, ◌*◌, ◌≤◌, sum_by, take}
 use Rattle.cf_debt.specs.Rows.{view_payments}
-use Rattle.cf_model.specs.Bonds.{Due}
+use Rattle.cf_model.specs.Common.{Due}
 use Rattle.cf_debt.proofs.look.principal_of.Given as goal
-use Rattle.cf_base.specs.Limits.{most_cents}
+use Rattle.cf_base.specs.Common.{most_cents}
 
 abbrev pub invariant-loop-payment : goal.invariant-loop-payment
 invariant-loop-payment l = record {

@@ -1,13 +1,12 @@
 use Rattle.std.proofs.Common.{◌≡◌, ◌+◌, ◌-◌, ◌∙◌, ◌-ℤ◌, Some, pos, option_map, sum_by, take, drop, ap, sym, rules}
-use Rattle.std.proofs.lemmas.Int.{to_z-of_z}
+use Rattle.cf_base.proofs.Common.{to_z-of_z}
 use mir.Val.{SFits}
 use mir.Syntax.{w128}
 use Rattle.cf_calls.specs.declared.shown.Shown.TheVariants as shown
 use Rattle.cf_debt.specs.Charges.{bond_of}
 use Rattle.cf_debt.specs.Rows.{view_bond, view_payments}
 use Rattle.cf_debt.proofs.Payments.{own_payments, paid_payments, small_part}
-use Rattle.cf_model.specs.Bonds.{Due, coupon, days_by, dues, interest_for}
-use Rattle.cf_model.specs.RegisterRules.{due_day}
+use Rattle.cf_model.specs.Common.{Due, coupon, days_by, dues, interest_for, due_day}
 use Rattle.cf_debt.proofs.look.shown_of.Goals as goal
 use Rattle.cf_debt.proofs.look.shown_of.Goals.{in-None, in-Some}
 

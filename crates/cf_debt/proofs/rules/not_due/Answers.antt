@@ -1,6 +1,6 @@
 use Rattle.std.proofs.Common.{sym, ◌∙◌}
 use Rattle.cf_debt.proofs.Refusing.{refused, not_refused}
-use Rattle.cf_model.specs.Calendar.{is_before}
+use Rattle.cf_model.specs.Common.{is_before}
 use Rattle.cf_calls.specs.declared.refusal.Refusal.TheVariants as refusal
 use Rattle.cf_debt.proofs.rules.not_due.Goals as goal
 

@@ -1,9 +1,9 @@
 use Rattle.std.proofs.Common.{◌≡◌, ◌-◌, ◌<◌, ◌∙◌, length, ap, sym, Some, arith, slice_index_or}
-use Rattle.std.proofs.lemmas.List.{drop_all, get_or_default}
+use Rattle.cf_base.proofs.Common.{drop_all, get_or_default}
 use Rattle.cf_debt.specs.Register.{debt_due_of}
 use Rattle.cf_debt.specs.Rows.{view_payments}
 use Rattle.cf_debt.proofs.Lasting.{first_found, live_first, live_place, no_bond, numbered, row_at, unpaid_number}
-use Rattle.cf_model.specs.Rules.{first_refusal}
+use Rattle.cf_model.specs.Common.{first_refusal}
 use Rattle.cf_debt.proofs.rules.unpaid_among.Goals as goal
 
 pub overflow_sub-bond : goal.overflow_sub-bond

@@ -1,7 +1,7 @@
 use Rattle.std.proofs.Common.{◌≡◌, drop}
 use Rattle.cf_debt.specs.Rows.{view_payments}
 use Rattle.cf_debt.proofs.Lasting.{unpaid_number}
-use Rattle.cf_model.specs.Rules.{first_refusal}
+use Rattle.cf_model.specs.Common.{first_refusal}
 use Rattle.cf_debt.proofs.rules.unpaid_among.Given as goal
 
 abbrev pub invariant-loop-number : goal.invariant-loop-number

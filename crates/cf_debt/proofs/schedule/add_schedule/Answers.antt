@@ -1,5 +1,5 @@
 use Rattle.std.proofs.Common.{◌≡◌, ◌+◌, ◌*◌, ◌∙◌, ℕ, ap, arith, length, slice_index_or}
-use Rattle.std.proofs.lemmas.List.{length-append, get_or_default}
+use Rattle.cf_base.proofs.Common.{length-append, get_or_default}
 use Rattle.cf_debt.proofs.Schedules.{built_step}
 use Rattle.cf_debt.proofs.schedule.add_schedule.Goals as goal
 

@@ -1,7 +1,6 @@
-use Rattle.std.proofs.Common.{◌≡◌, ◌+◌, ◌*◌, ◌-◌, ◌≤◌, ◌++◌, length, drop}
-use Rattle.std.specs.Vec.{vec_capacity}
+use Rattle.std.proofs.Common.{◌≡◌, ◌+◌, ◌*◌, ◌-◌, ◌≤◌, ◌++◌, length, drop, vec_capacity}
 use Rattle.cf_debt.specs.Rows.{view_payments}
-use Rattle.cf_model.specs.Bonds.{dues_from}
+use Rattle.cf_model.specs.Common.{dues_from}
 use Rattle.cf_debt.proofs.schedule.add_schedule.Given as goal
 
 abbrev pub invariant-loop-principal : goal.invariant-loop-principal

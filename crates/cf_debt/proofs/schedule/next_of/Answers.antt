@@ -1,5 +1,5 @@
 use Rattle.std.proofs.Common.{◌+◌, ◌<◌, length, ap, sym, arith}
-use Rattle.std.proofs.lemmas.List.{length-map}
+use Rattle.cf_base.proofs.Common.{length-map}
 use Rattle.cf_debt.specs.Rows.{view_payment, view_payments}
 use Rattle.cf_debt.proofs.Payments.{next_value, next_month, small_at}
 use Rattle.cf_debt.proofs.Schedules.{next_none}

@@ -1,6 +1,5 @@
-use Rattle.std.proofs.Common.{◌<◌, ◌∙◌, length, ap, arith}
-use Rattle.std.proofs.lemmas.List.Filters.{FiltersInPlace-all, FiltersInPlace-more_no, FiltersInPlace-more_set}
-use Rattle.std.specs.List.{filter}
+use Rattle.std.proofs.Common.{◌<◌, ◌∙◌, length, ap, arith, filter}
+use Rattle.cf_base.proofs.Common.{FiltersInPlace-all, FiltersInPlace-more_no, FiltersInPlace-more_set}
 use Rattle.cf_debt.proofs.Lasting.{is_lasting, lasts, live_later, not_lasting, place_now}
 use Rattle.cf_debt.proofs.steps.keep_live.Goals as goal
 use Rattle.cf_debt.proofs.steps.keep_live.Goals.{then-closed-bonds, else-closed-bonds}

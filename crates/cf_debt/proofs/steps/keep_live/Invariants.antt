@@ -1,5 +1,5 @@
 use Rattle.cf_debt.proofs.Lasting.{lasts}
-use Rattle.std.proofs.lemmas.List.Filters.{FiltersInPlace}
+use Rattle.cf_base.proofs.Common.{FiltersInPlace}
 use Rattle.cf_debt.proofs.steps.keep_live.Given as goal
 
 abbrev pub invariant-loop-k : goal.invariant-loop-k

@@ -1,6 +1,5 @@
-use Rattle.std.proofs.Common.{arith, refl, ap, ◌≡◌, ◌≤◌, ◌+◌, length, Some}
-use Rattle.std.specs.Prelude.{slice_get}
-use Rattle.cf_base.specs.Limits.{most_entries}
+use Rattle.std.proofs.Common.{arith, refl, ap, ◌≡◌, ◌≤◌, ◌+◌, length, Some, slice_get}
+use Rattle.cf_base.specs.Common.{most_entries}
 use Rattle.cf_journal_stream.specs.Readings.{IsPayloadOf}
 use Rattle.cf_follow.specs.Admitting.{office}
 use Rattle.cf_follow.specs.Steps.{FollowsOne, IsOtherThan, Takes, Unfollowed}

@@ -1,5 +1,5 @@
 use Rattle.std.proofs.Common.{◌≡◌, ℕ, ◌+◌, ◌-◌, ◌*◌, ◌≤◌, List, length, Option}
-use Rattle.cf_base.specs.Limits.{most_entries}
+use Rattle.cf_base.specs.Common.{most_entries}
 use Rattle.cf_journal_stream.specs.Readings.{ReadsHead}
 use Rattle.cf_follow.specs.Admitting.{office}
 use Rattle.cf_follow.proofs.Stepping.{IsFollowing, IsStill}

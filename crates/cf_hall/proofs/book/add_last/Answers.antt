@@ -1,6 +1,6 @@
 use Rattle.std.proofs.Common.{◌≡◌, sym, subst, ◌∙◌}
 use Rattle.cf_budget.specs.Tables.{has_line}
-use Rattle.cf_calls.specs.declared.entry.Entry.{Entry}
+use Rattle.cf_model.specs.Common.{Entry}
 use Rattle.cf_journal_book.specs.Archives.{IsOwed}
 use Rattle.cf_hall_names.specs.Lists.{entries_of}
 use Rattle.cf_registers.specs.Lines.{LendsTouched}

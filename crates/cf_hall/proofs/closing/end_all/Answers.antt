@@ -1,7 +1,6 @@
 use Rattle.std.proofs.Common.{◌≡◌, List, [], ◌++◌, map, All, ap, append-nil, sym, subst, ◌∙◌}
-use Rattle.std.proofs.lemmas.List.Elements.{All-push}
+use Rattle.cf_base.proofs.Common.{All-push, into_iter_items}
 use mathlib.Core.List.{IsPrefix}
-use Rattle.std.specs.Vec.Iter.{into_iter_items}
 use Rattle.cf_turns.specs.Lists.{TaggedCall, TaggedEntry, calls_of, places_of}
 use Rattle.cf_turns.specs.States.{PassState}
 use Rattle.cf_hall_names.specs.Closing.{faults_in, receipts_of}

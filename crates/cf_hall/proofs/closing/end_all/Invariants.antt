@@ -1,7 +1,6 @@
-use Rattle.std.proofs.Common.{◌≡◌, ◌≤◌, ◌+◌, ◌++◌, length, map, All}
+use Rattle.std.proofs.Common.{◌≡◌, ◌≤◌, ◌+◌, ◌++◌, length, map, All, vec_capacity}
 use mathlib.Core.List.{IsPrefix}
-use Rattle.std.specs.Vec.{vec_capacity}
-use Rattle.std.specs.Vec.Iter.{into_iter_items}
+use Rattle.cf_base.proofs.Common.{into_iter_items}
 use Rattle.cf_turns.specs.Lists.{calls_of, places_of}
 use Rattle.cf_hall_names.specs.Closing.{AreApart, accepted_of, failed_calls, faults_in, receipts_of}
 use Rattle.cf_hall.proofs.closing.end_all.Given as goal

@@ -1,6 +1,6 @@
 use Rattle.std.proofs.Common.{◌≡◌, ℕ, ◌+◌, ◌++◌, ◌∷◌, [], List, take, length, sym, ap, subst, ◌∙◌, arith, length-append}
-use Rattle.std.proofs.lemmas.List.{take_more}
-use Rattle.cf_calls.specs.declared.entry.Entry.{Entry}
+use Rattle.cf_base.proofs.Common.{take_more}
+use Rattle.cf_model.specs.Common.{Entry}
 use Rattle.cf_hall_names.specs.Closing.{HasFirst}
 use Rattle.cf_hall_names.specs.Lists.{entries_of}
 use Rattle.cf_hall_names.specs.Shares.{TotalsState}

@@ -1,5 +1,5 @@
 use Rattle.std.proofs.Common.{◌≡◌, ◌+◌, ◌∙◌, ap, sym, arith, Some, None, slice_index_or}
-use Rattle.cf_model.specs.Stripes.{entry_touches}
+use Rattle.cf_model.specs.Common.{entry_touches}
 use Rattle.cf_turns.specs.States.{PassState}
 use Rattle.cf_turns.specs.Touching.{touch_count}
 use Rattle.cf_hall_names.proofs.Eight.{eight}

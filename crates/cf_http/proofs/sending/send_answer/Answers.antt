@@ -1,6 +1,5 @@
 use Rattle.std.proofs.Common.{◌∙◌, subst}
-use Rattle.std.specs.Io.KnownBytes.{Appends}
-use Rattle.std.proofs.KnownBytes.{Appends-trans}
+use Rattle.cf_base.proofs.Common.{Appends, Appends-trans}
 use Rattle.cf_http.specs.Links.{SentFront}
 use Rattle.cf_http.proofs.SentLaws.{front_of_first, front_of_second}
 use Rattle.cf_http.proofs.sending.send_answer.Goals as goal

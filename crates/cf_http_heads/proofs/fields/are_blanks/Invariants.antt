@@ -1,5 +1,5 @@
 use Rattle.std.proofs.Common.{◌≡◌, drop}
-use Rattle.std.specs.List.{list_all}
+use Rattle.cf_base.proofs.Common.{list_all}
 use Rattle.httparse.specs.Grammar.{is_ows}
 use Rattle.cf_http_heads.proofs.fields.are_blanks.Given as goal
 

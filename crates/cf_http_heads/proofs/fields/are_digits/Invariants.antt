@@ -1,6 +1,5 @@
 use Rattle.std.proofs.Common.{◌≡◌, drop}
-use Rattle.std.specs.List.{list_all}
-use Rattle.std.specs.Char.{is_ascii_digit}
+use Rattle.cf_base.proofs.Common.{list_all, is_ascii_digit}
 use Rattle.cf_http_heads.proofs.fields.are_digits.Given as goal
 
 abbrev pub invariant-loop-byte : goal.invariant-loop-byte

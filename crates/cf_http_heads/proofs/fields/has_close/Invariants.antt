@@ -1,5 +1,5 @@
 use Rattle.std.proofs.Common.{◌≡◌, length}
-use Rattle.std.specs.List.{list_any}
+use Rattle.cf_base.proofs.Common.{list_any}
 use Rattle.cf_http_heads.specs.Fields.{elements, is_close}
 use Rattle.cf_http_heads.proofs.fields.has_close.Given as goal
 

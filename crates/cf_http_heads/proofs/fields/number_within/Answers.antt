@@ -1,8 +1,5 @@
 use Rattle.std.proofs.Common.{◌≡◌, ◌<◌, ◌≤◌, ◌+◌, ◌-◌, ◌*◌, ℕ, List, true, length, ◌∷◌, get_or, drop, suc, arith, refl, drop-cons}
-use Rattle.std.specs.List.{list_all}
-use Rattle.std.specs.Char.{is_ascii_digit, digit_value}
-use Rattle.std.specs.Str.Parse.{digits_value, digits_value_after}
-use Rattle.std.proofs.lemmas.Bool.{lt-leb}
+use Rattle.cf_base.proofs.Common.{list_all, is_ascii_digit, digit_value, digits_value, digits_value_after, lt-leb}
 use Rattle.cf_http_heads.proofs.FieldLaws.{after_least}
 use Rattle.cf_http_heads.proofs.fields.number_within.Goals as goal
 

@@ -1,7 +1,5 @@
 use Rattle.std.proofs.Common.{◌≡◌, ◌≤◌, drop, true}
-use Rattle.std.specs.List.{list_all}
-use Rattle.std.specs.Char.{is_ascii_digit}
-use Rattle.std.specs.Str.Parse.{digits_value, digits_value_after}
+use Rattle.cf_base.proofs.Common.{list_all, is_ascii_digit, digits_value, digits_value_after}
 use Rattle.cf_http_heads.proofs.fields.number_within.Given as goal
 
 abbrev pub invariant-loop-digit : goal.invariant-loop-digit

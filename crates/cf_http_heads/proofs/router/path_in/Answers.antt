@@ -1,6 +1,5 @@
 use Rattle.std.proofs.Common.{sym, arith}
-use Rattle.std.proofs.lemmas.Str.Pattern.{split_once_first}
-use Rattle.std.proofs.lemmas.List.{take_all}
+use Rattle.cf_base.proofs.Common.{split_once_first, take_all}
 use Rattle.cf_http_heads.proofs.router.path_in.Goals as goal
 
 pub returns-in-Some : goal.returns-in-Some

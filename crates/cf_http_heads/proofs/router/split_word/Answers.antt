@@ -1,7 +1,5 @@
-use Rattle.std.proofs.Common.{◌≡◌, ◌<◌, ◌∙◌, ◌∷◌, ℕ, List, length, Option, Some, None, MatchOption, eqb, arith, sym, ap}
-use Rattle.std.specs.Borrow.{Bor}
-use Rattle.std.specs.List.{position_or_len, before_first, after_first}
-use Rattle.std.proofs.lemmas.Str.Pattern.{split_once_first}
+use Rattle.std.proofs.Common.{◌≡◌, ◌<◌, ◌∙◌, ◌∷◌, ℕ, List, length, Option, Some, None, MatchOption, eqb, arith, sym, ap, Bor}
+use Rattle.cf_base.proofs.Common.{position_or_len, before_first, after_first, split_once_first}
 use Rattle.cf_http_heads.specs.Routes.{IsSplit}
 use Rattle.cf_http_heads.specs.Fields.{parts}
 use Rattle.cf_http_heads.proofs.FieldLaws.{parts_split, parts_whole}

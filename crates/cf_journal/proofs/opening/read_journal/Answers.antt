@@ -1,9 +1,7 @@
-use Rattle.std.proofs.lemmas.Result.{err_from_is_err_and}
-use Rattle.std.proofs.Common.{◌≡◌, ◌+◌, ◌-◌, ℕ, List, length, take, drop, sym, ◌∙◌, ap, subst, arith, Result, Ok, Err}
-use Rattle.std.specs.Prelude.{IsOk, is_ok}
-use Rattle.std.proofs.lemmas.List.{get_or-take}
+use Rattle.cf_base.proofs.Common.{err_from_is_err_and, get_or-take}
+use Rattle.std.proofs.Common.{◌≡◌, ◌+◌, ◌-◌, ℕ, List, length, take, drop, sym, ◌∙◌, ap, subst, arith, Result, Ok, Err, IsOk, is_ok}
 use Rattle.cf_calls.specs.declared.entry.Entry.{Entry}
-use Rattle.cf_chart.specs.Reading.{chart_of}
+use Rattle.cf_chart.specs.Common.{chart_of}
 use Rattle.cf_journal.specs.Frames.{version_by, stated_head, with_chart, frames}
 use Rattle.cf_journal.specs.Layout.{IsValid, IsAtRest}
 use Rattle.cf_journal.specs.Records.{entries_from, gate_after}

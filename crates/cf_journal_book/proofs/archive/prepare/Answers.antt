@@ -1,9 +1,8 @@
 use Rattle.std.proofs.Common.{sym, subst}
 use Rattle.cf_budget.specs.Tables.{has_line}
-use Rattle.cf_calls.specs.declared.entry.Entry.{Entry}
-use Rattle.cf_calls.specs.Form.{IsEntryInForm}
-use Rattle.cf_model.specs.Step.{Adds}
-use Rattle.cf_model.proofs.Stripped.{adds_accepted}
+use Rattle.cf_model.specs.Common.{Entry, Adds}
+use Rattle.cf_calls.specs.Common.{IsEntryInForm}
+use Rattle.cf_model.proofs.Common.{adds_accepted}
 use Rattle.cf_registers.specs.Lines.{LendsTouched}
 use Rattle.cf_journal_book.proofs.InForm.{added_in_form}
 use Rattle.cf_journal_book.specs.Settling.{entry_by}

@@ -1,5 +1,5 @@
 use Rattle.std.proofs.Common.{sym, ◌∙◌}
-use Rattle.cf_model.proofs.Accepted.{accepted_fits}
+use Rattle.cf_model.proofs.Common.{accepted_fits}
 use Rattle.cf_journal_book.proofs.Recovering.{taken_adds}
 use Rattle.cf_journal_book.proofs.opening.readmit.Goals as goal
 

@@ -1,6 +1,6 @@
 use Rattle.std.proofs.Common.{◌∙◌, ap, sym, subst, List, [], ◌∷◌, ◌++◌}
-use Rattle.std.specs.Vec.Iter.{into_iter_items}
-use Rattle.cf_calls.specs.declared.entry.Entry.{Entry}
+use Rattle.cf_base.proofs.Common.{into_iter_items}
+use Rattle.cf_model.specs.Common.{Entry}
 use Rattle.cf_office.specs.BookState.{BookState}
 use Rattle.cf_journal_book.specs.Watching.{all_posted}
 use Rattle.cf_journal_book.proofs.Watched.{seen_on, all_taken}

@@ -1,6 +1,6 @@
 use Rattle.std.proofs.Common.{◌≡◌, ◌≤◌, ◌+◌, ◌*◌, ◌^◌, [], ◌++◌, length, All}
-use Rattle.std.specs.Vec.Iter.{into_iter_items}
-use Rattle.cf_base.specs.Limits.{most_entries}
+use Rattle.cf_base.proofs.Common.{into_iter_items}
+use Rattle.cf_base.specs.Common.{most_entries}
 use Rattle.cf_journal.specs.Records.{HasRecord}
 use Rattle.cf_journal_book.specs.Recovery.{first_refused}
 use Rattle.cf_journal_book.specs.Watching.{all_posted}

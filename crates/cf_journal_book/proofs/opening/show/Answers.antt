@@ -1,10 +1,8 @@
 use Rattle.std.proofs.Common.{◌≡◌, ◌+◌, ◌∙◌, ap, sym, subst, List, [], ◌∷◌, ◌++◌, length, Option, Some, IfSome, OnOk}
-use Rattle.std.proofs.lemmas.Result.{on_ok_weaker}
-use Rattle.cf_calls.specs.declared.entry.Entry.{Entry}
-use Rattle.cf_calls.specs.declared.read.Basis.TheVariants.{Fund as FundBasis, Gov as GovBasis}
-use Rattle.cf_chart.specs.Plan.{Plan}
-use Rattle.cf_model.specs.Postings.{act_posts}
-use Rattle.cf_model.specs.Registers.{registers_of}
+use Rattle.cf_base.proofs.Common.{on_ok_weaker}
+use Rattle.cf_model.specs.Common.{Entry, Gov as GovBasis, act_posts, registers_of}
+use Rattle.cf_calls.specs.declared.read.Basis.TheVariants.{Fund as FundBasis}
+use Rattle.cf_chart.specs.Common.{Plan}
 use Rattle.cf_journal_book.specs.Watching.{Posted, IsNext, all_posted, shown_as}
 use Rattle.cf_journal_book.proofs.Watched.{next_seen, prepared_next, shown_is}
 use Rattle.cf_journal_book.proofs.opening.show.Goals as goal

@@ -1,5 +1,5 @@
 use Rattle.std.proofs.Common.{◌≡◌, ℕ, List, Option, Some, inl, inr}
-use Rattle.cf_calls.specs.declared.entry.Entry.{Entry}
+use Rattle.cf_model.specs.Common.{Entry}
 use Rattle.cf_disk.specs.Moments.{AtEachMoment}
 use Rattle.cf_journal.specs.Layout.{RecoversTo}
 use Rattle.cf_journal.proofs.Appending.{on_err}

@@ -1,5 +1,5 @@
 use Rattle.std.proofs.Common.{◌≡◌, ◌-◌, ◌≤◌, vec_len}
-use Rattle.std.specs.Io.KnownBytes.{Consumes}
+use Rattle.cf_base.proofs.Common.{Consumes}
 use Rattle.cf_journal_stream.proofs.reader.take_piece.Given as goal
 
 abbrev pub invariant-loop-source : goal.invariant-loop-source

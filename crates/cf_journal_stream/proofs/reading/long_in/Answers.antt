@@ -1,5 +1,5 @@
 use Rattle.std.proofs.Common.{arith}
-use Rattle.std.proofs.lemmas.Nat.{be_bytes_8}
+use Rattle.cf_base.proofs.Common.{be_bytes_8}
 use Rattle.cf_journal_stream.proofs.reading.long_in.Goals as goal
 
 pub returns-else-bytes-lt8-clause-value : goal.returns-else-bytes-lt8-clause-value

@@ -1,5 +1,5 @@
-use Rattle.std.proofs.lemmas.List.Sums.{list_all-from_AllPass}
-use Rattle.cf_calls.specs.Form.{is_charge_form}
+use Rattle.cf_base.proofs.Common.{list_all-from_AllPass}
+use Rattle.cf_calls.specs.Common.{is_charge_form}
 use Rattle.cf_json.proofs.acts.new_voucher.Goals as goal
 
 pub returns-clause-form : goal.returns-clause-form

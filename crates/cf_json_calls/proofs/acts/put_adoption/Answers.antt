@@ -1,5 +1,5 @@
 use Rattle.std.proofs.Common.{[], ◌∷◌, codes}
-use Rattle.std.proofs.lemmas.Result.{on_ok_weaker}
+use Rattle.cf_base.proofs.Common.{on_ok_weaker}
 use Rattle.cf_json_members.specs.Objects.{count, list_of}
 use Rattle.cf_json_calls.specs.Values.{line_amount_data, source_amount_data}
 use Rattle.cf_json_calls.proofs.Objects.{three_appended}

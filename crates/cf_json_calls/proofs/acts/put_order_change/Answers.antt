@@ -1,7 +1,6 @@
-use Rattle.std.proofs.Common.{[], ◌∷◌, codes, FitsSigned, rules}
+use Rattle.std.proofs.Common.{[], ◌∷◌, codes, FitsSigned, rules, w64}
 use Rattle.std.proofs.Math.Facts.{to_z-of_z}
-use Rattle.std.specs.Int.{w64}
-use Rattle.std.proofs.lemmas.Result.{on_ok_weaker}
+use Rattle.cf_base.proofs.Common.{on_ok_weaker}
 use Rattle.cf_json_members.specs.Objects.{count}
 use Rattle.cf_json_calls.specs.Values.{signed}
 use Rattle.cf_json_calls.proofs.Objects.{two_appended}

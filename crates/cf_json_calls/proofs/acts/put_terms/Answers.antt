@@ -1,5 +1,5 @@
 use Rattle.std.proofs.Common.{[], ◌∷◌, codes}
-use Rattle.std.proofs.lemmas.Result.{on_ok_weaker}
+use Rattle.cf_base.proofs.Common.{on_ok_weaker}
 use Rattle.cf_json_members.specs.Objects.{count, list_of}
 use Rattle.cf_json_calls.proofs.Objects.{two_appended}
 use Rattle.cf_json_calls.proofs.acts.put_terms.Goals as goal

@@ -1,5 +1,5 @@
 use Rattle.std.proofs.Common.{subst}
-use Rattle.std.proofs.lemmas.List.Elements.{All-more}
+use Rattle.cf_base.proofs.Common.{All-more}
 use Rattle.cf_json_calls.proofs.ItemTexts.{push_item, close_list}
 use Rattle.cf_json_calls.proofs.items.put_list.Goals as goal
 

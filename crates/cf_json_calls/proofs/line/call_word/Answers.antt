@@ -1,8 +1,8 @@
 use Rattle.std.proofs.Common.{◌≡◌, true, refl}
-use Rattle.std.specs.List.{list_all}
+use Rattle.cf_base.proofs.Common.{list_all}
 use Rattle.cf_calls.specs.declared.kind.ActKind.{ActKind}
 use Rattle.cf_calls.specs.declared.kind.ActKind.TheVariants as kind
-use Rattle.cf_calls.specs.Kinds.{kind_of, word_of}
+use Rattle.cf_calls.specs.Common.{kind_of, word_of}
 use Rattle.cf_json_members.specs.Parts.{is_plain}
 use Rattle.cf_json_calls.proofs.line.call_word.Goals as goal
 

@@ -1,4 +1,4 @@
-use Rattle.std.proofs.lemmas.Result.{on_ok_weaker}
+use Rattle.cf_base.proofs.Common.{on_ok_weaker}
 use Rattle.cf_json_calls.proofs.RoundTrip.{call_of-call_text}
 use Rattle.cf_json_calls.proofs.line.write_call.Goals as goal
 

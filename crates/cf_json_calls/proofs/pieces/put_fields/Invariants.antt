@@ -1,5 +1,5 @@
 use Rattle.std.proofs.Common.{◌≡◌, ◌++◌, true, drop}
-use Rattle.std.specs.List.{list_all}
+use Rattle.cf_base.proofs.Common.{list_all}
 use Rattle.cf_json_members.specs.Parts.{is_plain_field, fields_of}
 use Rattle.cf_json_calls.specs.CallText.{fields_text}
 use Rattle.cf_json_calls.proofs.pieces.put_fields.Given as goal

@@ -1,7 +1,7 @@
 use Rattle.std.proofs.Common.{◌≡◌, ◌++◌, true, drop}
-use Rattle.std.specs.List.{list_all}
+use Rattle.cf_base.proofs.Common.{list_all}
 use Rattle.json.specs.Print.{escape}
-use Rattle.cf_calls.specs.Form.{is_key_byte}
+use Rattle.cf_calls.specs.Common.{is_key_byte}
 use Rattle.cf_json_calls.proofs.pieces.put_key.Given as goal
 
 abbrev pub invariant-loop-byte : goal.invariant-loop-byte

@@ -1,5 +1,5 @@
 use Rattle.std.proofs.Common.{arith, leb-true, nat_le}
-use Rattle.std.proofs.lemmas.Bool.{and_parts}
+use Rattle.cf_base.proofs.Common.{and_parts}
 use Rattle.json.proofs.Printed.Strings.{escape_byte_plain}
 use Rattle.cf_json_calls.proofs.pieces.put_key_byte.Goals as goal
 

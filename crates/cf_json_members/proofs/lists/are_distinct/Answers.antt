@@ -1,6 +1,6 @@
 use Rattle.std.proofs.Common.{◌≡◌, map, ap, sym, ◌∙◌}
-use Rattle.std.proofs.lemmas.List.{take_all}
-use Rattle.cf_calls.specs.Form.{is_distinct}
+use Rattle.cf_base.proofs.Common.{take_all}
+use Rattle.cf_calls.specs.Common.{is_distinct}
 use Rattle.cf_calls.specs.Keys.{same_key}
 use Rattle.cf_calls.proofs.Keys.{distinct_map}
 use Rattle.cf_json_members.proofs.lists.are_distinct.Goals as goal

@@ -1,4 +1,4 @@
-use Rattle.std.proofs.lemmas.List.Elements.{All-push}
+use Rattle.cf_base.proofs.Common.{All-push}
 use Rattle.cf_json_members.proofs.Items.{read_more}
 use Rattle.cf_json_members.proofs.lists.read_all.Goals as goal
 

@@ -1,5 +1,4 @@
-use Rattle.std.proofs.Common.{◌≡◌, ◌++◌, option_map, drop}
-use Rattle.std.specs.List.{All}
+use Rattle.std.proofs.Common.{◌≡◌, ◌++◌, option_map, drop, All}
 use Rattle.serde_json.specs.View.{items_view}
 use Rattle.cf_json_members.specs.Lists.{each}
 use Rattle.cf_json_members.proofs.lists.read_all.Given as goal

@@ -1,5 +1,5 @@
 use Rattle.std.proofs.Common.{◌≡◌, ◌+◌, ◌≤◌, ◌++◌, true, drop, vec_len, vec_capacity}
-use Rattle.std.specs.List.{list_all}
+use Rattle.cf_base.proofs.Common.{list_all}
 use Rattle.serde_json.specs.Written.{members_text}
 use Rattle.cf_json_members.specs.Objects.{members}
 use Rattle.cf_json_members.specs.Parts.{is_plain_field, fields_of, fields_room}

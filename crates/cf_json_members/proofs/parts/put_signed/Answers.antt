@@ -1,5 +1,5 @@
 use Rattle.std.proofs.Common.{◌≡◌, rules}
-use Rattle.std.specs.Fmt.{signed_decimal}
+use Rattle.cf_base.proofs.Common.{signed_decimal}
 use Rattle.cf_json_members.proofs.Plain.{signed-plain}
 use Rattle.cf_json_members.proofs.parts.put_signed.Goals as goal
 

@@ -1,5 +1,5 @@
 use Rattle.std.proofs.Common.{◌≡◌, ◌++◌, ◌∙◌, ap, codes}
-use Rattle.std.proofs.lemmas.Result.{on_ok_weaker}
+use Rattle.cf_base.proofs.Common.{on_ok_weaker}
 use Rattle.serde_json.specs.Data.{string}
 use Rattle.cf_json_members.specs.Objects.{text_of}
 use Rattle.cf_json_members.proofs.ObjectTexts.{fields-head}

@@ -1,6 +1,6 @@
 use Rattle.std.proofs.Common.{◌≡◌, true, refl}
-use Rattle.std.specs.List.{list_all}
-use Rattle.cf_calls.specs.Refusals.{name_of}
+use Rattle.cf_base.proofs.Common.{list_all}
+use Rattle.cf_calls.specs.Common.{name_of}
 use Rattle.cf_calls.specs.declared.refusal.Refusal.{Refusal}
 use Rattle.cf_calls.specs.declared.refusal.Refusal.TheVariants as refused
 use Rattle.cf_json_members.specs.Parts.{is_plain}

@@ -1,6 +1,6 @@
 use Rattle.std.proofs.Common.{FitsSigned, rules}
 use Rattle.std.proofs.Math.Facts.{to_z-of_z}
-use Rattle.std.specs.Int.{w128}
+use Rattle.cf_base.proofs.Common.{w128}
 use Rattle.cf_json_replies.proofs.shown.put_recon.Goals as goal
 
 pub returns : goal.returns

@@ -1,9 +1,6 @@
 use Rattle.std.proofs.Common.{◌≡◌, List, ℤ, ap, subst, ◌∙◌, arith}
-use Rattle.std.proofs.lemmas.Grind.{common_steps}
-use Rattle.std.proofs.lemmas.Int.{to_z-of_z}
+use Rattle.cf_base.proofs.Common.{common_steps, to_z-of_z, with_items, with_items_is}
 use mir.Syntax.{w128}
-use Rattle.std.specs.Vec.{with_items}
-use Rattle.std.proofs.lemmas.List.{with_items_is}
 use Rattle.cf_ledger.specs.Places.{Rows, cells_of, cells_at, PutsCells}
 use Rattle.cf_ledger.specs.Years.{raised}
 use Rattle.cf_ledger.proofs.PlaceRows.{put_reads, put_cells, put_same}

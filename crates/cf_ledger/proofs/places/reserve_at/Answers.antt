@@ -1,5 +1,5 @@
 use Rattle.std.proofs.Common.{◌∙◌, sym, ap, length, pos}
-use Rattle.std.proofs.lemmas.List.{length-replicate}
+use Rattle.cf_base.proofs.Common.{length-replicate}
 use Rattle.cf_ledger.proofs.PlaceRows.{put_reads, put_keeps, put_counted, zeros_read}
 use Rattle.cf_ledger.proofs.places.reserve_at.Goals as goal
 

@@ -1,17 +1,12 @@
-use Rattle.std.proofs.Common.{◌≡◌, ◌∙◌, None, Some, true, List, Vec, Global, length, ap, sym, subst}
-use Rattle.std.proofs.lemmas.Result.{IfOk-weaker}
-use Rattle.std.specs.Result.{IfOk}
+use Rattle.std.proofs.Common.{◌≡◌, ◌∙◌, None, Some, true, List, Vec, Global, length, ap, sym, subst, IfOk}
+use Rattle.cf_base.proofs.Common.{IfOk-weaker}
 use Rattle.cf_office_history.specs.HistoryState.{HistoryState}
 use Rattle.cf_office.specs.Rolled.{changes_to}
 use Rattle.cf_budget.specs.declared.changes.LineChange.{LineChange}
 use Rattle.cf_budget.specs.Tables.{has_line}
-use Rattle.cf_chart.specs.Plan.{Plan}
-use Rattle.cf_model.specs.Calendar.{rolled_year}
-use Rattle.cf_model.specs.Documents.{Documents, documents_of}
-use Rattle.cf_model.specs.Rules.{name_refusal}
-use Rattle.cf_model.specs.Registers.{Registers, registers_of}
-use Rattle.cf_model.proofs.Accepted.{accepted}
-use Rattle.cf_model.proofs.Pushes.{documents_are}
+use Rattle.cf_chart.specs.Common.{Plan}
+use Rattle.cf_model.specs.Common.{rolled_year, Documents, documents_of, name_refusal, Registers, registers_of}
+use Rattle.cf_model.proofs.Common.{accepted, documents_are}
 use Rattle.cf_registers.specs.Moved.{IsCleared, Make, moved_by, plainly_moved}
 use Rattle.cf_registers.proofs.Lending.{are_touched, rolled_lent}
 use Rattle.cf_registers.proofs.Moved.{make_to}

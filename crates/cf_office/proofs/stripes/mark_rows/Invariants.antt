@@ -1,7 +1,6 @@
 use Rattle.std.proofs.Common.{◌≡◌, ◌<◌, ◌==◌, ◌||◌, ℕ, take}
-use Rattle.std.specs.List.{list_any}
-use Rattle.cf_calls.specs.declared.items.LineAmount.{LineAmount}
-use Rattle.cf_model.specs.Stripes.{stripe_of}
+use Rattle.cf_base.proofs.Common.{list_any}
+use Rattle.cf_model.specs.Common.{LineAmount, stripe_of}
 use Rattle.cf_office.specs.Marks.{mark_at}
 use Rattle.cf_office.proofs.stripes.mark_rows.Given as goal
 

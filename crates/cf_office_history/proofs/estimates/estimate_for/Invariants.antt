@@ -1,5 +1,5 @@
 use Rattle.std.proofs.Common.{◌≡◌, drop}
-use Rattle.cf_model.specs.Estimates.{estimate_for}
+use Rattle.cf_model.specs.Common.{estimate_for}
 use Rattle.cf_office_history.proofs.estimates.estimate_for.Given as goal
 
 -- the rows so far name another source

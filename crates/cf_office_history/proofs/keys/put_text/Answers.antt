@@ -1,5 +1,5 @@
 use Rattle.std.proofs.Common.{rules}
-use Rattle.std.proofs.lemmas.Map.Text.{btree_map_updates_text}
+use Rattle.cf_base.proofs.Common.{btree_map_updates_text}
 use Rattle.cf_office_history.proofs.Texts.{text_put}
 use Rattle.cf_office_history.proofs.keys.put_text.Goals as goal
 

@@ -1,7 +1,5 @@
-use Rattle.std.proofs.Common.{◌∙◌, sym, subst, ◌≡◌, ℕ, List, Some, None, string_bytes, if◌then◌else◌}
-use Rattle.std.specs.BTreeMap.{get_by_text}
-use Rattle.std.specs.Str.{bytes_eq}
-use Rattle.std.proofs.lemmas.Map.Text.{btree_map_updates_text}
+use Rattle.std.proofs.Common.{◌∙◌, sym, subst, ◌≡◌, ℕ, List, Some, None, string_bytes, if◌then◌else◌, bytes_eq}
+use Rattle.cf_base.proofs.Common.{get_by_text, btree_map_updates_text}
 use Rattle.cf_office_history.proofs.Texts.{text_reserved, none_of}
 use Rattle.cf_office_history.proofs.keys.reserve_text.Goals as goal
 

@@ -1,6 +1,6 @@
 use Rattle.std.proofs.Common.{◌<◌, ◌^◌, ◌≤◌, length, unsigned_abs, sym, subst, rules}
-use Rattle.std.proofs.lemmas.Int.{to_z-of_z}
-use Rattle.cf_base.specs.Limits.{most_entries}
+use Rattle.cf_base.proofs.Common.{to_z-of_z}
+use Rattle.cf_base.specs.Common.{most_entries}
 use mir.Val.{SFits}
 use mir.Syntax.{w128}
 use Rattle.cf_office_looks.proofs.SmallBalance.{small_balance}

@@ -1,8 +1,8 @@
 use Rattle.std.proofs.Common.{◌∙◌, rules}
-use Rattle.std.proofs.lemmas.Int.{to_z-of_z}
+use Rattle.cf_base.proofs.Common.{to_z-of_z}
 use mir.Val.{SFits}
 use mir.Syntax.{w128}
-use Rattle.cf_model.proofs.FundAccounts.{fund_balance_is}
+use Rattle.cf_model.proofs.Common.{fund_balance_is}
 use Rattle.cf_office_looks.proofs.books.fund_balance.Goals as goal
 
 pub returns : goal.returns

@@ -1,8 +1,8 @@
 use Rattle.std.proofs.Common.{◌≤◌, length, sym, subst, rules}
-use Rattle.cf_base.specs.Limits.{most_entries}
+use Rattle.cf_base.specs.Common.{most_entries}
 use Rattle.cf_classes.specs.Sizes.{AreSmall}
 use Rattle.cf_classes.proofs.Legal.{small_figures}
-use Rattle.cf_model.specs.Report.{sums_of}
+use Rattle.cf_model.specs.Common.{sums_of}
 use Rattle.cf_office_looks.proofs.classes.class_rows.Goals as goal
 
 pub fund_classes-requires-clause-small : goal.fund_classes-requires-clause-small

@@ -1,8 +1,8 @@
 use Rattle.std.proofs.Common.{◌≤◌, length, sym, subst, rules}
-use Rattle.cf_base.specs.Limits.{most_entries}
+use Rattle.cf_base.specs.Common.{most_entries}
 use Rattle.cf_classes.specs.Sizes.{AreSmall, IsSmallRecon}
 use Rattle.cf_classes.proofs.Legal.{small_figures, small_recon}
-use Rattle.cf_model.specs.Report.{sums_of}
+use Rattle.cf_model.specs.Common.{sums_of}
 use Rattle.cf_office_looks.proofs.classes.component_rows.Goals as goal
 
 pub components-requires-clause-small : goal.components-requires-clause-small

@@ -1,6 +1,6 @@
 use Rattle.std.proofs.Common.{◌≡◌, subst, IfOk}
-use Rattle.cf_chart.specs.Plan.{Plan}
-use Rattle.cf_model.specs.Registers.{Registers}
+use Rattle.cf_chart.specs.Common.{Plan}
+use Rattle.cf_model.specs.Common.{Registers}
 use Rattle.cf_registers.specs.RegistersState.{register_shown}
 use Rattle.cf_office_looks.proofs.looks.look_at.Goals as goal
 

@@ -1,13 +1,8 @@
 use Rattle.std.proofs.Common.{◌≡◌, ◌∙◌, sym, ap}
-use Rattle.std.proofs.lemmas.Result.{IfOk-weaker}
+use Rattle.cf_base.proofs.Common.{IfOk-weaker}
 use Rattle.cf_calls.specs.declared.names.NameKind.TheVariants as kind
-use Rattle.cf_calls.specs.declared.read.Read.{Read}
-use Rattle.cf_calls.specs.declared.reply.Body.{Body}
-use Rattle.cf_model.proofs.Pushes.{documents_are}
-use Rattle.cf_model.specs.Documents.{Documents}
-use Rattle.cf_model.specs.DocumentsShown.{requisition_shown, order_shown, voucher_shown}
-use Rattle.cf_model.specs.Registers.{registers_of}
-use Rattle.cf_model.specs.Step.{or_refused, shown_of}
+use Rattle.cf_model.specs.Common.{Read, Body, Documents, requisition_shown, order_shown, voucher_shown, registers_of, or_refused, shown_of}
+use Rattle.cf_model.proofs.Common.{documents_are}
 use Rattle.cf_registers.specs.RegistersState.{register_shown}
 use Rattle.cf_office_looks.proofs.looks.show.Goals as goal
 

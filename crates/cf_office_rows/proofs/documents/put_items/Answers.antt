@@ -1,6 +1,5 @@
 use Rattle.std.proofs.Common.{◌<◌, length, arith}
-use Rattle.cf_model.specs.Moves.{document_moves}
-use Rattle.cf_model.specs.Results.{document_number}
+use Rattle.cf_model.specs.Common.{document_moves, document_number}
 use Rattle.cf_office_rows.proofs.Gathered.{items_more}
 use Rattle.cf_office_rows.proofs.documents.put_items.Goals as goal
 

@@ -1,5 +1,5 @@
 use Rattle.std.proofs.Common.{◌≡◌, ◌≤◌, ◌+◌, ◌++◌, drop, length, map}
-use Rattle.cf_model.specs.Moves.{order_move}
+use Rattle.cf_model.specs.Common.{order_move}
 use Rattle.cf_office_rows.specs.Items.{item_rows}
 use Rattle.cf_office_rows.specs.Rows.{kept}
 use Rattle.cf_office_rows.proofs.documents.put_ordered.Given as goal

@@ -1,6 +1,5 @@
 use Rattle.std.proofs.Common.{◌<◌, ◌∙◌, ap, length, option_map, arith}
-use Rattle.cf_model.specs.Moves.{document_moves}
-use Rattle.cf_model.specs.Results.{document_number}
+use Rattle.cf_model.specs.Common.{document_moves, document_number}
 use Rattle.cf_orders.specs.Register.{line_move}
 use Rattle.cf_office_rows.proofs.Gathered.{first_half, paired_more, read_at, second_half}
 use Rattle.cf_office_rows.proofs.documents.put_paired.Goals as goal

@@ -1,6 +1,5 @@
 use Rattle.std.proofs.Common.{◌≡◌, ◌+◌, ◌++◌, List, drop, length}
-use Rattle.cf_model.specs.Moves.{Move, document_moves}
-use Rattle.cf_model.specs.Results.{document_number}
+use Rattle.cf_model.specs.Common.{Move, document_moves, document_number}
 use Rattle.cf_office_rows.specs.Items.{paired_rows}
 use Rattle.cf_office_rows.specs.Rows.{kept}
 use Rattle.cf_office_rows.proofs.documents.put_paired.Given as goal

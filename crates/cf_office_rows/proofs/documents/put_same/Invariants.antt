@@ -1,6 +1,5 @@
 use Rattle.std.proofs.Common.{◌≡◌, ◌++◌, drop}
-use Rattle.cf_model.specs.Moves.{document_moves}
-use Rattle.cf_model.specs.Results.{document_number}
+use Rattle.cf_model.specs.Common.{document_moves, document_number}
 use Rattle.cf_office_rows.specs.Items.{same_rows}
 use Rattle.cf_office_rows.specs.Rows.{kept}
 use Rattle.cf_office_rows.proofs.documents.put_same.Given as goal

@@ -1,6 +1,6 @@
 use Rattle.std.proofs.Common.{map}
-use Rattle.std.proofs.lemmas.Result.{on_ok_weaker}
-use Rattle.cf_model.specs.Moves.{order_move}
+use Rattle.cf_base.proofs.Common.{on_ok_weaker}
+use Rattle.cf_model.specs.Common.{order_move}
 use Rattle.cf_office_rows.specs.Entries.{taken_rows}
 use Rattle.cf_office_rows.specs.Items.{item_rows}
 use Rattle.cf_office_rows.proofs.Gathered.{both_added}

@@ -1,8 +1,5 @@
-use Rattle.std.proofs.Common.{◌≡◌, ◌<◌, ◌==◌, ◌∙◌, List, length, map, option_map, slice_get, ap, arith}
-use Rattle.std.specs.List.{filter}
-use Rattle.cf_calls.specs.declared.acts.Act.{Act}
-use Rattle.cf_model.specs.Moves.{Move, document_moves}
-use Rattle.cf_model.specs.Results.{document_number}
+use Rattle.std.proofs.Common.{◌≡◌, ◌<◌, ◌==◌, ◌∙◌, List, length, map, option_map, slice_get, ap, arith, filter}
+use Rattle.cf_model.specs.Common.{Act, Move, document_moves, document_number}
 use Rattle.cf_orders.specs.Register.{line_move}
 use Rattle.cf_office_rows.specs.Rolls.{leave_move}
 use Rattle.cf_office_rows.proofs.Rolled.{left_all, roll_all, roll_more}

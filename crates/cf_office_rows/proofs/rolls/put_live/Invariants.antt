@@ -1,5 +1,4 @@
-use Rattle.std.proofs.Common.{◌≡◌, ◌+◌, ◌++◌, ◌==◌, drop}
-use Rattle.std.specs.List.{filter}
+use Rattle.std.proofs.Common.{◌≡◌, ◌+◌, ◌++◌, ◌==◌, drop, filter}
 use Rattle.cf_office_rows.specs.Rolls.{order_rows, roll_items}
 use Rattle.cf_office_rows.specs.Rows.{kept}
 use Rattle.cf_office_rows.proofs.rolls.put_live.Given as goal

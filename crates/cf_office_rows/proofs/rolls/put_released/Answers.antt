@@ -1,9 +1,5 @@
-use Rattle.std.proofs.Common.{◌≡◌, ◌<◌, ◌∙◌, Some, List, length, map, option_map, slice_get, ap, arith}
-use Rattle.std.specs.List.{filter}
-use Rattle.cf_calls.specs.declared.acts.Act.{Act}
-use Rattle.cf_model.specs.Documents.{is_number}
-use Rattle.cf_model.specs.Moves.{Move, document_moves, release_move}
-use Rattle.cf_model.specs.Results.{document_number}
+use Rattle.std.proofs.Common.{◌≡◌, ◌<◌, ◌∙◌, Some, List, length, map, option_map, slice_get, ap, arith, filter}
+use Rattle.cf_model.specs.Common.{Act, is_number, Move, document_moves, release_move, document_number}
 use Rattle.cf_orders.specs.Register.{line_move}
 use Rattle.cf_office_rows.proofs.Rolled.{lapse_all, lapse_more}
 use Rattle.cf_office_rows.proofs.rolls.put_released.Goals as goal

@@ -1,6 +1,5 @@
-use Rattle.std.proofs.Common.{◌≡◌, ◌+◌, ◌++◌, Some, drop, map}
-use Rattle.std.specs.List.{filter}
-use Rattle.cf_model.specs.Documents.{is_number}
+use Rattle.std.proofs.Common.{◌≡◌, ◌+◌, ◌++◌, Some, drop, map, filter}
+use Rattle.cf_model.specs.Common.{is_number}
 use Rattle.cf_office_rows.specs.Items.{item_rows}
 use Rattle.cf_office_rows.specs.Rolls.{lapse_move, requisition_rows}
 use Rattle.cf_office_rows.specs.Rows.{kept}

@@ -1,5 +1,5 @@
 use Rattle.std.proofs.Common.{◌≡◌, ◌++◌, flat_map}
-use Rattle.std.specs.List.{range_with_len}
+use Rattle.cf_base.proofs.Common.{range_with_len}
 use Rattle.cf_office_rows.specs.Rolls.{requisition_rows}
 use Rattle.cf_office_rows.specs.Rows.{kept}
 use Rattle.cf_office_rows.proofs.rolls.put_requisitions.Given as goal

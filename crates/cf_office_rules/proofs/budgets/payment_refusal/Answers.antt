@@ -1,11 +1,7 @@
 use Rattle.std.proofs.Common.{◌≡◌, Some, None, sym, ◌∙◌, ap}
 use Rattle.cf_debt.specs.Register.{due_now}
-use Rattle.cf_model.specs.Bonds.{Bond, next_due}
-use Rattle.cf_model.specs.RegisterRules.{payment_refusal, unadopted_due}
-use Rattle.cf_model.specs.Registers.{registers_of}
-use Rattle.cf_model.specs.Results.{bond_at}
-use Rattle.cf_model.specs.Rules.{first_refusal}
-use Rattle.cf_model.proofs.BondNumbers.{bonds_named}
+use Rattle.cf_model.specs.Common.{Bond, next_due, payment_refusal, unadopted_due, registers_of, bond_at, first_refusal}
+use Rattle.cf_model.proofs.Common.{bonds_named}
 use Rattle.cf_office_rules.proofs.Dues.{due_over, no_unadopted, paid_unadopted}
 use Rattle.cf_office_rules.proofs.budgets.payment_refusal.Goals as goal
 

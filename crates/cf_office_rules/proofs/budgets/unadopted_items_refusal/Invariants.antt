@@ -1,5 +1,5 @@
 use Rattle.std.proofs.Common.{◌≡◌, drop}
-use Rattle.cf_model.specs.Rules.{first_refusal, unadopted_where, adopted_at, direct_funds}
+use Rattle.cf_model.specs.Common.{first_refusal, unadopted_where, adopted_at, direct_funds}
 use Rattle.cf_office_rules.proofs.budgets.unadopted_items_refusal.Given as goal
 
 abbrev pub invariant-loop-item : goal.invariant-loop-item

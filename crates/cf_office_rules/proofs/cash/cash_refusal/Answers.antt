@@ -1,7 +1,5 @@
 use Rattle.std.proofs.Common.{◌≡◌, sym, ◌∙◌, ap}
-use Rattle.cf_calls.specs.declared.acts.Act.TheVariants.{Pay}
-use Rattle.cf_model.specs.Cash.{cash_short, cash_refusal}
-use Rattle.cf_model.specs.Postings.{cash_of}
+use Rattle.cf_model.specs.Common.{Pay, cash_short, cash_refusal, cash_of}
 use Rattle.cf_office_rules.proofs.Short.{moved_short}
 use Rattle.cf_office_rules.proofs.cash.cash_refusal.Goals as goal
 

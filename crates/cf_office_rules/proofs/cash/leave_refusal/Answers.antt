@@ -1,7 +1,5 @@
 use Rattle.std.proofs.Common.{sym, ap, ◌∙◌}
-use Rattle.cf_calls.specs.declared.acts.Act.TheVariants.{Leave}
-use Rattle.cf_model.specs.Cash.{cash_short}
-use Rattle.cf_model.specs.Postings.{cash_of}
+use Rattle.cf_model.specs.Common.{Leave, cash_short, cash_of}
 use Rattle.cf_office_rules.proofs.Short.{leave_short}
 use Rattle.cf_office_rules.proofs.cash.leave_refusal.Goals as goal
 

@@ -1,8 +1,7 @@
 use Rattle.std.proofs.Common.{◌≡◌, ◌+◌, ◌*◌, ◌≤◌, drop, sum_by}
-use Rattle.cf_model.specs.Cash.{fund_sum}
-use Rattle.cf_model.specs.Moves.{spent_by}
+use Rattle.cf_model.specs.Common.{fund_sum, spent_by}
 use Rattle.cf_office_rules.proofs.cash.paid_of.Given as goal
-use Rattle.cf_base.specs.Limits.{most_cents}
+use Rattle.cf_base.specs.Common.{most_cents}
 
 abbrev pub invariant-loop-voucher : goal.invariant-loop-voucher
 invariant-loop-voucher l = record {

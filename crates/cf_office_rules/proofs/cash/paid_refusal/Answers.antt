@@ -1,5 +1,5 @@
 use Rattle.std.proofs.Common.{sym, ◌∙◌, ap}
-use Rattle.cf_chart.specs.Plan.{Plan}
+use Rattle.cf_chart.specs.Common.{Plan}
 use Rattle.cf_registers.proofs.Paying.{fund_next}
 use Rattle.cf_office_rules.proofs.cash.paid_refusal.Goals as goal
 

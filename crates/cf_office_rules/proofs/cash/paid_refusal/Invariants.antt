@@ -1,8 +1,5 @@
 use Rattle.std.proofs.Common.{◌≡◌, drop}
-use Rattle.cf_calls.specs.declared.acts.Act.{Act}
-use Rattle.cf_calls.specs.declared.acts.Act.TheVariants.{Pay}
-use Rattle.cf_model.specs.Cash.{cash_refusal}
-use Rattle.cf_model.specs.Rules.{first_refusal}
+use Rattle.cf_model.specs.Common.{Act, Pay, cash_refusal, first_refusal}
 use Rattle.cf_registers.proofs.Paying.{fund_short}
 use Rattle.cf_office_rules.proofs.cash.paid_refusal.Given as goal
 

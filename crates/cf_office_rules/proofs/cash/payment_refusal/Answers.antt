@@ -1,11 +1,8 @@
 use Rattle.std.proofs.Common.{◌≡◌, ◌+◌, Some, None, Option, sym, ◌∙◌, ap, arith}
 use Rattle.cf_debt.specs.declared.debt.Due.{Due}
 use Rattle.cf_debt.specs.Register.{due_now}
-use Rattle.cf_model.specs.Cash.{cash_short}
-use Rattle.cf_model.specs.Postings.{cash_of}
-use Rattle.cf_model.specs.Registers.{registers_of}
-use Rattle.cf_model.specs.Results.{bond_at}
-use Rattle.cf_model.proofs.BondNumbers.{bonds_named}
+use Rattle.cf_model.specs.Common.{cash_short, cash_of, registers_of, bond_at}
+use Rattle.cf_model.proofs.Common.{bonds_named}
 use Rattle.cf_registers.specs.Dues.{due_amount}
 use Rattle.cf_office_rules.proofs.Dues.{due_over}
 use Rattle.cf_office_rules.proofs.Short.{payment_short}

@@ -1,14 +1,9 @@
-use Rattle.std.proofs.Common.{List, ◌∙◌, sym, ap}
-use Rattle.std.specs.Option.{option_copied}
-use Rattle.cf_model.specs.Documents.{documents_of}
-use Rattle.cf_model.specs.Registers.{registers_of}
-use Rattle.cf_model.specs.Results.{entry_with}
-use Rattle.cf_model.proofs.RollAsked.{exceed_close, unrolled, amend_unrolled, transfer_unrolled}
-use Rattle.cf_model.proofs.Asked.{least_excess, exceed_amendment, exceed_transfer, exceed_rest, amended_line, transferred_line}
+use Rattle.std.proofs.Common.{List, ◌∙◌, sym, ap, option_copied}
+use Rattle.cf_model.specs.Common.{documents_of, registers_of, entry_with, Move, asks_of_moves}
+use Rattle.cf_model.proofs.Common.{exceed_close, unrolled, amend_unrolled, transfer_unrolled, least_excess, exceed_amendment, exceed_transfer, exceed_rest, amended_line, transferred_line}
 use Rattle.cf_registers.proofs.Cleared.{cleared}
 use Rattle.cf_registers.proofs.Lending.{amended_touched, transferred_touched}
 use Rattle.cf_registers.proofs.Moved.{amended_year, transferred_year}
-use Rattle.cf_model.specs.Moves.{Move, asks_of_moves}
 use Rattle.cf_registers.proofs.Options.{none_is}
 use Rattle.cf_registers.proofs.Taken.{moves_drawn}
 use Rattle.cf_office_rules.proofs.exceeds.exceed_refusal.Goals as goal

@@ -1,6 +1,5 @@
 use Rattle.std.proofs.Common.{◌≡◌, true, ◌<◌, ◌≤◌, ◌+◌, ◌∙◌, length, drop, sym, ap, rules, Option}
-use Rattle.std.proofs.lemmas.List.Elements.{All-get_or}
-use Rattle.std.proofs.lemmas.List.Sums.{AllPass-from_list_all}
+use Rattle.cf_base.proofs.Common.{All-get_or, AllPass-from_list_all}
 use Rattle.cf_budget.specs.Tables.{has_line}
 use Rattle.cf_budget.specs.declared.changes.LineChange.{LineChange}
 use Rattle.cf_model.specs.LineNumbers as numbers

@@ -1,9 +1,8 @@
-use Rattle.std.proofs.Common.{◌≡◌, true, ◌∙◌, sym, ap, subst, List, None, ℕ, ℤ}
-use Rattle.std.specs.List.{All}
+use Rattle.std.proofs.Common.{◌≡◌, true, ◌∙◌, sym, ap, subst, List, None, ℕ, ℤ, All}
 use Rattle.cf_budget.specs.Tables.{has_line}
 use Rattle.cf_budget.specs.declared.changes.LineChange.{LineChange}
-use Rattle.cf_chart.specs.Plan.{Plan}
-use Rattle.cf_model.specs.Registers.{Registers, registers_of}
+use Rattle.cf_chart.specs.Common.{Plan}
+use Rattle.cf_model.specs.Common.{Registers, registers_of}
 use Rattle.cf_model.specs.LineNumbers as numbers
 use Rattle.cf_office_rules.specs.Least.{refusal_in, least_from, excess_by}
 use Rattle.cf_registers.specs.Moved.{act_moves, moves_row, Make}

@@ -1,5 +1,5 @@
 use Rattle.std.proofs.Common.{◌≡◌, drop}
-use Rattle.cf_model.specs.Rules.{first_refusal, unknown_account, is_spending}
+use Rattle.cf_model.specs.Common.{first_refusal, unknown_account, is_spending}
 use Rattle.cf_office_rules.proofs.names.accounts_refusal.Given as goal
 
 abbrev pub invariant-loop-item : goal.invariant-loop-item

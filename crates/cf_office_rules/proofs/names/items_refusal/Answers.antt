@@ -1,9 +1,6 @@
 use Rattle.std.proofs.Common.{◌+◌, Option, drop, get_or, sym, ap, ◌∙◌}
-use Rattle.cf_calls.specs.declared.items.Charge.TheVariants.{Direct}
-use Rattle.cf_calls.specs.declared.items.VoucherItem.{VoucherItem}
-use Rattle.cf_calls.specs.declared.refusal.Refusal.{Refusal}
-use Rattle.cf_model.specs.Rules.{first_refusal, item_names, or_else, unknown, voucher_names}
-use Rattle.cf_model.proofs.First.{first_refusal-append, voucher_names-drop}
+use Rattle.cf_model.specs.Common.{Direct, VoucherItem, Refusal, first_refusal, item_names, or_else, unknown, voucher_names}
+use Rattle.cf_model.proofs.Common.{first_refusal-append, voucher_names-drop}
 use Rattle.cf_office_rules.proofs.names.items_refusal.Goals as goal
 
 pub returns-in-Some : goal.returns-in-Some

@@ -1,6 +1,5 @@
 use Rattle.std.proofs.Common.{sym, ap, ◌∙◌}
-use Rattle.cf_calls.specs.declared.acts.Act.{Act}
-use Rattle.cf_model.specs.Rules.{name_refusal}
+use Rattle.cf_model.specs.Common.{Act, name_refusal}
 use Rattle.cf_office_rules.proofs.names.name_refusal.Goals as goal
 
 pub returns-in-Adopt : goal.returns-in-Adopt

@@ -1,7 +1,6 @@
 use Rattle.std.proofs.Common.{◌≡◌, not, drop}
 use Rattle.cf_calls.specs.declared.names.NameKind.TheVariants as kind
-use Rattle.cf_model.specs.Documents.{is_drawn}
-use Rattle.cf_model.specs.Rules.{first_refusal, unknown_if}
+use Rattle.cf_model.specs.Common.{is_drawn, first_refusal, unknown_if}
 use Rattle.cf_office_rules.proofs.names.vouchers_refusal.Given as goal
 
 abbrev pub invariant-loop-number : goal.invariant-loop-number

@@ -1,6 +1,5 @@
 use Rattle.std.proofs.Common.{sym, ap, ◌∙◌}
-use Rattle.cf_calls.specs.declared.acts.Act.{Act}
-use Rattle.cf_model.specs.RegisterRules.{register_name_refusal}
+use Rattle.cf_model.specs.Common.{Act, register_name_refusal}
 use Rattle.cf_office_rules.proofs.register_names.register_name_refusal.Goals as goal
 
 pub returns-in-Asset : goal.returns-in-Asset

@@ -1,5 +1,5 @@
 use Rattle.std.proofs.Common.{◌≡◌, drop}
-use Rattle.cf_model.specs.Rules.{first_refusal, bad_amount, amount}
+use Rattle.cf_model.specs.Common.{first_refusal, bad_amount, amount}
 use Rattle.cf_office_rules.proofs.rules.accounts_amount_refusal.Given as goal
 
 abbrev pub invariant-loop-item : goal.invariant-loop-item

@@ -1,6 +1,6 @@
 use Rattle.std.proofs.Common.{◌∙◌, sym}
-use Rattle.cf_model.specs.Step.{call_rules, period_rules, last_rules}
-use Rattle.cf_model.proofs.First.{first_of_none}
+use Rattle.cf_model.specs.Common.{call_rules, period_rules, last_rules}
+use Rattle.cf_model.proofs.Common.{first_of_none}
 use Rattle.cf_registers.proofs.Options.{none_is}
 use Rattle.cf_office_rules.proofs.Verdicts.{at_first, at_second, at_last}
 use Rattle.cf_office_rules.proofs.verdict.later_rules.Goals as goal

@@ -1,5 +1,5 @@
 use Rattle.std.proofs.Common.{◌∙◌}
-use Rattle.cf_model.specs.Rules.{first_of}
+use Rattle.cf_model.specs.Common.{first_of}
 use Rattle.cf_registers.specs.RegistersState.{register_rules}
 use Rattle.cf_office_rules.proofs.verdict.register_refusal.Goals as goal
 

@@ -1,8 +1,7 @@
 use Rattle.std.proofs.Common.{◌≡◌, ◌+◌, nat_lt, sym, ap, ◌∙◌}
-use Rattle.cf_calls.specs.Form.{month_number}
-use Rattle.cf_model.specs.Months.{start_month}
-use Rattle.cf_model.specs.Registers.{Registers, registers_of}
-use Rattle.cf_model.proofs.LegalMonths.{closed_are}
+use Rattle.cf_calls.specs.Common.{month_number}
+use Rattle.cf_model.specs.Common.{start_month, Registers, registers_of}
+use Rattle.cf_model.proofs.Common.{closed_are}
 use Rattle.cf_office_rules.proofs.windows.is_closed.Goals as goal
 
 pub returns : goal.returns

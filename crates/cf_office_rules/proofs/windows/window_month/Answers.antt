@@ -1,10 +1,8 @@
 use Rattle.std.proofs.Common.{◌≡◌, ◌≤◌, ◌+◌, ℕ, w32, ℤ, pos, ◌+ℤ◌, FitsSigned, to_z, of_z, to_z-of_z, unsigned_abs, ap, sym, subst, ◌∙◌, true, arith}
-use Rattle.std.proofs.lemmas.Int.{ints}
-use Rattle.cf_base.specs.declared.calendar.Day.{Day}
-use Rattle.cf_base.specs.Calendar.{is_day}
-use Rattle.cf_base.specs.Windows.{window_end}
-use Rattle.cf_base.proofs.DayNumbers.{number_of, reached_later}
-use Rattle.cf_model.proofs.MonthNumbers.{IsNamed}
+use Rattle.cf_base.proofs.Common.{ints, number_of, reached_later}
+use Rattle.cf_model.specs.Common.{Day}
+use Rattle.cf_base.specs.Common.{is_day, window_end}
+use Rattle.cf_model.proofs.Common.{IsNamed}
 use Rattle.cf_office_rules.proofs.windows.window_month.Goals as goal
 
 record Numbered (z : ℤ) : Type 0 where

@@ -1,7 +1,6 @@
-use Rattle.std.proofs.Common.{rules, ◌≡◌, ◌+ℤ◌, ℤ, List, None, pos, get_or, take, sym, ap, ◌∙◌, arith}
-use Rattle.std.specs.Int.{w16, w128}
+use Rattle.std.proofs.Common.{rules, ◌≡◌, ◌+ℤ◌, ℤ, List, None, pos, get_or, take, sym, ap, ◌∙◌, arith, w16}
+use Rattle.cf_base.proofs.Common.{w128, to_z-of_z, to_z_pos}
 use Rattle.jiff_core.specs.Calendar.{days_in_month}
-use Rattle.std.proofs.lemmas.Int.{to_z-of_z, to_z_pos}
 use Rattle.cf_pool.proofs.Tables.{table, no_table, entry_fits, more_fits, table_more, table_same, whole_table}
 use Rattle.cf_pool.proofs.days.fund_sums.Goals as goal
 use Rattle.cf_pool.proofs.days.fund_sums.Goals.{in-Some, in_default}

@@ -1,5 +1,5 @@
 use Rattle.std.proofs.Common.{rules, ◌∙◌}
-use Rattle.std.proofs.lemmas.List.Sorted.{answers_always}
+use Rattle.cf_base.proofs.Common.{answers_always}
 use Rattle.cf_pool.proofs.Places.{searched}
 use Rattle.cf_pool.proofs.days.place_of.Goals as goal
 

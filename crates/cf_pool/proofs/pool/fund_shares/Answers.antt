@@ -1,6 +1,6 @@
 use Rattle.std.proofs.Common.{◌<◌, ℕ, List, sum, subst}
-use Rattle.std.proofs.lemmas.Result.{IfOk-weaker}
-use Rattle.cf_base.specs.Shares.{AreShares}
+use Rattle.cf_base.proofs.Common.{IfOk-weaker}
+use Rattle.cf_base.specs.Common.{AreShares}
 use Rattle.cf_pool.proofs.Received.{all_received}
 use Rattle.cf_pool.proofs.pool.fund_shares.Goals as goal
 

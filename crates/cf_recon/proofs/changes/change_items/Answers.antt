@@ -1,13 +1,12 @@
 use Rattle.std.proofs.Common.{rules, ◌∙◌, ◌-◌, ◌≤◌, ◌-ℤ◌, sym, ap, arith}
-use Rattle.std.proofs.lemmas.Int.{to_z-of_z}
+use Rattle.cf_base.proofs.Common.{to_z-of_z}
 use mir.Val.{SFits}
 use mir.Syntax.{w128}
 use Rattle.cf_assets.specs.declared.changes.AssetChanges.{AssetChanges}
 use Rattle.cf_assets.specs.Changes.{asset_changes}
 use Rattle.cf_debt.specs.declared.sums.DebtChanges.{DebtChanges}
 use Rattle.cf_debt.specs.Register.{registers_with, debt_changes}
-use Rattle.cf_model.specs.Changes.{deferred_in}
-use Rattle.cf_model.specs.Items.{accrued, absences}
+use Rattle.cf_model.specs.Common.{deferred_in, accrued, absences}
 use Rattle.cf_recon.proofs.LeaveChange.{leave_change}
 use Rattle.cf_recon.proofs.changes.change_items.Goals as goal
 

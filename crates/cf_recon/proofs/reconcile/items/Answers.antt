@@ -1,12 +1,9 @@
 use Rattle.std.proofs.Common.{rules, ◌∙◌, pos, ◌-ℤ◌, sym, ap}
-use Rattle.std.proofs.lemmas.Int.{to_z-of_z}
+use Rattle.cf_base.proofs.Common.{to_z-of_z}
 use mir.Val.{SFits}
 use mir.Syntax.{w128}
 use Rattle.cf_debt.specs.Register.{registers_with}
-use Rattle.cf_model.specs.Assets.{leased, net, owned}
-use Rattle.cf_model.specs.Sums.{int_sum}
-use Rattle.cf_model.specs.Items.{bonds, leases, accrued, absences}
-use Rattle.cf_model.specs.Receivables.{unavailable}
+use Rattle.cf_model.specs.Common.{leased, net, owned, int_sum, bonds, leases, accrued, absences, unavailable}
 use Rattle.cf_recon.proofs.reconcile.items.Goals as goal
 
 pub returns : goal.returns

@@ -1,5 +1,5 @@
 use Rattle.std.proofs.Common.{arith}
-use Rattle.std.proofs.lemmas.Grind.{common_steps}
+use Rattle.cf_base.proofs.Common.{common_steps}
 use Rattle.cf_register_parts.proofs.PairFacts.{put_reads, put_keeps}
 use Rattle.cf_register_parts.proofs.pairs.put_in.Goals as goal
 

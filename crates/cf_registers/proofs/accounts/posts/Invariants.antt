@@ -1,5 +1,5 @@
 use Rattle.std.proofs.Common.{◌≡◌, ◌++◌, drop}
-use Rattle.cf_model.specs.Postings.{posts_by}
+use Rattle.cf_model.specs.Common.{posts_by}
 use Rattle.cf_registers.proofs.accounts.posts.Given as goal
 
 abbrev pub invariant-loop-deed : goal.invariant-loop-deed

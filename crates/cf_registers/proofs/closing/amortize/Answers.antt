@@ -1,7 +1,6 @@
 use Rattle.std.proofs.Common.{◌<◌, List, length, get_or, ap, arith, sym, ◌∙◌}
-use Rattle.std.proofs.lemmas.List.{get_or_default}
-use Rattle.cf_chart.specs.declared.rows.Function.{Function}
-use Rattle.cf_model.specs.Deeds.{function_charge}
+use Rattle.cf_base.proofs.Common.{get_or_default}
+use Rattle.cf_model.specs.Common.{Function, function_charge}
 use Rattle.cf_post.specs.declared.deed.Deed.TheVariants as deed
 use Rattle.cf_registers.specs.Deeds.{amortize_deed}
 use Rattle.cf_registers.proofs.Gathering.{one_more}

@@ -1,6 +1,6 @@
 use Rattle.std.proofs.Common.{◌≡◌, ◌++◌, ℕ, List, map, take}
 use Rattle.cf_assets.specs.Charges.{AreCharges}
-use Rattle.cf_model.specs.Assets.{Asset}
+use Rattle.cf_model.specs.Common.{Asset}
 use Rattle.cf_registers.specs.Deeds.{amortize_deed}
 use Rattle.cf_registers.proofs.closing.amortize.Given as goal
 

@@ -1,7 +1,7 @@
 use Rattle.std.proofs.Common.{◌+◌, ◌/◌, ◌++◌, ◌∷◌, [], true, false, map, sum_by, ap, sym, append_assoc, ◌∙◌}
 use Rattle.cf_assets.specs.Charges.{of_kind}
 use Rattle.cf_debt.specs.Register.{Debts}
-use Rattle.cf_model.specs.Bonds.{interest_charge}
+use Rattle.cf_model.specs.Common.{interest_charge}
 use Rattle.cf_post.specs.declared.deed.Deed.TheVariants as deed
 use Rattle.cf_registers.specs.Deeds.{amortize_deed, charge_deed}
 use Rattle.cf_registers.proofs.closing.close_month.Goals as goal

@@ -1,8 +1,7 @@
 use Rattle.std.proofs.Common.{◌≡◌, sym, ap, ◌∙◌, Vec, Global}
-use Rattle.std.proofs.lemmas.Result.{IfOk-weaker}
+use Rattle.cf_base.proofs.Common.{IfOk-weaker}
 use Rattle.cf_calls.specs.declared.acts.Act.TheVariants as act
-use Rattle.cf_model.specs.Deeds.{deeds_of}
-use Rattle.cf_model.specs.Registers.{Registers}
+use Rattle.cf_model.specs.Common.{deeds_of, Registers}
 use Rattle.cf_post.specs.declared.deed.Deed.{Deed}
 use Rattle.cf_registers.proofs.deeds.deeds.Goals as goal
 

@@ -1,5 +1,5 @@
 use Rattle.std.proofs.Common.{◌≡◌, ◌++◌, drop}
-use Rattle.cf_model.specs.Deeds.{pay_items}
+use Rattle.cf_model.specs.Common.{pay_items}
 use Rattle.cf_registers.proofs.deeds.pay_each.Given as goal
 
 abbrev pub invariant-loop-voucher : goal.invariant-loop-voucher

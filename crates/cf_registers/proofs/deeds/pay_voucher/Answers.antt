@@ -1,6 +1,5 @@
 use Rattle.std.proofs.Common.{◌<◌, refl, sym, subst, ◌∙◌, ap}
-use Rattle.cf_model.specs.Moves.{spent_by}
-use Rattle.cf_model.specs.Deeds.{pay_deed}
+use Rattle.cf_model.specs.Common.{spent_by, pay_deed}
 use Rattle.cf_orders.specs.declared.spent.ExpendedItem.{ExpendedItem}
 use Rattle.cf_orders.specs.Register.{item_of}
 use Rattle.cf_post.specs.declared.deed.Deed.{Deed}

@@ -1,6 +1,5 @@
 use Rattle.std.proofs.Common.{◌≡◌, ◌++◌, map, drop}
-use Rattle.cf_model.specs.Moves.{spent_by}
-use Rattle.cf_model.specs.Deeds.{pay_deed}
+use Rattle.cf_model.specs.Common.{spent_by, pay_deed}
 use Rattle.cf_registers.proofs.deeds.pay_voucher.Given as goal
 
 abbrev pub invariant-loop-nth : goal.invariant-loop-nth

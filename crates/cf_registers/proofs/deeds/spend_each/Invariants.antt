@@ -1,5 +1,5 @@
 use Rattle.std.proofs.Common.{◌≡◌, ◌++◌, map, drop}
-use Rattle.cf_model.specs.Deeds.{spent_item}
+use Rattle.cf_model.specs.Common.{spent_item}
 use Rattle.cf_post.specs.declared.deed.Deed.TheVariants as deed
 use Rattle.cf_registers.proofs.deeds.spend_each.Given as goal
 

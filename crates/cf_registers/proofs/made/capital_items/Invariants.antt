@@ -1,7 +1,6 @@
-use Rattle.std.proofs.Common.{◌≡◌, ◌≤◌, ◌+◌, length, drop}
-use Rattle.std.specs.List.{filter}
-use Rattle.cf_chart.specs.Plan.{object_at}
-use Rattle.cf_model.specs.Charted.{is_capital}
+use Rattle.std.proofs.Common.{◌≡◌, ◌≤◌, ◌+◌, length, drop, filter}
+use Rattle.cf_chart.specs.Common.{object_at}
+use Rattle.cf_model.specs.Common.{is_capital}
 use Rattle.cf_registers.proofs.made.capital_items.Given as goal
 
 abbrev pub invariant-loop-item : goal.invariant-loop-item

@@ -1,10 +1,8 @@
-use Rattle.std.proofs.Common.{◌∙◌, sym, ap, length}
-use Rattle.std.specs.List.{filter}
+use Rattle.std.proofs.Common.{◌∙◌, sym, ap, length, filter}
 use Rattle.cf_calls.specs.declared.acts.Act.TheVariants as act
 use Rattle.cf_calls.specs.declared.reply.Made.TheVariants as made
-use Rattle.cf_chart.specs.Plan.{object_at}
-use Rattle.cf_model.specs.Calendar.{document_year}
-use Rattle.cf_model.specs.Charted.{is_capital}
+use Rattle.cf_chart.specs.Common.{object_at}
+use Rattle.cf_model.specs.Common.{document_year, is_capital}
 use Rattle.cf_model.specs.Results as results
 use Rattle.cf_registers.proofs.Bought.{bought_length}
 use Rattle.cf_registers.proofs.made.made_by.Goals as goal

@@ -1,5 +1,5 @@
 use Rattle.std.proofs.Common.{◌≡◌, ◌∙◌, sym, ap, option_map, true, arith}
-use Rattle.std.proofs.lemmas.Grind.{common_steps}
+use Rattle.cf_base.proofs.Common.{common_steps}
 use Rattle.cf_registers.specs.Moved.{is_inside}
 use Rattle.cf_registers.proofs.moves.add_move.Goals as goal
 

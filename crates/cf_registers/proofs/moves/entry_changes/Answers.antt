@@ -1,6 +1,5 @@
-use Rattle.std.proofs.Common.{◌≡◌, true, ◌∙◌, sym, ap, subst, List, Vec, Global}
-use Rattle.std.specs.Option.{option_copied}
-use Rattle.std.proofs.lemmas.Result.{IfOk-weaker}
+use Rattle.std.proofs.Common.{◌≡◌, true, ◌∙◌, sym, ap, subst, List, Vec, Global, option_copied}
+use Rattle.cf_base.proofs.Common.{IfOk-weaker}
 use Rattle.cf_budget.specs.declared.changes.LineChange.{LineChange}
 use Rattle.cf_registers.specs.Moved.{Make, plainly_moved, moves_row, act_moves, adoption_changes}
 use Rattle.cf_registers.proofs.Lending.{are_touched, adoption_touched, amendment_touched, transfer_touched}

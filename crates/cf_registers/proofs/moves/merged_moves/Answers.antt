@@ -1,5 +1,5 @@
 use Rattle.std.proofs.Common.{◌<◌, ◌≤◌, arith, length, subst}
-use Rattle.cf_model.specs.Stripes.{stripe_of, touches}
+use Rattle.cf_model.specs.Common.{stripe_of, touches}
 use Rattle.cf_registers.specs.Moved.{act_moves}
 use Rattle.cf_registers.proofs.Lending.{move_touched}
 use Rattle.cf_registers.proofs.Makes.{more_fits, made_more, made_small}

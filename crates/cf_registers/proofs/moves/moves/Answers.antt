@@ -1,13 +1,7 @@
 use Rattle.std.proofs.Common.{◌≡◌, ◌⊎◌, suc, List, [], ◌∷◌, map, length, inl, inr, refl, sym, ap, ◌∙◌, arith}
-use Rattle.cf_base.specs.declared.calendar.Day.{Day}
-use Rattle.cf_calls.specs.declared.acts.Act.{Act}
-use Rattle.cf_calls.specs.declared.acts.Act.TheVariants.{Adopt, Amend, Transfer, Requisition, Withdraw, Order, ChangeOrder, CancelOrder, Voucher, VoidVoucher, Pay, Bill, Collect, Receive, WriteOff, Asset, Issue, PayDue, Leave, Interfund, Close, Lease}
-use Rattle.cf_chart.specs.Plan.{Plan}
-use Rattle.cf_model.specs.Documents.{Documents}
-use Rattle.cf_model.specs.Moves.{document_moves, spending_move}
-use Rattle.cf_model.specs.Registers.{Registers}
-use Rattle.cf_model.specs.Results.{document_number}
-use Rattle.cf_model.specs.Spendings.{Spending, spendings_by}
+use Rattle.cf_model.specs.Common.{Day, Act, Adopt, Amend, Transfer, Requisition, Withdraw, Order, ChangeOrder, CancelOrder, Voucher, VoidVoucher, Pay, Collect, Receive, WriteOff, Issue, PayDue, Leave, Interfund, Close, Lease, Documents, document_moves, spending_move, Registers, document_number, Spending, spendings_by}
+use Rattle.cf_calls.specs.declared.acts.Act.TheVariants.{Bill, Asset}
+use Rattle.cf_chart.specs.Common.{Plan}
 use Rattle.cf_registers.specs.Moved.{act_moves}
 use Rattle.cf_registers.proofs.moves.moves.Goals as goal
 

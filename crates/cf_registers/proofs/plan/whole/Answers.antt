@@ -1,9 +1,7 @@
 use Rattle.std.proofs.Common.{◌≡◌, ◌≤◌, ℕ, true, List, length, subst}
-use Rattle.std.specs.List.{list_all}
-use Rattle.cf_chart.specs.declared.rows.Department.{Department}
-use Rattle.cf_chart.specs.declared.rows.Function.{Function}
-use Rattle.cf_chart.specs.Levels.{has_function}
-use Rattle.cf_chart.specs.Rising.{is_rising}
+use Rattle.cf_base.proofs.Common.{list_all}
+use Rattle.cf_model.specs.Common.{Department, Function}
+use Rattle.cf_chart.specs.Common.{has_function, is_rising}
 use Rattle.cf_model.proofs.Functions as model
 use Rattle.cf_registers.proofs.plan.whole.Goals as goal
 

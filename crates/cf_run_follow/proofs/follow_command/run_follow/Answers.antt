@@ -1,6 +1,6 @@
 use Rattle.std.proofs.Common.{◌≡◌, ◌∙◌, ℕ, List, refl, sym, subst}
-use Rattle.std.proofs.KnownBytes.{Consumes-nil}
-use Rattle.cf_base.specs.Causes.{Rose}
+use Rattle.cf_base.proofs.Common.{Consumes-nil}
+use Rattle.cf_base.specs.Common.{Rose}
 use Rattle.cf_run_status.specs.Devices.{device}
 use Rattle.cf_run_status.specs.declared.status.Status.TheVariants as status
 use Rattle.cf_run_follow.specs.Follows.{Copied}

@@ -1,8 +1,7 @@
 use Rattle.std.proofs.Common.{◌≡◌, ◌+◌, ◌++◌, ◌∷◌, [], ◌∙◌, ap, sym, arith, map}
-use Rattle.std.specs.List.{range_with_len}
-use Rattle.std.proofs.lemmas.List.FromFn.{map-range_with_len_more}
+use Rattle.cf_base.proofs.Common.{range_with_len, map-range_with_len_more}
 use Rattle.cf_run_generate.specs.Acts.{line_amount}
-use Rattle.cf_calls.specs.declared.acts.Act.TheVariants.{Adopt}
+use Rattle.cf_model.specs.Common.{Adopt}
 use Rattle.cf_run_generate.proofs.acts.adoption.Goals as goal
 
 pub loop-line-init : goal.loop-line-init

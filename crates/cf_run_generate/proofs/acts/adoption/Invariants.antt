@@ -1,5 +1,5 @@
 use Rattle.std.proofs.Common.{◌≡◌, ◌+◌, ℕ, map}
-use Rattle.std.specs.List.{range_with_len}
+use Rattle.cf_base.proofs.Common.{range_with_len}
 use Rattle.cf_run_generate.specs.Acts.{line_amount}
 use Rattle.cf_run_generate.proofs.acts.adoption.Given as goal
 

@@ -1,6 +1,6 @@
 use Rattle.std.proofs.Common.{sym, subst}
-use Rattle.cf_model.specs.Step.{Adds}
-use Rattle.cf_model.proofs.Stripped.{adds_accepted}
+use Rattle.cf_model.specs.Common.{Adds}
+use Rattle.cf_model.proofs.Common.{adds_accepted}
 use Rattle.cf_run_generate.proofs.office.add.Goals as goal
 
 pub accept-requires : goal.accept-requires

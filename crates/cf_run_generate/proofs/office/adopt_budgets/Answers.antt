@@ -1,5 +1,5 @@
 use Rattle.std.proofs.Common.{◌∷◌, [], ◌∙◌, sym, subst}
-use Rattle.cf_calls.specs.Form.{IsActInForm}
+use Rattle.cf_calls.specs.Common.{IsActInForm}
 use Rattle.cf_run_generate.specs.Acts.{change_of, first_day}
 use Rattle.cf_run_generate.specs.Generated.{after}
 use Rattle.cf_run_generate.proofs.Forms.{adoption_1, adoption_2, adoption_3}

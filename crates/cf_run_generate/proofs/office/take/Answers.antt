@@ -1,7 +1,7 @@
 use Rattle.std.proofs.Common.{◌∙◌, ap, sym, subst}
-use Rattle.cf_calls.specs.Form.{IsChangeInForm}
+use Rattle.cf_calls.specs.Common.{IsChangeInForm}
 use Rattle.cf_calls.specs.declared.call.Call.TheVariants as call
-use Rattle.cf_model.specs.Step.{next_of, verdict_of}
+use Rattle.cf_model.specs.Common.{next_of, verdict_of}
 use Rattle.cf_run_generate.proofs.Forms.{change_form}
 use Rattle.cf_run_generate.proofs.Stepping.{drawn_none, drawn_some, next_some}
 use Rattle.cf_run_generate.proofs.office.take.Goals as goal

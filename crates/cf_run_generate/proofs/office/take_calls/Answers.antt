@@ -1,5 +1,5 @@
 use Rattle.std.proofs.Common.{◌+◌, ◌∷◌, [], ◌++◌, ◌∙◌, ap, sym, subst}
-use Rattle.cf_calls.specs.Form.{IsActInForm}
+use Rattle.cf_calls.specs.Common.{IsActInForm}
 use Rattle.cf_run_generate.specs.Acts.{change_of, first_day}
 use Rattle.cf_run_generate.specs.Generated.{adoptions, after, drawn, receipts}
 use Rattle.cf_run_generate.specs.Turns.{first_turn}

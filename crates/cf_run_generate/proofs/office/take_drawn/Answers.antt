@@ -1,7 +1,7 @@
 use Rattle.std.proofs.Common.{◌≡◌, ◌+◌, ◌∙◌, ap, sym, subst, refl, arith}
-use Rattle.cf_calls.specs.Form.{IsActInForm}
+use Rattle.cf_calls.specs.Common.{IsActInForm}
 use Rattle.cf_calls.specs.declared.call.Call.TheVariants as call
-use Rattle.cf_model.specs.Step.{next_of}
+use Rattle.cf_model.specs.Common.{next_of}
 use Rattle.cf_run_generate.specs.Acts.{act_of, change_of, first_day}
 use Rattle.cf_run_generate.specs.Generated.{after, drawn}
 use Rattle.cf_run_generate.specs.Turns.{first_turn}

@@ -1,5 +1,5 @@
 use Rattle.std.proofs.Common.{[], ◌∷◌, codes}
-use Rattle.std.proofs.lemmas.Result.{IfOk-weaker}
+use Rattle.cf_base.proofs.Common.{IfOk-weaker}
 use Rattle.clap.specs.Words.{new_rule}
 use Rattle.cf_run_words.proofs.Added.{told_more, local_more}
 use Rattle.cf_run_words.proofs.program.pool.Goals as goal

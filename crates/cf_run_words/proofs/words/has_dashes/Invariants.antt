@@ -1,5 +1,5 @@
 use Rattle.std.proofs.Common.{◌≡◌, drop, map, string_bytes}
-use Rattle.std.specs.List.{list_any}
+use Rattle.cf_base.proofs.Common.{list_any}
 use Rattle.cf_run_words.specs.Words.{is_dashes}
 use Rattle.cf_run_words.proofs.words.has_dashes.Given as goal
 

@@ -1,5 +1,5 @@
 use Rattle.std.proofs.Common.{rules, ◌≡◌, ◌∙◌, ap, sym, subst, false, refl, map, string_bytes, List, option_and_then}
-use Rattle.std.specs.List.{list_any}
+use Rattle.cf_base.proofs.Common.{list_any}
 use Rattle.clap.specs.Words.{app_of, is_simple, kind_of, subcommand_of}
 use Rattle.clap.specs.Faults.{fault_of, is_simple_and_free}
 use Rattle.clap.specs.Kinds.{IsAmong}

@@ -1,6 +1,5 @@
 use Rattle.std.proofs.Common.{All, List, IfSome, sym, subst, ◌∙◌}
-use Rattle.std.proofs.lemmas.List.Elements.{All-push, All-pop}
-use Rattle.std.specs.Vec.Iter.{into_iter_items}
+use Rattle.cf_base.proofs.Common.{All-push, All-pop, into_iter_items}
 use Rattle.cf_hall_names.specs.Closing.{IsFreshPass}
 use Rattle.cf_serve_laws.specs.Desks.{DeskState}
 use Rattle.cf_serve_laws.specs.ServeRuns.{door_of}

@@ -1,6 +1,5 @@
-use Rattle.std.proofs.Common.{◌≡◌, ◌+◌, ◌++◌, length, map, All}
-use Rattle.std.specs.Vec.{vec_capacity}
-use Rattle.std.specs.Vec.Iter.{into_iter_items}
+use Rattle.std.proofs.Common.{◌≡◌, ◌+◌, ◌++◌, length, map, All, vec_capacity}
+use Rattle.cf_base.proofs.Common.{into_iter_items}
 use Rattle.cf_hall_names.specs.Closing.{IsFreshPass}
 use Rattle.cf_serve_laws.specs.ServeRuns.{door_of}
 use Rattle.cf_serve.proofs.serving.seat_all.Given as goal

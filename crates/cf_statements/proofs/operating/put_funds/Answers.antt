@@ -1,5 +1,4 @@
-use Rattle.std.proofs.Common.{◌≡◌, ◌∙◌, ◌+◌, ◌∷◌, ◌++◌, ap, append_assoc, drop}
-use Rattle.std.specs.Prelude.{flat_map}
+use Rattle.std.proofs.Common.{◌≡◌, ◌∙◌, ◌+◌, ◌∷◌, ◌++◌, ap, append_assoc, drop, flat_map}
 use Rattle.cf_statements.specs.Operating.{fund_rows}
 use Rattle.cf_statements.proofs.Next.{next_item}
 use Rattle.cf_statements.proofs.operating.put_funds.Goals as goal

@@ -1,5 +1,4 @@
-use Rattle.std.proofs.Common.{◌≡◌, ◌++◌, drop}
-use Rattle.std.specs.Prelude.{flat_map}
+use Rattle.std.proofs.Common.{◌≡◌, ◌++◌, drop, flat_map}
 use Rattle.cf_statements.specs.Operating.{fund_rows}
 use Rattle.cf_statements.proofs.operating.put_funds.Given as goal
 

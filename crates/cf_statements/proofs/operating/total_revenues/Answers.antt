@@ -1,5 +1,4 @@
-use Rattle.std.proofs.Common.{rules}
-use Rattle.std.specs.Prelude.{◌==◌}
+use Rattle.std.proofs.Common.{rules, ◌==◌}
 use Rattle.cf_chart.specs.declared.rows.RevenueSource.{RevenueSource}
 use Rattle.cf_statements.specs.Budget.{fund_revenue}
 use Rattle.cf_statements.proofs.Next.{next_counted, next_passed}

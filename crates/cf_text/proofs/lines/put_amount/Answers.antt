@@ -1,5 +1,5 @@
 use Rattle.std.proofs.Common.{◌≡◌, ◌+◌, ◌-◌, ◌/◌, ◌%◌, ◌++◌, ◌∷◌, [], length, rules, decimal, unsigned_abs}
-use Rattle.cf_base.specs.Amounts.{sign_text}
+use Rattle.cf_base.specs.Common.{sign_text}
 use Rattle.cf_text.specs.Statement.{blanks}
 use Rattle.cf_text.proofs.Amounts.{pieces}
 use Rattle.cf_text.proofs.lines.put_amount.Goals as goal

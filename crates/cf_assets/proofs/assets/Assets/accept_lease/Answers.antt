@@ -1,12 +1,12 @@
 use Rattle.std.proofs.Common.{◌≡◌, ◌<◌, ◌≤◌, None, ◌∷◌, [], sym, subst, ap, arith}
-use Rattle.std.proofs.lemmas.List.{length-append}
+use Rattle.cf_base.proofs.Common.{length-append}
 use Rattle.cf_assets.specs.Register.{Register}
 use Rattle.cf_assets.specs.Rows.{view_asset, view_origin, view_stage}
 use Rattle.cf_assets.proofs.Leases.{new_months}
 use Rattle.cf_assets.proofs.Standing.{extents_gift}
-use Rattle.cf_model.specs.Assets.{Asset, voucher_of}
+use Rattle.cf_model.specs.Common.{Asset, voucher_of}
 use Rattle.cf_assets.proofs.assets.Assets.accept_lease.Goals as goal
-use Rattle.cf_base.specs.Limits.{most_entries}
+use Rattle.cf_base.specs.Common.{most_entries}
 
 pub invariant_of-self : goal.invariant_of-self
 invariant_of-self c =

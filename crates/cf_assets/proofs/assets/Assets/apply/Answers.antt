@@ -1,8 +1,6 @@
 use Rattle.std.proofs.Common.{◌≡◌, ◌∙◌, None, sym, subst, ap}
 use Rattle.cf_assets.proofs.Applying.{void_allowed, adds_only, voucher_step, lease_step, close_step, quiet, items_most}
-use Rattle.cf_model.specs.Assets.{assets_by}
-use Rattle.cf_model.specs.RegisterRules.{asset_refusal}
-use Rattle.cf_model.specs.Rules.{amount_refusal}
+use Rattle.cf_model.specs.Common.{assets_by, asset_refusal, amount_refusal}
 use Rattle.cf_assets.proofs.assets.Assets.apply.Goals as goal
 
 pub enter_voucher-requires-clause-amounts : goal.enter_voucher-requires-clause-amounts

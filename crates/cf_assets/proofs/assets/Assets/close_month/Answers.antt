@@ -3,7 +3,7 @@ use Rattle.cf_assets.specs.Inventory.{accumulated_at}
 use Rattle.cf_assets.specs.Register.{Register}
 use Rattle.cf_assets.proofs.Leases.{amortized_is, amortized_most, close_months}
 use Rattle.cf_assets.proofs.assets.Assets.close_month.Goals as goal
-use Rattle.cf_base.specs.Limits.{most_entries}
+use Rattle.cf_base.specs.Common.{most_entries}
 
 pub overflow_add-before : goal.overflow_add-before
 overflow_add-before c =

@@ -1,7 +1,7 @@
 use Rattle.std.proofs.Common.{◌≡◌, subst, sum_by, arith}
 use Rattle.cf_assets.specs.Register.{Register}
 use Rattle.cf_assets.proofs.Leases.{depreciated_parts}
-use Rattle.cf_model.specs.Assets.{depreciation}
+use Rattle.cf_model.specs.Common.{depreciation}
 use Rattle.cf_assets.proofs.assets.Assets.depreciated_to.Goals as goal
 
 pub returns-clause-value : goal.returns-clause-value

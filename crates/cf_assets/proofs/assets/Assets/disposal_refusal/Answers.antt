@@ -1,8 +1,7 @@
 use Rattle.std.proofs.Common.{sym, ap, ◌∙◌, option_to_list}
 use Rattle.cf_assets.specs.Rows.{view_asset}
 use Rattle.cf_assets.proofs.Finding.{or_none}
-use Rattle.cf_model.specs.RegisterRules.{disposed_asset}
-use Rattle.cf_model.specs.Rules.{first_refusal}
+use Rattle.cf_model.specs.Common.{disposed_asset, first_refusal}
 use Rattle.cf_assets.proofs.assets.Assets.disposal_refusal.Goals as goal
 
 pub returns-in-Some : goal.returns-in-Some

@@ -1,16 +1,12 @@
-use Rattle.std.proofs.Common.{◌≡◌, ◌<◌, ◌==◌, None, sym, subst, arith}
-use Rattle.std.specs.List.{filter}
-use Rattle.std.proofs.lemmas.List.{length-map}
+use Rattle.std.proofs.Common.{◌≡◌, ◌<◌, ◌==◌, None, sym, subst, arith, filter}
+use Rattle.cf_base.proofs.Common.{length-map}
 use Rattle.cf_assets.specs.Register.{Register}
 use Rattle.cf_assets.specs.Steps.{disposes}
 use Rattle.cf_assets.proofs.Leases.{dispose_months}
-use Rattle.cf_model.specs.Assets.{Asset}
-use Rattle.cf_model.specs.RegisterRules.{disposed_asset}
-use Rattle.cf_model.specs.Rules.{first_refusal}
+use Rattle.cf_model.specs.Common.{Asset, disposed_asset, first_refusal, year_of_day}
 use Rattle.cf_assets.proofs.Standing.{extents_map, disposes_keep}
-use Rattle.cf_model.specs.Calendar.{year_of_day}
 use Rattle.cf_assets.proofs.assets.Assets.dispose.Goals as goal
-use Rattle.cf_base.specs.Limits.{most_entries}
+use Rattle.cf_base.specs.Common.{most_entries}
 
 pub invariant_of-self : goal.invariant_of-self
 invariant_of-self c =

@@ -1,11 +1,11 @@
 use Rattle.std.proofs.Common.{◌≡◌, ◌+◌, ◌<◌, ◌≤◌, ℕ, Some, List, length, refl, sym, subst, ap, ◌∙◌, arith}
-use Rattle.std.proofs.lemmas.List.{length-append}
+use Rattle.cf_base.proofs.Common.{length-append}
 use Rattle.cf_assets.specs.Register.{Register}
 use Rattle.cf_assets.proofs.Leases.{bought_months}
 use Rattle.cf_assets.proofs.Standing.{extents_push, bought_its}
-use Rattle.cf_calls.specs.declared.items.VoucherItem.{VoucherItem}
+use Rattle.cf_model.specs.Common.{VoucherItem}
 use Rattle.cf_assets.proofs.assets.Assets.enter_voucher.Goals as goal
-use Rattle.cf_base.specs.Limits.{most_entries}
+use Rattle.cf_base.specs.Common.{most_entries}
 
 pub invariant_of-self : goal.invariant_of-self
 invariant_of-self c =

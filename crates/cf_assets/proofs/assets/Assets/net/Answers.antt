@@ -1,14 +1,11 @@
 use Rattle.std.proofs.Common.{◌≡◌, ◌+◌, ◌-◌, ◌-ℤ◌, pos, rules, sym, subst, ap, ◌∙◌, sum_by, arith}
-use Rattle.std.specs.List.{AllByRecursion}
-use Rattle.std.proofs.lemmas.Int.{to_z-of_z}
+use Rattle.cf_base.proofs.Common.{AllByRecursion, to_z-of_z}
 use mir.Val.{SFits}
 use mir.Syntax.{w128}
 use Rattle.cf_assets.specs.Register.{Register}
 use Rattle.cf_assets.proofs.Netting.{owned_net}
-use Rattle.cf_model.specs.Assets.{depreciation, net, owned}
-use Rattle.cf_model.specs.Months.{closed_to}
-use Rattle.cf_model.specs.Sums.{int_sum}
-use Rattle.cf_model.proofs.Depreciated.{IsSoundAsset}
+use Rattle.cf_model.specs.Common.{depreciation, net, owned, closed_to, int_sum}
+use Rattle.cf_model.proofs.Common.{IsSoundAsset}
 use Rattle.cf_assets.proofs.assets.Assets.net.Goals as goal
 
 pub returns : goal.returns

@@ -1,5 +1,5 @@
 use Rattle.std.proofs.Common.{◌≡◌, ◌+◌, ◌-◌, ◌-ℤ◌, pos, rules, sym, subst, ap, ◌∙◌, sum_by, arith}
-use Rattle.std.proofs.lemmas.Int.{to_z-of_z}
+use Rattle.cf_base.proofs.Common.{to_z-of_z}
 use mir.Val.{SFits}
 use mir.Syntax.{w128}
 use Rattle.cf_assets.specs.Inventory.{AreKept}
@@ -7,9 +7,7 @@ use Rattle.cf_assets.specs.Register.{Register}
 use Rattle.cf_assets.specs.Years.{let_in}
 use Rattle.cf_assets.proofs.Netting.{leased_net}
 use Rattle.cf_register_parts.specs.Years.{sum_to}
-use Rattle.cf_model.specs.Assets.{depreciation, leased, net}
-use Rattle.cf_model.specs.Months.{closed_to}
-use Rattle.cf_model.specs.Sums.{int_sum}
+use Rattle.cf_model.specs.Common.{depreciation, leased, net, closed_to, int_sum}
 use Rattle.cf_assets.proofs.assets.Assets.right_to_use.Goals as goal
 
 pub returns : goal.returns

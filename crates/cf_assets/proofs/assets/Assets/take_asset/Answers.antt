@@ -1,7 +1,7 @@
 use Rattle.std.proofs.Common.{◌∙◌, sym, ap}
 use Rattle.cf_assets.proofs.Applying.{dispose_allowed, adds_only, gift_step}
 use Rattle.cf_calls.specs.declared.acts.Act.TheVariants as act
-use Rattle.cf_model.specs.Assets.{assets_by}
+use Rattle.cf_model.specs.Common.{assets_by}
 use Rattle.cf_assets.proofs.assets.Assets.take_asset.Goals as goal
 
 pub dispose-requires-clause-allowed : goal.dispose-requires-clause-allowed

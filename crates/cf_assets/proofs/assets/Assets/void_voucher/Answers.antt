@@ -1,11 +1,11 @@
 use Rattle.std.proofs.Common.{◌<◌, sym, subst, arith}
-use Rattle.std.proofs.lemmas.List.{length-map}
+use Rattle.cf_base.proofs.Common.{length-map}
 use Rattle.cf_assets.specs.Register.{Register}
 use Rattle.cf_assets.specs.Steps.{voids}
 use Rattle.cf_assets.proofs.Leases.{void_months}
 use Rattle.cf_assets.proofs.Standing.{extents_map, voids_keep}
 use Rattle.cf_assets.proofs.assets.Assets.void_voucher.Goals as goal
-use Rattle.cf_base.specs.Limits.{most_entries}
+use Rattle.cf_base.specs.Common.{most_entries}
 
 pub invariant_of-self : goal.invariant_of-self
 invariant_of-self c =

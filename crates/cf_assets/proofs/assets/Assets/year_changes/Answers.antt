@@ -1,14 +1,11 @@
 use Rattle.std.proofs.Common.{◌≡◌, ◌-◌, ℤ, ℕ, pos, ◌-ℤ◌, rules, sym, ap, ◌∙◌, sum_by, to_z, of_z, arith}
-use Rattle.std.proofs.lemmas.Int.{to_z-of_z, ints}
+use Rattle.cf_base.proofs.Common.{to_z-of_z, ints}
 use mir.Val.{SFits}
 use mir.Syntax.{w128}
 use Rattle.cf_assets.specs.Register.{Register}
 use Rattle.cf_assets.specs.Years.{bought_in, given_in, let_in, book_in}
 use Rattle.cf_assets.proofs.Netting.{outlay_sum, donated_sum, let_sum, book_sum, accumulated_sum}
-use Rattle.cf_model.specs.Assets.{depreciation, leased, owned}
-use Rattle.cf_model.specs.Changes.{outlay, donated, leased_in, depreciated_in, book_value}
-use Rattle.cf_model.specs.Months.{closed_to}
-use Rattle.cf_model.specs.Sums.{int_sum}
+use Rattle.cf_model.specs.Common.{depreciation, leased, owned, outlay, donated, leased_in, depreciated_in, book_value, closed_to, int_sum}
 use Rattle.cf_assets.proofs.assets.Assets.year_changes.Goals as goal
 
 none_less : (n : ℕ) → pos n -ℤ pos 0 ≡ pos n

@@ -1,12 +1,12 @@
 use Rattle.std.proofs.Common.{◌≡◌, ◌<◌, arith, sym, subst, ap, ◌∙◌, length, map, sum_by}
-use Rattle.std.proofs.lemmas.List.{length-append}
+use Rattle.cf_base.proofs.Common.{length-append}
 use Rattle.cf_assets.specs.Inventory.{Inventory, accumulated_at}
 use Rattle.cf_assets.specs.Rows.{view_asset}
 use Rattle.cf_assets.proofs.InService.{retired}
 use Rattle.cf_assets.proofs.Keeping.{rows_close, close_accumulated, close_books, close_fits}
-use Rattle.cf_model.specs.Assets.{charge}
+use Rattle.cf_model.specs.Common.{charge}
 use Rattle.cf_assets.proofs.inventory.Inventory.close.Goals as goal
-use Rattle.cf_base.specs.Limits.{most_entries}
+use Rattle.cf_base.specs.Common.{most_entries}
 
 pub overflow_add-before : goal.overflow_add-before
 overflow_add-before c =

@@ -1,5 +1,5 @@
 use Rattle.std.proofs.Common.{◌≡◌, ◌<◌, ◌-◌, arith, refl, sym, subst, ap, ◌∙◌, length, map, set, get_or, sum_by, ℕ}
-use Rattle.std.proofs.lemmas.List.{length-map, length-set}
+use Rattle.cf_base.proofs.Common.{length-map, length-set}
 use Rattle.cf_assets.specs.Inventory.{Inventory, IsHeldAt, staged}
 use Rattle.cf_assets.specs.InventoryView.{inventory_of}
 use Rattle.cf_assets.specs.Rows.{view_asset}
@@ -10,7 +10,7 @@ use Rattle.cf_assets.specs.declared.rows.StageNow.TheVariants.{Disposed, Held}
 use Rattle.cf_assets.proofs.InService.{serving_set}
 use Rattle.cf_assets.proofs.Keeping.{IsAt, restaged, row_is, restage_rows, restage_same, gone_accumulated, gone_bought, gone_book, held_row, view_set, viewed, year_most, book_most}
 use Rattle.cf_register_parts.proofs.Cells.{cells_most}
-use Rattle.cf_model.specs.Assets.{Asset, disposed, depreciation}
+use Rattle.cf_model.specs.Common.{Asset, disposed, depreciation}
 use Rattle.cf_assets.proofs.inventory.Inventory.dispose_at.Goals as goal
 use Rattle.cf_register_parts.specs.Limits.{most_total}
 

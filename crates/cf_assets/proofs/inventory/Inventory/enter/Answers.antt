@@ -1,5 +1,5 @@
 use Rattle.std.proofs.Common.{◌≡◌, ℕ, ◌+◌, ◌^◌, ◌<◌, ◌≤◌, List, arith, refl, sym, subst, length, map, sum, sum_by}
-use Rattle.std.proofs.lemmas.List.{length-append, length-map}
+use Rattle.cf_base.proofs.Common.{length-append, length-map}
 use Rattle.cf_assets.specs.Inventory.{Inventory}
 use Rattle.cf_assets.specs.Rows.{view_asset, IsStage}
 use Rattle.cf_assets.specs.InventoryView.{IsSound}
@@ -10,8 +10,8 @@ use Rattle.cf_assets.proofs.InService.{serving_push}
 use Rattle.cf_assets.proofs.Keeping.{rows_push, accumulated_push, cost_push, held_bought, new_book, year_most, bought_most, given_most, let_most}
 use Rattle.cf_register_parts.proofs.Cells.{cells_most}
 use Rattle.cf_assets.proofs.inventory.Inventory.enter.Goals as goal
-use Rattle.cf_base.specs.Limits.{most_cents}
-use Rattle.cf_model.specs.Assets.{Asset}
+use Rattle.cf_base.specs.Common.{most_cents}
+use Rattle.cf_model.specs.Common.{Asset}
 use Rattle.cf_register_parts.specs.Limits.{most_items, most_total}
 use Rattle.cf_register_parts.specs.Years.{AreYears}
 

@@ -1,5 +1,5 @@
 use Rattle.std.proofs.Common.{◌≡◌, ◌+◌, ◌-◌, ◌<◌, inl, inr, sym, ap, ◌∙◌, Some, arith, length, map}
-use Rattle.std.proofs.lemmas.List.{length-map}
+use Rattle.cf_base.proofs.Common.{length-map}
 use Rattle.cf_assets.specs.Rows.{view_asset}
 use Rattle.cf_assets.proofs.Finding.{no_number, found_number, number_alone}
 use Rattle.cf_assets.proofs.Keeping.{IsAt, numbered, viewed}

@@ -1,5 +1,5 @@
 use Rattle.std.proofs.Common.{◌≡◌, ◌<◌, arith, refl, sym, subst, ap, ◌∙◌, length, map, set, get_or, ℕ}
-use Rattle.std.proofs.lemmas.List.{length-map, length-set}
+use Rattle.cf_base.proofs.Common.{length-map, length-set}
 use Rattle.cf_assets.specs.Inventory.{Inventory, IsFreshAt, staged}
 use Rattle.cf_assets.specs.InventoryView.{inventory_of}
 use Rattle.cf_assets.specs.Rows.{view_asset}
@@ -9,7 +9,7 @@ use Rattle.cf_assets.specs.declared.rows.AssetRow.{AssetRow}
 use Rattle.cf_assets.specs.declared.rows.StageNow.TheVariants.{Void, Held}
 use Rattle.cf_assets.proofs.InService.{serving_set}
 use Rattle.cf_assets.proofs.Keeping.{IsAt, restaged, row_is, restage_rows, restage_same, void_accumulated, void_bought, void_enough, held_book, held_row, bought_row, fresh_row, view_set, viewed}
-use Rattle.cf_model.specs.Assets.{Asset, void}
+use Rattle.cf_model.specs.Common.{Asset, void}
 use Rattle.cf_assets.proofs.inventory.Inventory.void_at.Goals as goal
 
 there : (a : Inside) (i : Inventory) (k : ℕ) (r : AssetRow) → inventory_of a ≡ i → k < length i.assets → r ≡ get_or a.rows.items k r → IsAt k a.rows.items r

@@ -3,7 +3,7 @@ use lib.Signed.{lt_z}
 use Rattle.jiff_core.proofs.SignedLemmas.{signed_arith}
 use Rattle.jiff_core.specs.declared.civil.date.Date.{Date}
 use Rattle.jiff_core.specs.Date.{epoch_day}
-use Rattle.cf_base.specs.Calendar.{day_of_number, day_number, is_day}
+use Rattle.cf_base.specs.Common.{day_of_number, day_number, is_day}
 use Rattle.cf_base.proofs.DayNumbers.{Parts, day_at, day_with, made_day, nonnegative, at_most, reached}
 use Rattle.cf_base.proofs.calendar.Day.new.Goals as goal
 

@@ -1,6 +1,6 @@
 use Rattle.std.proofs.Common.{◌≡◌, ℤ, arith, rules, ap, ◌∙◌, unsigned_abs, to_z, of_z, w32}
 use Rattle.jiff_core.proofs.SignedLemmas.{signed_arith}
-use Rattle.cf_base.specs.Calendar.{day_number, day_of_number}
+use Rattle.cf_base.specs.Common.{day_number, day_of_number}
 use Rattle.cf_base.proofs.DayNumbers.{number_of}
 use Rattle.cf_base.proofs.calendar.Day.number.Goals as goal
 

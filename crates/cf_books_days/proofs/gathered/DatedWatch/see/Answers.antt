@@ -1,5 +1,5 @@
 use Rattle.std.proofs.Common.{◌++◌, ap, sym, ◌∙◌}
-use Rattle.std.proofs.lemmas.Result.{on_ok_weaker}
+use Rattle.cf_base.proofs.Common.{on_ok_weaker}
 use Rattle.cf_journal_book.specs.Watching.{Posted, all_posted, shown_as}
 use Rattle.cf_books_days.specs.Gathered.{changed_through, posts_on}
 use Rattle.cf_books_days.proofs.Gathering.{fund_push, gov_push, changes_push}

@@ -1,6 +1,5 @@
 use Rattle.std.proofs.Common.{◌<◌, ◌^◌, ◌∙◌, ap, sym, subst, map, List, rules, arith}
-use Rattle.cf_calls.specs.declared.entry.Entry.{Entry}
-use Rattle.cf_model.specs.Estimates.{estimate}
+use Rattle.cf_model.specs.Common.{Entry, estimate}
 use Rattle.cf_books_days.proofs.Adopted.{estimate_part, estimates_are}
 use Rattle.cf_books_days.proofs.sums.DaySumsFigures.estimate.Goals as goal
 

@@ -1,5 +1,5 @@
 use Rattle.std.proofs.Common.{◌≡◌, ◌∙◌, ap, sym, rules}
-use Rattle.std.proofs.lemmas.Int.{int_wrap_fits, to_z-of_z}
+use Rattle.cf_base.proofs.Common.{int_wrap_fits, to_z-of_z}
 use mir.Val.{SFits}
 use mir.Syntax.{w128}
 use Rattle.cf_budget.specs.declared.row.Row.{Row}

@@ -1,9 +1,8 @@
-use Rattle.std.proofs.Common.{◌≡◌, ◌<◌, ◌^◌, ◌++◌, List, ap, subst, sym, ◌∙◌, unsigned_abs}
-use Rattle.std.specs.List.{All}
-use Rattle.std.proofs.lemmas.Result.{on_ok_weaker}
+use Rattle.std.proofs.Common.{◌≡◌, ◌<◌, ◌^◌, ◌++◌, List, ap, subst, sym, ◌∙◌, unsigned_abs, All}
+use Rattle.cf_base.proofs.Common.{on_ok_weaker}
 use Rattle.cf_journal_book.specs.Watching.{Posted, all_posted, shown_as}
 use Rattle.cf_ledger.specs.declared.post.Post.{Post}
-use Rattle.cf_model.specs.Registers.{Registers, registers_of}
+use Rattle.cf_model.specs.Common.{Registers, registers_of}
 use Rattle.cf_registers.specs.Moved.{IsCleared}
 use Rattle.cf_registers.proofs.Taken.{accepted_cleared}
 use Rattle.cf_office_rows.specs.Rolls.{AreReleased}

@@ -1,7 +1,8 @@
 use Rattle.std.proofs.Common.{◌++◌, ap, sym, ◌∙◌, append_assoc}
-use Rattle.std.proofs.lemmas.Result.{on_ok_weaker}
+use Rattle.cf_base.proofs.Common.{on_ok_weaker}
 use Rattle.cf_journal_book.specs.Watching.{Posted, all_posted, shown_as}
-use Rattle.cf_calls.specs.declared.read.Basis.TheVariants.{Fund as FundBasis, Gov as GovBasis}
+use Rattle.cf_model.specs.Common.{Gov as GovBasis}
+use Rattle.cf_calls.specs.declared.read.Basis.TheVariants.{Fund as FundBasis}
 use Rattle.cf_books_lists.specs.Posts.{placed}
 use Rattle.cf_books_lists.proofs.Seen.{placed_push}
 use Rattle.cf_books_lists.proofs.posts.GatheredWatch.see.Goals as goal

@@ -1,8 +1,8 @@
 use Rattle.std.proofs.Common.{◌∙◌, ap, rules}
-use Rattle.std.proofs.lemmas.Int.{to_z-of_z}
+use Rattle.cf_base.proofs.Common.{to_z-of_z}
 use mir.Val.{SFits}
 use mir.Syntax.{w128}
-use Rattle.cf_base.specs.declared.calendar.Day.{Day}
+use Rattle.cf_model.specs.Common.{Day}
 use Rattle.cf_office_history.specs.RestState.{RestState}
 use Rattle.cf_books_month.specs.Sums.{estimated}
 use Rattle.cf_books_month.proofs.sums.MonthSums.estimated.Goals as goal

@@ -1,8 +1,8 @@
 use Rattle.std.proofs.Common.{◌∙◌, ◌-ℤ◌, ap, rules}
-use Rattle.std.proofs.lemmas.Int.{to_z-of_z}
+use Rattle.cf_base.proofs.Common.{to_z-of_z}
 use mir.Val.{SFits}
 use mir.Syntax.{w128}
-use Rattle.cf_calls.specs.declared.shown.LineNumbers.{LineNumbers}
+use Rattle.cf_model.specs.Common.{LineNumbers}
 use Rattle.cf_books_month.specs.Amounts.{held}
 use Rattle.cf_books_month.specs.Sums.{line_amounts}
 use Rattle.cf_books_month.proofs.sums.MonthSums.line_amounts.Goals as goal

@@ -1,5 +1,5 @@
 use Rattle.std.proofs.Common.{◌∙◌, ap}
-use Rattle.cf_base.specs.declared.calendar.Day.{Day}
+use Rattle.cf_model.specs.Common.{Day}
 use Rattle.cf_books_month.specs.Sums.{numbers_through}
 use Rattle.cf_books_month.proofs.sums.MonthSums.numbers.Goals as goal
 

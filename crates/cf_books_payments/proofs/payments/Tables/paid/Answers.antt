@@ -1,7 +1,5 @@
-use Rattle.std.proofs.Common.{arith, ◌≡◌, ◌+◌, ◌∙◌, ap, sym, sum_by, take, get_or}
-use Rattle.std.proofs.lemmas.List.Sums.{sum_by_more}
-use Rattle.std.specs.BTreeMap.{get}
-use Rattle.std.specs.Ordering.{nat_cmp}
+use Rattle.std.proofs.Common.{arith, ◌≡◌, ◌+◌, ◌∙◌, ap, sym, sum_by, take, get_or, nat_cmp}
+use Rattle.cf_base.proofs.Common.{sum_by_more, get}
 use Rattle.cf_books_payments.specs.Payments.{voucher_in}
 use Rattle.cf_books_payments.proofs.payments.Tables.paid.Goals as goal
 

@@ -1,6 +1,5 @@
-use Rattle.std.proofs.Common.{◌≡◌, ◌≤◌, ◌*◌, ◌^◌, take, sum_by}
-use Rattle.std.specs.BTreeMap.{get}
-use Rattle.std.specs.Ordering.{nat_cmp}
+use Rattle.std.proofs.Common.{◌≡◌, ◌≤◌, ◌*◌, ◌^◌, take, sum_by, nat_cmp}
+use Rattle.cf_base.proofs.Common.{get}
 use Rattle.cf_books_payments.specs.Payments.{voucher_in}
 use Rattle.cf_books_payments.proofs.payments.Tables.paid.Given as goal
 

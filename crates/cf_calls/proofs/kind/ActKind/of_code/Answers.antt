@@ -1,5 +1,5 @@
 use Rattle.std.proofs.Common.{◌∙◌}
-use Rattle.cf_calls.specs.Kinds.{kind_value}
+use Rattle.cf_calls.specs.Common.{kind_value}
 use Rattle.cf_calls.proofs.KindsFound.{by_code}
 use Rattle.cf_calls.proofs.kind.ActKind.of_code.Goals as goal
 

@@ -1,9 +1,8 @@
 use Rattle.std.proofs.Common.{◌≡◌, true, sym, ap, subst, ◌∙◌, refl, List}
-use Rattle.std.specs.List.{list_all}
-use Rattle.cf_calls.specs.Form.{is_distinct}
+use Rattle.cf_base.proofs.Common.{list_all}
+use Rattle.cf_calls.specs.Common.{is_distinct}
 use Rattle.cf_chart.specs.declared.rows.Line.{Line}
-use Rattle.cf_chart.specs.Levels.{is_leveled, same_keys}
-use Rattle.cf_chart.specs.Plan.{object_at, line_at}
+use Rattle.cf_chart.specs.Common.{is_leveled, same_keys, object_at, line_at}
 use Rattle.cf_chart.proofs.Accounts.{only_line}
 use Rattle.cf_chart.proofs.chart.Chart.line_in.Goals as goal
 

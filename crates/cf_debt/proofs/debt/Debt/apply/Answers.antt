@@ -1,9 +1,8 @@
 use Rattle.std.proofs.Common.{◌≡◌, None, sym, subst, ◌∙◌}
-use Rattle.cf_calls.specs.declared.acts.Act.{Act}
+use Rattle.cf_model.specs.Common.{Act, debt_refusal}
 use Rattle.cf_debt.specs.Register.{IsThere, registers_with}
 use Rattle.cf_debt.proofs.Refusing.{all_paid, can_pay, in_order}
 use Rattle.cf_debt.proofs.Stepping.{close_step, issue_step, lease_step, leave_step, pay_step, quiet_step}
-use Rattle.cf_model.specs.RegisterRules.{debt_refusal}
 use Rattle.cf_debt.proofs.debt.Debt.apply.Goals as goal
 
 pub pay-requires-clause-left : goal.pay-requires-clause-left

@@ -4,8 +4,7 @@ use Rattle.cf_debt.specs.declared.rows.Payment.{Payment}
 use Rattle.cf_debt.specs.Rows.{view_bond, view_payment, view_payments}
 use Rattle.cf_debt.specs.Steps.{ShowsBond}
 use Rattle.cf_debt.proofs.Finding.{none_at_zero, none_past, shows}
-use Rattle.cf_model.specs.Bonds.{next_due}
-use Rattle.cf_model.specs.Results.{bond_at}
+use Rattle.cf_model.specs.Common.{next_due, bond_at}
 use Rattle.cf_debt.proofs.debt.Debt.bond.Goals as goal
 use Rattle.cf_debt.proofs.debt.Debt.bond.Goals.{then-number-eq0-via-then-number-eq0, then-number-eq0-via-else-number-eq0+then-number-len}
 

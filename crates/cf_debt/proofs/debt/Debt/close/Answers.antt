@@ -1,9 +1,8 @@
 use Rattle.std.proofs.Common.{◌≡◌, None, subst}
 use Rattle.cf_calls.specs.declared.acts.Act.TheVariants as act
-use Rattle.cf_calls.specs.declared.acts.Period.{Period}
+use Rattle.cf_model.specs.Common.{Period, order_refusal, unpaid_refusal}
 use Rattle.cf_debt.specs.Register.{registers_with}
 use Rattle.cf_debt.proofs.Refusing.{next_month}
-use Rattle.cf_model.specs.RegisterRules.{order_refusal, unpaid_refusal}
 use Rattle.cf_debt.proofs.debt.Debt.close.Goals as goal
 
 pub close_month-requires-clause-next : goal.close_month-requires-clause-next

@@ -4,11 +4,9 @@ use Rattle.cf_debt.specs.RegisterView.{live_of}
 use Rattle.cf_debt.specs.Rows.{view_bonds, view_payments}
 use Rattle.cf_debt.proofs.Paying.{rows_closed}
 use Rattle.cf_debt.proofs.RunningSums.{Rise, charged_close}
-use Rattle.cf_model.specs.Bonds.{interest_charge}
-use Rattle.cf_model.specs.RegisterRules.{month_at}
-use Rattle.cf_model.specs.Rules.{first_refusal}
+use Rattle.cf_model.specs.Common.{interest_charge, month_at, first_refusal}
 use Rattle.cf_debt.proofs.debt.Debt.close_month.Goals as goal
-use Rattle.cf_base.specs.Limits.{most_entries}
+use Rattle.cf_base.specs.Common.{most_entries}
 
 pub invariant_of-self : goal.invariant_of-self
 invariant_of-self c =

@@ -6,7 +6,7 @@ use Rattle.cf_register_parts.specs.Pairs.{PutsValue, amount_at}
 use Rattle.cf_register_parts.proofs.PairFacts.{puts_amount}
 use Rattle.cf_debt.proofs.Leaving.{earned_left, earned_row, left_kept, put_small, years_earned}
 use Rattle.cf_debt.proofs.debt.Debt.earn.Goals as goal
-use Rattle.cf_base.specs.Limits.{most_entries, most_cents}
+use Rattle.cf_base.specs.Common.{most_entries, most_cents}
 
 pub invariant_of-self : goal.invariant_of-self
 invariant_of-self c =

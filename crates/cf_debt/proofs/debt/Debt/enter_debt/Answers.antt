@@ -1,5 +1,5 @@
 use Rattle.std.proofs.Common.{◌≡◌, ◌+◌, ◌-◌, ◌<◌, ◌≤◌, ◌++◌, ◌∷◌, [], ℕ, Bool, true, false, List, length, map, ap, arith, sym, subst, ◌∙◌}
-use Rattle.std.proofs.lemmas.List.{length-append, length-map}
+use Rattle.cf_base.proofs.Common.{length-append, length-map}
 use Rattle.cf_debt.specs.declared.rows.BondRow.{BondRow}
 use Rattle.cf_debt.specs.Register.{Register}
 use Rattle.cf_debt.specs.RegisterView.{HasSums}
@@ -9,10 +9,9 @@ use Rattle.cf_debt.specs.Rows.{lease_part}
 use Rattle.cf_debt.proofs.Entering.{IsNew, bonds_entered, has_entered, new_payments, new_row, sums_entered, year_from}
 use Rattle.cf_debt.proofs.RunningSums.{Rise}
 use Rattle.cf_debt.proofs.Schedules.{bond_paying}
-use Rattle.cf_model.specs.Bonds.{Bond, dues_from}
-use Rattle.cf_model.specs.Months.{number_of_day}
+use Rattle.cf_model.specs.Common.{Bond, dues_from, number_of_day}
 use Rattle.cf_debt.proofs.debt.Debt.enter_debt.Goals as goal
-use Rattle.cf_base.specs.Limits.{most_entries}
+use Rattle.cf_base.specs.Common.{most_entries}
 
 pub add_schedule-requires-clause-within : goal.add_schedule-requires-clause-within
 add_schedule-requires-clause-within c =

@@ -5,7 +5,7 @@ use Rattle.cf_debt.specs.DebtNow.{show_bond}
 use Rattle.cf_debt.specs.Register.{Register}
 use Rattle.cf_debt.specs.Rows.{view_bond, view_payments}
 use Rattle.cf_debt.proofs.Finding.{found, none_at_zero, none_past}
-use Rattle.cf_model.specs.DebtShown.{bond_shown}
+use Rattle.cf_model.specs.Common.{bond_shown}
 use Rattle.cf_debt.proofs.debt.Debt.look_bond.Goals as goal
 use Rattle.cf_debt.proofs.debt.Debt.look_bond.Goals.{then-number-eq0-via-then-number-eq0, then-number-eq0-via-else-number-eq0+then-number-len}
 

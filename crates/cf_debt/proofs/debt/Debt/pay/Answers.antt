@@ -1,5 +1,5 @@
 use Rattle.std.proofs.Common.{◌≡◌, ◌+◌, ◌-◌, ◌/◌, ◌<◌, ◌∙◌, ℕ, Bool, true, false, ◌≤◌, length, map, get_or, ap, arith, sym, subst, refl}
-use Rattle.std.proofs.lemmas.List.{length-map, length-set}
+use Rattle.cf_base.proofs.Common.{length-map, length-set}
 use Rattle.cf_debt.specs.declared.debt.Debt.TheInside.{Inside}
 use Rattle.cf_debt.specs.declared.rows.BondRow.{BondRow}
 use Rattle.cf_debt.specs.declared.rows.Payment.{Payment}
@@ -12,9 +12,9 @@ use Rattle.cf_debt.proofs.Finding.{Pays, found_left, found_row, pays}
 use Rattle.cf_debt.proofs.Paying.{bonds_paid, has_paid, sums_paid}
 use Rattle.cf_debt.proofs.Payments.{payment_at, small_at}
 use Rattle.cf_debt.proofs.RunningSums.{Rise}
-use Rattle.cf_model.specs.Bonds.{coupon}
+use Rattle.cf_model.specs.Common.{coupon}
 use Rattle.cf_debt.proofs.debt.Debt.pay.Goals as goal
-use Rattle.cf_base.specs.Limits.{most_entries}
+use Rattle.cf_base.specs.Common.{most_entries}
 
 found : (a : Inside) (r : Register) (n : ℕ) → register_of a ≡ r → AreRows a.closed (view_payments a.payments.items) a.bonds.items → CanPay n r.debts → Pays a.bonds.items n
 found a r n view each can =

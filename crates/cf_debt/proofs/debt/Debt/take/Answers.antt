@@ -1,14 +1,14 @@
 use Rattle.std.proofs.Common.{◌<◌, ◌+◌, ◌-◌, ◌*◌, ◌≤◌, map, ap, arith, sym, subst, ◌≡◌, ◌∙◌}
 use Rattle.cf_debt.specs.Register.{Register}
 use Rattle.cf_debt.specs.Rows.{view_leave}
-use Rattle.cf_model.specs.Leave.{leave_of}
+use Rattle.cf_model.specs.Common.{leave_of}
 use Rattle.cf_register_parts.proofs.Lists.{map-push}
 use Rattle.cf_register_parts.specs.declared.pairs.NumberPair.{NumberPair}
 use Rattle.cf_register_parts.specs.Pairs.{PutsValue, amount_at}
 use Rattle.cf_register_parts.proofs.PairFacts.{puts_amount}
 use Rattle.cf_debt.proofs.Leaving.{left_kept, left_is, put_small, taken_left, taken_row, years_taken}
 use Rattle.cf_debt.proofs.debt.Debt.take.Goals as goal
-use Rattle.cf_base.specs.Limits.{most_entries, most_cents}
+use Rattle.cf_base.specs.Common.{most_entries, most_cents}
 
 pub invariant_of-self : goal.invariant_of-self
 invariant_of-self c =

@@ -1,9 +1,6 @@
-use Rattle.std.proofs.Common.{◌≡◌, ◌≤◌, ◌∷◌, ◌++◌, [], List, IfSome, Some, length, map, sym, ap, subst, ◌∙◌, arith}
-use Rattle.std.specs.List.{Contains}
+use Rattle.std.proofs.Common.{◌≡◌, ◌≤◌, ◌∷◌, ◌++◌, [], List, IfSome, Some, length, map, sym, ap, subst, ◌∙◌, arith, Contains}
 use Rattle.cf_journal_book.specs.Books.{RecoversNear}
-use Rattle.cf_calls.specs.declared.call.Call.{Call}
-use Rattle.cf_calls.specs.declared.entry.Entry.{Entry}
-use Rattle.cf_model.specs.State.{OfficeState, IsSoundState}
+use Rattle.cf_model.specs.Common.{Call, Entry, OfficeState, IsSoundState}
 use Rattle.cf_hall_names.specs.Closing.{RoseBy, failed_calls, faults_in, receipts_of}
 use Rattle.cf_hall_names.specs.Lists.{calls_in, entries_of}
 use Rattle.cf_hall_names.proofs.Entries.{entries_length}

@@ -1,11 +1,10 @@
 use Rattle.std.proofs.Common.{◌≡◌, ℕ, ◌+◌, ◌≤◌, ◌∷◌, ◌++◌, [], List, Option, None, length, sym, ap, subst, ◌∙◌, IfSome, arith}
-use Rattle.std.proofs.lemmas.List.{append-nil}
+use Rattle.cf_base.proofs.Common.{append-nil}
 use Rattle.cf_budget.specs.declared.changes.LineChange.{LineChange}
 use Rattle.cf_budget.specs.Tables.{Tables, has_stripe}
-use Rattle.cf_calls.specs.declared.call.Call.{Call}
-use Rattle.cf_calls.specs.declared.entry.Entry.{Entry}
+use Rattle.cf_model.specs.Common.{Call, Entry}
 use Rattle.cf_calls.specs.declared.reply.Posted.TheVariants as posted
-use Rattle.cf_chart.specs.Plan.{Plan}
+use Rattle.cf_chart.specs.Common.{Plan}
 use Rattle.cf_journal_book.specs.DurableState.{state_of}
 use Rattle.cf_hall_names.specs.Closing.{RoseBy}
 use Rattle.cf_hall_names.specs.Lists.{calls_in, entries_of}

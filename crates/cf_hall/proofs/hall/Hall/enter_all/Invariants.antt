@@ -1,5 +1,4 @@
-use Rattle.std.proofs.Common.{◌≡◌, ◌+◌, length, All}
-use Rattle.std.specs.Vec.{vec_capacity}
+use Rattle.std.proofs.Common.{◌≡◌, ◌+◌, length, All, vec_capacity}
 use Rattle.cf_hall_names.specs.Closing.{IsFreshPass}
 use Rattle.cf_hall.proofs.hall.Hall.enter_all.Given as goal
 

@@ -1,7 +1,7 @@
 use Rattle.std.proofs.Common.{◌≡◌, List, [], length, sym, ap, subst, ◌∙◌, inl, arith}
 use Rattle.cf_journal_book.specs.DurableState.{DurableBook}
-use Rattle.cf_calls.specs.declared.entry.Entry.{Entry}
-use Rattle.cf_chart.specs.Plan.{Plan}
+use Rattle.cf_model.specs.Common.{Entry}
+use Rattle.cf_chart.specs.Common.{Plan}
 use Rattle.cf_hall_names.specs.Lists.{calls_in, entries_of}
 use Rattle.cf_hall_names.specs.Shares.{TotalsState}
 use Rattle.cf_hall_names.proofs.Entries.{entries_length}

@@ -1,6 +1,6 @@
 use Rattle.std.proofs.Common.{◌≡◌, ℕ, ◌∙◌, arith}
 use Rattle.cf_budget.specs.Tables.{has_stripe}
-use Rattle.cf_model.specs.Stripes.{call_touches}
+use Rattle.cf_model.specs.Common.{call_touches}
 use Rattle.cf_hall_names.proofs.Eight.{eight}
 use Rattle.cf_hall.proofs.places.Places.take.Goals as goal
 

@@ -1,11 +1,9 @@
 use Rattle.std.proofs.Common.{◌≡◌, ℕ, ◌<◌, ◌∷◌, ◌++◌, [], if◌then◌else◌, List, Option, None, sym, ap, subst, ◌∙◌, arith}
 use Rattle.cf_budget.specs.declared.changes.LineChange.{LineChange}
 use Rattle.cf_budget.specs.Tables.{has_line}
-use Rattle.cf_chart.specs.Plan.{Plan}
-use Rattle.cf_model.specs.Step.{Adds, IsLegal}
-use Rattle.cf_model.specs.Stripes.{touches}
-use Rattle.cf_model.proofs.Accepted.{accepted_fits}
-use Rattle.cf_model.proofs.Legal.{legal_push}
+use Rattle.cf_chart.specs.Common.{Plan}
+use Rattle.cf_model.specs.Common.{Adds, IsLegal, touches}
+use Rattle.cf_model.proofs.Common.{accepted_fits, legal_push}
 use Rattle.cf_hall_names.specs.Following.{AreCounts}
 use Rattle.cf_hall_names.specs.Lists.{entries_of, total_at}
 use Rattle.cf_hall_names.proofs.Entries.{entries_length, entries_push}

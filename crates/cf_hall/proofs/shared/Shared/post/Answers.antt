@@ -1,6 +1,6 @@
 use Rattle.std.proofs.Common.{◌%◌, ap, ◌∙◌, arith}
-use Rattle.cf_chart.specs.Plan.{Plan}
-use Rattle.cf_model.specs.Stripes.{call_touches}
+use Rattle.cf_chart.specs.Common.{Plan}
+use Rattle.cf_model.specs.Common.{call_touches}
 use Rattle.cf_hall.proofs.shared.Shared.post.Goals as goal
 
 pub settle-answer-requires-clause-lent : goal.settle-answer-requires-clause-lent

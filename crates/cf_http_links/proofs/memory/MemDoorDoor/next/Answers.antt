@@ -1,5 +1,5 @@
 use Rattle.std.proofs.Common.{arith, ap, map, refl}
-use Rattle.std.proofs.lemmas.Bool.{le-leb}
+use Rattle.cf_base.proofs.Common.{le-leb}
 use Rattle.cf_http.specs.Doors.{gave, none, failed}
 use Rattle.cf_http_links.specs.Memory.{read_by}
 use Rattle.cf_http_links.proofs.memory.MemDoorDoor.next.Goals as goal

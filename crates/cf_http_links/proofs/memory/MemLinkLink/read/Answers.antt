@@ -1,8 +1,5 @@
 use Rattle.std.proofs.Common.{◌≡◌, [], ◌∷◌, ◌++◌, ◌+◌, ◌-◌, ◌≤◌, ℕ, List, Some, map, refl, take, drop, length, arith, sym, ◌∙◌, ap, subst, length-drop, length-take}
-use Rattle.std.proofs.lemmas.Grind.{common_steps}
-use Rattle.std.proofs.lemmas.List.{take-append-drop, take-take, drop-take, length-take-le, take_all}
-use Rattle.std.proofs.Math.Seq.{take-append_seam}
-use Rattle.std.proofs.lemmas.List.Elements.{All-cons, All-nil}
+use Rattle.cf_base.proofs.Common.{common_steps, take-append-drop, take-take, drop-take, length-take-le, take_all, take-append_seam, All-cons, All-nil}
 use Rattle.cf_http.specs.Links.{LinkRead, read_at}
 use Rattle.cf_http_links.specs.Memory.{read_by, received_of, sent_of}
 use Rattle.cf_http_links.specs.declared.memory.Passed.{Passed}

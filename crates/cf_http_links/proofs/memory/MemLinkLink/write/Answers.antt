@@ -1,5 +1,5 @@
 use Rattle.std.proofs.Common.{◌∙◌, arith, List, ℕ, Option, Some, map, ap, refl}
-use Rattle.std.proofs.lemmas.Grind.{common_steps}
+use Rattle.cf_base.proofs.Common.{common_steps}
 use Rattle.cf_http.specs.Links.{LinkRead}
 use Rattle.cf_http_links.specs.Memory.{read_by, received_of}
 use Rattle.cf_http_links.proofs.ReadLaws.{reads_kept}

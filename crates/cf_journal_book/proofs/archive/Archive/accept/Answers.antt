@@ -1,12 +1,7 @@
 use Rattle.std.proofs.Common.{◌≡◌, ◌++◌, ◌∷◌, [], ◌∙◌, ap, arith, inl, refl, sym, subst, length, List, Option, IfSome}
 use Rattle.cf_calls.specs.declared.call.Call.TheVariants as call
-use Rattle.cf_calls.specs.declared.entry.Entry.{Entry}
-use Rattle.cf_calls.specs.declared.reply.Verdict.TheVariants.{Accept}
-use Rattle.cf_model.specs.Registers.{registers_of}
-use Rattle.cf_model.specs.Results.{made_of}
-use Rattle.cf_model.specs.Step.{verdict_of}
-use Rattle.cf_model.proofs.Accepted.{accepted_fits}
-use Rattle.cf_model.proofs.Stripped.{adds_accepted}
+use Rattle.cf_model.specs.Common.{Entry, Accept, registers_of, made_of, verdict_of}
+use Rattle.cf_model.proofs.Common.{accepted_fits, adds_accepted}
 use Rattle.cf_journal_book.specs.Books.{IsDoubtAfter}
 use Rattle.cf_journal_book.specs.Settling.{entry_by}
 use Rattle.cf_journal_book.specs.Snapshots.{doubt_of}

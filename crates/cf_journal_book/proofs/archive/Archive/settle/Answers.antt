@@ -1,5 +1,5 @@
 use Rattle.std.proofs.Common.{inl, sym, subst}
-use Rattle.cf_calls.specs.declared.call.Call.{Call}
+use Rattle.cf_model.specs.Common.{Call}
 use Rattle.cf_calls.specs.declared.call.Call.TheVariants as calls
 use Rattle.cf_office_history.specs.HistoryState.{HistoryState}
 use Rattle.cf_office_looks.specs.Posts.{Posts}

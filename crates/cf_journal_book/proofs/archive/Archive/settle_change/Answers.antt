@@ -1,9 +1,6 @@
 use Rattle.std.proofs.Common.{◌≡◌, inl, length, Some, subst}
-use Rattle.cf_calls.specs.declared.reply.Body.TheVariants.{Done, Refused}
+use Rattle.cf_model.specs.Common.{Done, Refused, Repeat, Refuse, made_at, verdict_of}
 use Rattle.cf_calls.specs.declared.reply.Posted.TheVariants as posted
-use Rattle.cf_calls.specs.declared.reply.Verdict.TheVariants.{Repeat, Refuse}
-use Rattle.cf_model.specs.Results.{made_at}
-use Rattle.cf_model.specs.Step.{verdict_of}
 use Rattle.cf_office_history.specs.HistoryState.{HistoryState}
 use Rattle.cf_journal_book.specs.Snapshots.{doubt_of}
 use Rattle.cf_journal_book.proofs.Recovering.{still_near}

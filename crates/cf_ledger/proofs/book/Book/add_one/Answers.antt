@@ -1,7 +1,5 @@
-use Rattle.std.proofs.Common.{rules, to_z, of_z, ◌≡◌, ◌<◌, ◌^◌, ◌++◌, ◌∷◌, [], true, ℕ, length, List, ℤ, sym, ap, subst, ◌∙◌}
-use Rattle.std.proofs.lemmas.Int.{to_z-of_z}
-use Rattle.std.proofs.lemmas.List.Elements.{All-push}
-use Rattle.std.specs.List.{All}
+use Rattle.std.proofs.Common.{rules, to_z, of_z, ◌≡◌, ◌<◌, ◌^◌, ◌++◌, ◌∷◌, [], true, ℕ, length, List, ℤ, sym, ap, subst, ◌∙◌, All}
+use Rattle.cf_base.proofs.Common.{to_z-of_z, All-push}
 use mir.Val.{SFits}
 use mir.Syntax.{w128}
 use Rattle.cf_ledger.specs.declared.places.Place.{Place}

@@ -1,6 +1,5 @@
-use Rattle.std.proofs.Common.{◌<◌, ◌^◌, ℕ, List, ℤ, pos, [], length, ap, sym, subst, refl, ◌∙◌, lit<}
-use Rattle.std.proofs.lemmas.List.{length-replicate}
-use Rattle.std.specs.List.{All}
+use Rattle.std.proofs.Common.{◌<◌, ◌^◌, ℕ, List, ℤ, pos, [], length, ap, sym, subst, refl, ◌∙◌, lit<, All}
+use Rattle.cf_base.proofs.Common.{length-replicate}
 use Rattle.cf_ledger.specs.declared.post.Post.{Post}
 use Rattle.cf_ledger.specs.Places.{Rows, AreCounted, cells_at}
 use Rattle.cf_ledger.specs.Posts.{sizes, is_of, is_in_total, IsInYears}

@@ -1,5 +1,5 @@
 use Rattle.std.proofs.Common.{rules, ◌∙◌, ap}
-use Rattle.std.proofs.lemmas.Int.{to_z-of_z}
+use Rattle.cf_base.proofs.Common.{to_z-of_z}
 use mir.Val.{SFits}
 use mir.Syntax.{w128}
 use Rattle.cf_ledger.specs.Books.{Posted}

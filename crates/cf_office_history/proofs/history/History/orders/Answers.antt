@@ -1,6 +1,6 @@
 use Rattle.std.proofs.Common.{◌∙◌, ap}
-use Rattle.cf_model.specs.Registers.{Registers}
-use Rattle.cf_model.proofs.Pushes.{documents_are}
+use Rattle.cf_model.specs.Common.{Registers}
+use Rattle.cf_model.proofs.Common.{documents_are}
 use Rattle.cf_office_history.proofs.history.History.orders.Goals as goal
 
 pub returns : goal.returns

@@ -1,5 +1,5 @@
 use Rattle.std.proofs.Common.{◌∙◌, ap}
-use Rattle.cf_model.specs.Registers.{Registers}
+use Rattle.cf_model.specs.Common.{Registers}
 use Rattle.cf_office_history.proofs.history.History.revenue.Goals as goal
 
 pub returns : goal.returns

@@ -1,22 +1,16 @@
-use Rattle.std.proofs.Common.{arith, length-append, ◌∷◌, [], ◌++◌, ◌≡◌, ◌+◌, ◌<◌, ◌≤◌, ◌==◌, ◌&&◌, ◌∙◌, if◌then◌else◌, length, suc, sym, subst, List, ℕ, ap, Option, Some, IfSome}
-use Rattle.std.specs.Prelude.{unwrap_or}
-use Rattle.std.specs.Str.{bytes_eq}
-use Rattle.cf_calls.specs.declared.entry.Entry.{Entry}
-use Rattle.cf_calls.specs.declared.read.Basis.TheVariants.{Fund, Gov}
+use Rattle.std.proofs.Common.{arith, length-append, ◌∷◌, [], ◌++◌, ◌≡◌, ◌+◌, ◌<◌, ◌≤◌, ◌==◌, ◌&&◌, ◌∙◌, if◌then◌else◌, length, suc, sym, subst, List, ℕ, ap, Option, Some, IfSome, unwrap_or, bytes_eq}
+use Rattle.cf_model.specs.Common.{Entry, Gov, open_year_after, Adds}
+use Rattle.cf_calls.specs.declared.read.Basis.TheVariants.{Fund}
 use Rattle.cf_office_history.proofs.Added.{ready_is, ready_added, ready_years, ready_fits}
-use Rattle.cf_calls.specs.Acts.{adopts}
+use Rattle.cf_calls.specs.Common.{adopts}
 use Rattle.cf_register_parts.specs.Pairs.{value_of}
-use Rattle.cf_model.proofs.Accepted.{accepted_fits}
-use Rattle.cf_model.proofs.Legal.{legal_push}
-use Rattle.cf_model.proofs.OpenYears.{open_year_push, years_are}
-use Rattle.cf_model.specs.Calendar.{open_year_after}
-use Rattle.cf_model.specs.Step.{Adds}
+use Rattle.cf_model.proofs.Common.{accepted_fits, legal_push, open_year_push, years_are}
 use Rattle.cf_office_history.specs.Keys.{key_number}
 use Rattle.cf_office_history.specs.RestView.{IsReady}
 use Rattle.cf_office_history.proofs.LookedUp.{known_put, adopted_put}
 use Rattle.cf_registers.proofs.Taken.{can_take_in, made_in, taken_in}
 use Rattle.cf_office_history.proofs.rest.Rest.apply.Goals as goal
-use Rattle.cf_base.specs.Limits.{most_entries}
+use Rattle.cf_base.specs.Common.{most_entries}
 
 pub invariant_of-self-2 : goal.invariant_of-self-2
 invariant_of-self-2 c =

@@ -1,7 +1,6 @@
 use Rattle.std.proofs.Common.{◌≡◌, ◌∙◌, Some, sym, ap}
-use Rattle.cf_chart.specs.Plan.{source_at}
-use Rattle.cf_model.specs.Estimates.{estimate}
-use Rattle.cf_model.specs.Rules.{adopted_at}
+use Rattle.cf_chart.specs.Common.{source_at}
+use Rattle.cf_model.specs.Common.{estimate, adopted_at}
 use Rattle.cf_office_history.specs.Estimates.{estimated_at}
 use Rattle.cf_office_history.specs.RestState.{RestState}
 use Rattle.cf_office_history.proofs.Estimated.{estimate_is, no_estimate}

@@ -1,11 +1,9 @@
 use Rattle.std.proofs.Common.{◌≡◌, ◌+◌, nat_lt, sym, ap, ◌∙◌}
-use Rattle.cf_base.specs.declared.calendar.Month.{Month}
-use Rattle.cf_base.specs.Calendar.{month_of_day}
-use Rattle.cf_calls.specs.Form.{month_number}
-use Rattle.cf_model.specs.Months.{start_month}
-use Rattle.cf_model.specs.Registers.{Registers, registers_of}
-use Rattle.cf_model.proofs.LegalMonths.{closed_are}
-use Rattle.cf_base.proofs.DayNumbers.{parts}
+use Rattle.cf_model.specs.Common.{Month, start_month, Registers, registers_of}
+use Rattle.cf_base.specs.Common.{month_of_day}
+use Rattle.cf_calls.specs.Common.{month_number}
+use Rattle.cf_model.proofs.Common.{closed_are}
+use Rattle.cf_base.proofs.Common.{parts}
 use Rattle.cf_office_history.proofs.rest.Rest.is_closed.Goals as goal
 
 pub returns : goal.returns

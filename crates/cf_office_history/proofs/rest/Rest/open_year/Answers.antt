@@ -1,5 +1,5 @@
 use Rattle.std.proofs.Common.{◌≤◌, sym, subst}
-use Rattle.cf_model.proofs.OpenYears.{years_are}
+use Rattle.cf_model.proofs.Common.{years_are}
 use Rattle.cf_office_history.proofs.rest.Rest.open_year.Goals as goal
 
 pub returns-clause-value : goal.returns-clause-value

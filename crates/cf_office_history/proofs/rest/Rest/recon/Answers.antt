@@ -1,6 +1,6 @@
 use Rattle.std.proofs.Common.{◌∙◌, ap}
 use Rattle.cf_ledger.specs.Posts.{total}
-use Rattle.cf_model.specs.ReconShown.{recon_between, recon_shown}
+use Rattle.cf_model.specs.Common.{recon_between, recon_shown}
 use Rattle.cf_office_history.specs.RestState.{RestState}
 use Rattle.cf_office_history.proofs.ReconSound.{sound_assets}
 use Rattle.cf_office_history.proofs.rest.Rest.recon.Goals as goal

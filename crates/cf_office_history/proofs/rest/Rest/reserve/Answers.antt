@@ -1,12 +1,9 @@
-use Rattle.std.proofs.Common.{◌∙◌, ◌≡◌, ap, subst, sym}
-use Rattle.std.specs.List.{All}
-use Rattle.cf_model.specs.Deeds.{deeds_of}
-use Rattle.cf_model.specs.Registers.{Registers}
-use Rattle.cf_model.proofs.Postable.{postable}
+use Rattle.std.proofs.Common.{◌∙◌, ◌≡◌, ap, subst, sym, All}
+use Rattle.cf_model.specs.Common.{deeds_of, Registers, Adds}
+use Rattle.cf_model.proofs.Common.{postable}
 use Rattle.cf_registers.specs.Numbered.{AreNumbered}
 use Rattle.cf_registers.proofs.Taken.{numbered}
 use Rattle.cf_post.specs.Sizes.{IsPostable}
-use Rattle.cf_model.specs.Step.{Adds}
 use Rattle.cf_office_history.specs.Keys.{place_of}
 use Rattle.cf_office_history.proofs.rest.Rest.reserve.Goals as goal
 

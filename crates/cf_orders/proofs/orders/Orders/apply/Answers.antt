@@ -1,5 +1,5 @@
 use Rattle.std.proofs.Common.{sym, ap, ◌∙◌}
-use Rattle.cf_model.specs.Documents.{Documents, documents_step}
+use Rattle.cf_model.specs.Common.{Documents, documents_step}
 use Rattle.cf_orders.proofs.orders.Orders.apply.Goals as goal
 
 pub returns-in-Some-clause-documents : goal.returns-in-Some-clause-documents

@@ -1,6 +1,6 @@
 use Rattle.std.proofs.Common.{◌≡◌, ℕ, ◌+◌, ◌<◌, List, length, take, get_or, subst, sym, ap, ◌∙◌, arith}
-use Rattle.std.proofs.lemmas.List.{get_or-replicate, length-replicate, take_all}
-use Rattle.cf_model.specs.Moves.{carried_to}
+use Rattle.cf_base.proofs.Common.{get_or-replicate, length-replicate, take_all}
+use Rattle.cf_model.specs.Common.{carried_to}
 use Rattle.cf_orders.specs.declared.rows.ItemRow.{ItemRow}
 use Rattle.cf_orders.specs.Carrying.{AreCarried, adds_to}
 use Rattle.cf_orders.specs.Register.{Register}

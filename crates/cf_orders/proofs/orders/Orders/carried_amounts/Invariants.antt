@@ -1,5 +1,5 @@
 use Rattle.std.proofs.Common.{◌≡◌, ℕ, ◌*◌, ◌<◌, ◌≤◌, length, take, get_or}
-use Rattle.cf_model.specs.Moves.{carried_to}
+use Rattle.cf_model.specs.Common.{carried_to}
 use Rattle.cf_orders.specs.Rows.{view_items}
 use Rattle.cf_orders.proofs.orders.Orders.carried_amounts.Given as goal
 

@@ -1,5 +1,5 @@
 use Rattle.std.proofs.Common.{◌++◌, ap, sym, ◌∙◌}
-use Rattle.std.proofs.lemmas.Result.{on_ok_weaker}
+use Rattle.cf_base.proofs.Common.{on_ok_weaker}
 use Rattle.cf_journal_book.specs.Watching.{all_posted, shown_as}
 use Rattle.cf_pool_cash.specs.Moves.{day_moves}
 use Rattle.cf_pool_cash.proofs.Seen.{moves_push}

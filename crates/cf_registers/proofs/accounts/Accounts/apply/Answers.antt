@@ -1,4 +1,5 @@
-use Rattle.cf_calls.specs.declared.read.Basis.TheVariants.{Fund, Gov}
+use Rattle.cf_model.specs.Common.{Gov}
+use Rattle.cf_calls.specs.declared.read.Basis.TheVariants.{Fund}
 use Rattle.cf_registers.proofs.Reserved.{kept}
 use Rattle.cf_registers.proofs.accounts.Accounts.apply.Goals as goal
 

@@ -1,8 +1,8 @@
 use Rattle.std.proofs.Common.{◌∙◌, sym, ap, subst}
-use Rattle.std.specs.List.{AllByRecursion}
+use Rattle.cf_base.proofs.Common.{AllByRecursion}
 use Rattle.cf_ledger.specs.Posts.{total}
-use Rattle.cf_model.proofs.Depreciated.{IsSoundAsset}
-use Rattle.cf_model.specs.ReconShown.{recon_between}
+use Rattle.cf_model.proofs.Common.{IsSoundAsset}
+use Rattle.cf_model.specs.Common.{recon_between}
 use Rattle.cf_registers.specs.AccountsState.{AccountsState}
 use Rattle.cf_registers.proofs.accounts.Accounts.recon.Goals as goal
 

@@ -1,5 +1,6 @@
 use Rattle.std.proofs.Common.{◌∙◌}
-use Rattle.cf_calls.specs.declared.read.Basis.TheVariants.{Fund, Gov}
+use Rattle.cf_model.specs.Common.{Gov}
+use Rattle.cf_calls.specs.declared.read.Basis.TheVariants.{Fund}
 use Rattle.cf_ledger.specs.Books.{AreReserved}
 use Rattle.cf_registers.proofs.Reserved.{kept}
 use Rattle.cf_registers.proofs.accounts.Accounts.reserve.Goals as goal

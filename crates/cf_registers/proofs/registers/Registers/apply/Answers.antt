@@ -1,12 +1,6 @@
 use Rattle.std.proofs.Common.{◌≡◌, ◌≤◌, ◌+◌, ◌++◌, None, map, refl, sym, ap, subst, ◌∙◌}
 use Rattle.cf_debt.specs.Register.{Debts}
-use Rattle.cf_model.specs.Bonds.{bond_step, bonds_by}
-use Rattle.cf_model.specs.Documents.{Documents, draws_voucher}
-use Rattle.cf_model.specs.Leave.{leave_by}
-use Rattle.cf_model.specs.Months.{number_of_day}
-use Rattle.cf_model.specs.RegisterRules.{asset_refusal}
-use Rattle.cf_model.specs.Registers.{Registers, closed_after, registers_step}
-use Rattle.cf_model.specs.Results.{draws}
+use Rattle.cf_model.specs.Common.{bond_step, bonds_by, Documents, draws_voucher, leave_by, number_of_day, asset_refusal, Registers, closed_after, registers_step, draws}
 use Rattle.cf_revenue.proofs.Levied.{levied_by_rule}
 use Rattle.cf_registers.specs.RegistersView.{registers_state}
 use Rattle.cf_registers.proofs.Taken.{asset_same, early_issue, next_assets, next_bills, next_bonds, next_documents}

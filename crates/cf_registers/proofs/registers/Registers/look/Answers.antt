@@ -1,11 +1,9 @@
 use Rattle.std.proofs.Common.{◌≡◌, ◌⊎◌, ℕ, Some, refl, arith}
-use Rattle.cf_calls.specs.declared.read.Read.{Read}
+use Rattle.cf_model.specs.Common.{Read, bond_shown, leave_shown, Registers}
 use Rattle.cf_calls.specs.declared.read.Read.TheVariants.{Bond, Leave}
-use Rattle.cf_chart.specs.Plan.{Plan}
+use Rattle.cf_chart.specs.Common.{Plan}
 use Rattle.cf_debt.specs.DebtNow.{debt_shown}
 use Rattle.cf_debt.specs.Register.{Debts}
-use Rattle.cf_model.specs.DebtShown.{bond_shown, leave_shown}
-use Rattle.cf_model.specs.Registers.{Registers}
 use Rattle.cf_registers.specs.RegistersState.{register_shown}
 use Rattle.cf_registers.specs.RegistersView.{registers_state}
 use Rattle.cf_registers.proofs.registers.Registers.look.Goals as goal

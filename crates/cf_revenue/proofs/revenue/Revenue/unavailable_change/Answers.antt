@@ -1,8 +1,8 @@
 use Rattle.std.proofs.Common.{◌+◌, ◌-ℤ◌, pos, ◌∙◌, rules, ap}
-use Rattle.std.proofs.lemmas.Int.{to_z-of_z}
+use Rattle.cf_base.proofs.Common.{to_z-of_z}
 use mir.Val.{SFits}
 use mir.Syntax.{w128}
-use Rattle.cf_model.specs.Changes.{deferred_in}
+use Rattle.cf_model.specs.Common.{deferred_in}
 use Rattle.cf_revenue.specs.Register.{Register}
 use Rattle.cf_revenue.specs.RegisterView.{register_of}
 use Rattle.cf_revenue.proofs.YearChanges.{change_in}
