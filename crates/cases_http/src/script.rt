@@ -1,20 +1,28 @@
 //! The lines of a script. In a text `\r` and `\n` stand for the bytes 13 and 10, and a backslash
 //! before another byte for that byte.
 //!
-//! | Line | What it does |
-//! |---|---|
-//! | `# ..` | prints the line |
-//! | `> TEXT` | adds the text to the link's bytes |
-//! | `repeat N TEXT` | adds it so many times |
-//! | `answer WORD` | how calls in form are answered from here on: `accepted`, `refused`, `disk`, `memory` |
-//! | `fail N`, `limit N` | the next link's read N, from 0, fails; it takes N bytes |
-//! | `play`, `play N ..`, `play each` | serves the link in one piece, and again in pieces of N bytes, and as N bytes and then all the rest; with `each` so for every number of bytes up to its length; prints what it was answered, and where that differs by the pieces |
-//! | `reads N ..` | serves the link in pieces of N bytes; prints how many bytes had come, and how many were sent, before each read |
-//! | `count` | serves the link, each request by one fixed answer, and prints how it ended and how many bytes it took |
-//! | `link N` | lets the link be the next one of the door, in pieces of N bytes |
-//! | `peers LINKS` | serves so many links of a door over the loopback device, at which a peer for each `link` stands; one without bytes says nothing; prints the address at which the door asks to listen |
-//! | `ports FIRST DOORS` | serves the doors that `serve` has at so many ports, over a network that opens none |
-//! | `door LINKS N` | serves so many links of the door, whose call N of `next` fails, from 1 |
+//! What each line does:
+//!
+//! - `# ..`: prints the line
+//! - `> TEXT`: adds the text to the link's bytes
+//! - `repeat N TEXT`: adds it so many times
+//! - `answer WORD`: how calls in form are answered from here on: `accepted`, `refused`, `disk`,
+//!   `memory`
+//! - `fail N`, `limit N`: the next link's read N, from 0, fails; it takes N bytes
+//! - `play`, `play N ..`, `play each`: serves the link in one piece, and again in pieces of N
+//!   bytes, and as N bytes and then all the rest; with `each` so for every number of bytes up to
+//!   its length; prints what it was answered, and where that differs by the pieces
+//! - `reads N ..`: serves the link in pieces of N bytes; prints how many bytes had come, and how
+//!   many were sent, before each read
+//! - `count`: serves the link, each request by one fixed answer, and prints how it ended and how
+//!   many bytes it took
+//! - `link N`: lets the link be the next one of the door, in pieces of N bytes
+//! - `peers LINKS`: serves so many links of a door over the loopback device, at which a peer for
+//!   each `link` stands; one without bytes says nothing; prints the address at which the door asks
+//!   to listen
+//! - `ports FIRST DOORS`: serves the doors that `serve` has at so many ports, over a network that
+//!   opens none
+//! - `door LINKS N`: serves so many links of the door, whose call N of `next` fails, from 1
 
 use crate::clerk::Verdict;
 use crate::peers::{see_peers, see_ports};
