@@ -26,7 +26,7 @@ MADE = "docs/CLAUSES.md"
 # The crates whose files with a match on acts are a call's own: what it is, and what reads and writes it.
 OWN = ("cf_calls", "cf_codec", "cf_json", "cf_json_calls")
 # The lines of more than 100 columns that the crates have: printed texts, and tables in comments.
-WIDE = 34
+WIDE = 32
 
 
 @functools.cache

@@ -25,24 +25,34 @@ abbrev pub balance_text : Bool → Plan → Basis → ℕ → ℕ → ℤ → Li
 balance_text csv plan basis fund account balance = if unsigned_abs balance == 0 then []
     else record_text csv (balance_row plan basis fund account balance)
 
-abbrev pub account_text : Bool → Plan → List Entry → Basis → ℕ → ℕ → ℕ → List ℕ
-account_text csv plan history basis year fund account =
-    balance_text csv plan basis fund account (balance_of basis plan year fund account history)
+-- what an account comes to, by basis, fiscal year, fund and account
+abbrev pub OfAccounts : Type 0
+OfAccounts = Basis → ℕ → ℕ → ℕ → ℤ
 
-abbrev pub accounts_text : Bool → Plan → List Entry → Basis → ℕ → ℕ → List ℕ → List ℕ
-accounts_text csv plan history basis year fund accounts =
-    flat_map (account_text csv plan history basis year fund) accounts
+abbrev pub account_text : Bool → Plan → OfAccounts → Basis → ℕ → ℕ → ℕ → List ℕ
+account_text csv plan balances basis year fund account =
+    balance_text csv plan basis fund account (balances basis year fund account)
+
+abbrev pub accounts_text : Bool → Plan → OfAccounts → Basis → ℕ → ℕ → List ℕ → List ℕ
+accounts_text csv plan balances basis year fund accounts =
+    flat_map (account_text csv plan balances basis year fund) accounts
 
 -- the accounts of a fund, and those of the city as a whole, which is of no fund
-abbrev pub fund_text : Bool → Plan → List Entry → ℕ → ℕ → List ℕ
-fund_text csv plan history year fund =
-    accounts_text csv plan history FundBasis year fund (fund_accounts plan fund)
+abbrev pub fund_text : Bool → Plan → OfAccounts → ℕ → ℕ → List ℕ
+fund_text csv plan balances year fund =
+    accounts_text csv plan balances FundBasis year fund (fund_accounts plan fund)
 
-abbrev pub funds_text : Bool → Plan → List Entry → ℕ → List Fund → List ℕ
-funds_text csv plan history year funds = flat_map (λ f. fund_text csv plan history year f.id) funds
+abbrev pub funds_text : Bool → Plan → OfAccounts → ℕ → List Fund → List ℕ
+funds_text csv plan balances year funds =
+    flat_map (λ f. fund_text csv plan balances year f.id) funds
+
+abbrev pub trial_balance : Bool → ℕ → Plan → OfAccounts → List ℕ
+trial_balance csv year plan balances =
+    head_text csv head ++
+    (funds_text csv plan balances year plan.funds
+    ++ accounts_text csv plan balances GovBasis year 0 (gov_accounts plan))
 
 abbrev pub balances_of : Bool → ℕ → Plan → List Entry → List ℕ
 balances_of csv year plan history =
-    head_text csv head ++
-    (funds_text csv plan history year plan.funds
-    ++ accounts_text csv plan history GovBasis year 0 (gov_accounts plan))
+    trial_balance csv year plan
+    (λ basis through fund account. balance_of basis plan through fund account history)

@@ -15,7 +15,9 @@ mod statement;
 mod texts;
 
 pub use accounts::{fund_accounts, gov_accounts};
-pub use balances::{balances_text, put_balance_head, put_balance_unless_zero};
+pub use balances::{
+    AccountBalances, balances_text, put_balance_head, put_balance_unless_zero, trial_balance_text,
+};
 pub use lines::{later_of, part_and_years, part_name};
 pub use names::{basis_word, department_name, fund_name, source_name};
 pub use open::open_text;

@@ -154,7 +154,8 @@ fn moneys_of(alloc: Global, amounts: &Amounts) -> Result<Moneys, AllocError>
     ensures left { IfOk result (λ m. string_bytes m.left ≡ money_of amounts.now.left) }
     ensures percent { IfOk result
         (λ m. string_bytes m.percent ≡ spec.percent_text amounts.now.budget amounts.now.left) }
-    ensures month_ago { IfOk result (λ m. string_bytes m.month_ago ≡ money_of amounts.now.month_ago) }
+    ensures month_ago { IfOk result (λ m. string_bytes m.month_ago
+        ≡ money_of amounts.now.month_ago) }
     ensures year_ago { IfOk result (λ m. string_bytes m.year_ago ≡ money_of amounts.now.year_ago) }
 {
     let budget = money_text(alloc, amounts.budget)?;

@@ -31,7 +31,8 @@ pub struct MonthSums<'a> {
     ghost last_is: { IsThrough rest.now (last_day month) last },
     ghost before_is: { IsThrough rest.now (last_day (month_before month)) before },
     ghost last_ago_is: { IsThrough rest.now (last_day (year_before month)) last_ago },
-    ghost before_ago_is: { IsThrough rest.now (last_day (month_before (year_before month))) before_ago },
+    ghost before_ago_is: { IsThrough rest.now
+        (last_day (month_before (year_before month))) before_ago },
 }
 
 /// The sums that a month is told with, of what was gathered of a history's entries.

@@ -5,5 +5,7 @@ use Rattle.cf_books_lists.proofs.balances.put_funds.Given as goal
 
 -- what was written, and what is still to come
 abbrev pub invariant-loop-fund : goal.invariant-loop-fund
-invariant-loop-fund l =
-    added l.out (funds_text l.out.csv l.rest.plan l.rest.entries l.year (drop l.fund-index l.funds)) ≡ added l.initial.out (funds_text l.initial.out.csv l.rest.plan l.rest.entries l.year l.funds)
+invariant-loop-fund g l =
+    let plan = g.B.AccountBalances.plan l.books in
+    let balances = g.B.AccountBalances.balances l.books in
+    added l.out (funds_text l.out.csv plan balances l.year (drop l.fund-index l.funds)) ≡ added l.initial.out (funds_text l.initial.out.csv plan balances l.year l.funds)

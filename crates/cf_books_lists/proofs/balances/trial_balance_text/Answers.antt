@@ -6,15 +6,16 @@ use Rattle.cf_books_lists.specs.Balances.{accounts_text, funds_text, head}
 use Rattle.cf_books_lists.specs.Records.{head_text}
 use Rattle.cf_books_lists.specs.Rows.{Written, added, none_written}
 use Rattle.cf_books_lists.proofs.Adding.{added_two}
-use Rattle.cf_books_lists.proofs.balances.all_text.Goals as goal
+use Rattle.cf_books_lists.proofs.balances.trial_balance_text.Goals as goal
 
 pub returns : goal.returns
-returns c =
-    let rest = c.args.rest.now in
+returns g c =
+    let plan = g.B.AccountBalances.plan c.args.books.now in
+    let balances = g.B.AccountBalances.balances c.args.books.now in
     let csv = c.args.layout.csv in
     let names : Bool → List ℕ = λ b. head_text b head in
-    let funds : Bool → List ℕ = λ b. funds_text b rest.plan rest.entries c.args.year rest.plan.funds in
-    let city : Bool → List ℕ = λ b. accounts_text b rest.plan rest.entries GovBasis c.args.year 0 (gov_accounts rest.plan) in
+    let funds : Bool → List ℕ = λ b. funds_text b plan balances c.args.year plan.funds in
+    let city : Bool → List ℕ = λ b. accounts_text b plan balances GovBasis c.args.year 0 (gov_accounts plan) in
     let empty = c.new-out.result in
     let named = c.put_balance_head.new.out in
     let funded = c.put_funds.new.out in
