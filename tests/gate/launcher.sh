@@ -59,6 +59,9 @@ both() {
     built cityfund "\$1"
     printf 'rt: ok; handles allowed: none\\n3 passed, 0 failed\\n'
 }
+kept() {
+    both "\$1" | sed 's/^rt: low proved\$/rt: low is kept: an earlier run proved the same/'
+}
 case \$1 in
 version) echo "kit \$(cat "$scratch/kit/line")" ;;
 ci) $1 ;;
@@ -181,6 +184,9 @@ says "a line a crate" "build: low is proved; 1 of 3 crates, 8% of the work, in 0
     sh -c "echo change > '$city/crates/low/src/main.rt'; '$city/build' 2>&1 | sed 's/; some .*//'"
 expect "the new program runs" 0 "new desk" sh -c "'$city/cityfund' desk 2>&1 | head -n 1"
 expect "and that of books" 0 "new list -x" sh -c "'$city/books' list -x 2>&1 | head -n 1"
+rt 'kept new'
+says "a crate that rt kept counts" "build: books is proved; 2 of 3 crates, 50% of the work, in 0 minutes" \
+    sh -c "echo more > '$city/crates/low/src/main.rt'; '$city/build' 2>&1 | sed 's/; some .*//'"
 echo 2 > "$scratch/kit/line"
 rt 'both old'
 expect "a build by another kit" 0 "build: built out/cityfund and out/books in 0 minutes" "$city/build"
